@@ -5,7 +5,7 @@ use Rattle.vx_model.specs.Sites.{is_origin}
 use Rattle.vx_model.specs.declared.site.SiteState.TheVariants.{Up}
 use Rattle.vx_history.proofs.Updates.{at_place, by_test, eqb_equal}
 use Rattle.vx_history.specs.Doubts.{After, Doubted, happened, resolved_at, taken_up}
-use Rattle.vx_history.specs.Events.{crash_at, kept_of, lost_touch}
+use Rattle.vx_history.specs.Events.{crash_at, kept_of, link_left, lost_touch}
 use Rattle.vx_history.specs.Headers.{headers_by}
 use Rattle.vx_history.specs.Gatherings.{emptied}
 use Rattle.vx_history.specs.Refusals.{Outcome}
@@ -17,7 +17,9 @@ use Rattle.vx_history.specs.declared.event.Event.{Event}
 use Rattle.vx_history.specs.declared.event.Event.TheVariants.{Crash}
 use Rattle.vx_events.proofs.Steps.{crash_step}
 use Rattle.vx_events.specs.Effects.{ChangesAt, ChangesNode, EffectAt}
+use Rattle.vx_events.specs.LinksFit.{RowFits}
 use Rattle.vx_effects.proofs.Fitting.{none_more, updated_other}
+use Rattle.vx_effects.proofs.Links.{row_left}
 
 -- ---- changes in a row
 
@@ -141,11 +143,21 @@ effect_plain d e o s {n} {row} {packets} {gathered} is t none =
     subst (λ (many : ℕ). EffectAt s d (record d { world = (step d.world e).world }) n row many (d.after s) packets gathered) (none_more (d.world.headers s) 0 refl)
     (effect_of d e o s 0 is t (none s) (λ i _. none i))
 
+-- the same links, said in other words
+pub effect_row : (s : ℕ) (d e : Doubted) {n : Node} {row : ℕ → Link} {other : ℕ → Link} {headers : ℕ} {after : Option After} {packets : List Packet} {gathered : Option Gathering}
+    → EffectAt s d e n row headers after packets gathered → ((k : ℕ) → row k ≡ other k) → EffectAt s d e n other headers after packets gathered
+effect_row s d e f same = record {
+  site = f.site;
+  is = record { node = f.is.node; links = λ k. f.is.links k ∙ same k; headers = f.is.headers; after = f.is.after };
+  sent = f.sent;
+  gathering = f.gathering;
+}
+
 -- ---- crashes
 
-pub crash_turns : (s : ℕ) (w : World) (k : ℕ) → Turns s w (crash_at w s k) (crashed (w.nodes s) k) (λ to. lost_touch (w.links s to)) w.packets None
+pub crash_turns : (s : ℕ) (w : World) (k : ℕ) → Turns s w (crash_at w s k) (crashed (w.nodes s) k) (λ to. link_left (w.nodes s) k (w.links s to)) w.packets None
 crash_turns s w k =
-    by_test (λ (v : World). Turns s w (emptied (with_links v s (λ to. lost_touch (w.links s to))) s) (crashed (w.nodes s) k) (λ to. lost_touch (w.links s to)) w.packets None)
+    by_test (λ (v : World). Turns s w (emptied (with_links v s (λ to. link_left (w.nodes s) k (w.links s to))) s) (crashed (w.nodes s) k) (λ to. link_left (w.nodes s) k (w.links s to)) w.packets None)
     (is_origin (w.nodes s).role) (crash_left w s k) (with_node w s (crashed (w.nodes s) k))
     (λ _. record { sites = refl; nodes = λ i. refl; links = λ i j. refl; headers = λ i. refl; sent = refl; gathering = λ i. refl })
     (λ _. record { sites = refl; nodes = λ i. refl; links = λ i j. refl; headers = λ i. refl; sent = refl; gathering = λ i. refl })
@@ -204,10 +216,10 @@ module _ (d : Doubted) (s kept : ℕ) (taken : Bool) where
   abbrev r : Doubted
   r = resolved_at d s taken
 
-  pub crash_effect : s < r.world.sites → (r.world.nodes s).state ≡ Up
-      → EffectAt s d (happened d (Crash s kept) taken) (crashed (r.world.nodes s) (kept_of (r.world.nodes s) kept)) (λ k. lost_touch (r.world.links s k)) (d.world.headers s) None
-      d.world.packets None
-  crash_effect below up =
+  pub left_effect : s < r.world.sites → (r.world.nodes s).state ≡ Up
+      → EffectAt s d (happened d (Crash s kept) taken) (crashed (r.world.nodes s) (kept_of (r.world.nodes s) kept))
+      (λ k. link_left (r.world.nodes s) (kept_of (r.world.nodes s) kept) (r.world.links s k)) (d.world.headers s) None d.world.packets None
+  left_effect below up =
       let w : World = r.world in
       let o : Outcome = done (crash_at w s (kept_of (w.nodes s) kept)) in
       let before : ChangesAt s d r = resolved_changes d s taken in
@@ -218,3 +230,10 @@ module _ (d : Doubted) (s kept : ℕ) (taken : Bool) where
         sent = f.sent ∙ before.packets;
         gathering = f.gathering;
       }
+
+  -- where its links fit none keeps a map
+  pub crash_effect : RowFits s r.world.sites (r.world.links s) → s < r.world.sites → (r.world.nodes s).state ≡ Up
+      → EffectAt s d (happened d (Crash s kept) taken) (crashed (r.world.nodes s) (kept_of (r.world.nodes s) kept)) (λ k. lost_touch (r.world.links s k)) (d.world.headers s) None
+      d.world.packets None
+  crash_effect fits below up =
+      effect_row s d (happened d (Crash s kept) taken) (left_effect below up) (λ k. row_left (r.world.nodes s) (kept_of (r.world.nodes s) kept) s r.world.sites (r.world.links s) fits k)

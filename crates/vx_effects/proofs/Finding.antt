@@ -113,21 +113,21 @@ fit_ends p s d middle fails said last (IsStored stored none is leaves) fit = sub
 fit_ends p s d middle fails said last (GivesUp why other none is leaves) fit = subst LinksFit (sym leaves) fit
 fit_ends p s d middle fails said last (IsUnread disk asks here one is leaves) fit = subst LinksFit (sym leaves) fit
 fit_ends p s d middle fails said last (HeaderHalts number disk opens writes here one is leaves) fit =
-    subst LinksFit (sym leaves) (fit_halved middle (DeliverAt number) p disk opens writes fit)
-fit_ends p s d middle fails said last (ApplyHalts disk opens here one is leaves) fit = subst LinksFit (sym leaves) (fit_happened middle (Fault s disk) false fit)
+    subst LinksFit (sym leaves) (fit_halved middle (DeliverAt number) p disk opens writes tt fit)
+fit_ends p s d middle fails said last (ApplyHalts disk opens here one is leaves) fit = subst LinksFit (sym leaves) (fit_happened middle (Fault s disk) false tt fit)
 fit_ends p s d middle fails said last (HeaderCut number kept taken opens writes fused none is leaves) fit =
     subst LinksFit (sym leaves)
-    (fit_crashed_as (halved middle (DeliverAt number) p 0) p kept taken (halved_up middle (DeliverAt number) p 0 opens.0) (fit_halved middle (DeliverAt number) p 0 opens writes fit))
+    (fit_crashed_as (halved middle (DeliverAt number) p 0) p kept taken (halved_up middle (DeliverAt number) p 0 opens.0) (fit_halved middle (DeliverAt number) p 0 opens writes tt fit))
 fit_ends p s d middle fails said last (ApplyCut kept taken opens fused none is leaves) fit =
     subst LinksFit (sym leaves)
-    (fit_crashed_as (halved middle (Fault s 0) s 0) s kept taken (halved_up middle (Fault s 0) s 0 opens.0) (fit_halved middle (Fault s 0) s 0 opens refl fit))
+    (fit_crashed_as (halved middle (Fault s 0) s 0) s kept taken (halved_up middle (Fault s 0) s 0 opens.0) (fit_halved middle (Fault s 0) s 0 opens refl tt fit))
 
 pub fit_finds : (d : Doubted) (line : ScriptLine) (fails : Fails) (said : Said) (last : Doubted) → FindsOther d line fails said last → LinksFit d → LinksFit last
 fit_finds d line fails said last (SendsOther p s more is sends none says leaves) fit =
     let a : ℕ = site_number d.world p in
     let b : ℕ = site_number d.world s in
     subst LinksFit (sym leaves)
-    (fit_like d (step d.world (PumpAt a b)).world (pumped_with d.world a b more) refl (λ i. refl) (λ i k. refl) (λ i. refl) (fit_happened d (PumpAt a b) false fit))
+    (fit_like d (step d.world (PumpAt a b)).world (pumped_with d.world a b more) refl (λ i. refl) (λ i k. refl) (λ i. refl) (fit_happened d (PumpAt a b) false tt fit))
 fit_finds d line fails said last (ReadsNone p s why is other none says leaves) fit = subst LinksFit (sym leaves) fit
 fit_finds d line fails said last (TakesOther number q x is may none says leaves) fit =
     subst LinksFit (sym leaves)

@@ -5,6 +5,8 @@ use Rattle.std.specs.Prelude.{not, ◌&&◌, ◌||◌, eqb, leb, ltb, Option, So
 pub use Rattle.vx_history.proofs.Updates.{updated_other}
 use Rattle.vx_model.specs.Sites.{is_origin, is_up}
 use Rattle.vx_model.specs.declared.limits.TheConstants.{LEAST_BLOCKS, MOST_DISKS, MOST_SITES}
+use Rattle.vx_model.specs.declared.link.Prot.{Prot}
+use Rattle.vx_model.specs.declared.link.Prot.TheVariants.{Fail as FailsWhenFull}
 use Rattle.vx_model.specs.declared.link.SyncMode.{SyncMode}
 use Rattle.vx_model.specs.declared.no.Counted.TheVariants.{Disks, Sites}
 use Rattle.vx_model.specs.declared.no.No.{No}
@@ -26,11 +28,12 @@ use Rattle.vx_history.specs.Step.{done, link_part, outcome_of, step}
 use Rattle.vx_history.specs.Steps.{crash_left, crashed, site_made}
 use Rattle.vx_history.specs.World.{Link as LinkOf, Node, World, bare_site, no_link, updated, with_node}
 use Rattle.vx_history.specs.declared.event.Event.{Event}
-use Rattle.vx_history.specs.declared.event.Event.TheVariants.{Site, Raw, Group, Volumes, Write, Read, Apply, Pump, Tick, Deliver, Connect, Cut, Pause, Resume, Wait, Link, Set, Crash, Deport, Fall, Recover, Fault}
+use Rattle.vx_history.specs.declared.event.Event.TheVariants.{Site, Raw, Group, Volumes, Write, Read, Apply, Pump, Tick, Deliver, Connect, Cut, Pause, Resume, Wait, Link, Set, Attach, Detach, Crash, Deport, Fall, Recover, Fault}
 use Rattle.vx_history.specs.declared.event.LinkPart.TheVariants.{Joins, Made, Marked, Opened}
 use Rattle.vx_events.specs.Doubts.{run_as}
 use Rattle.vx_events.specs.LinksFit.{DoubtFits, IsBlank, IsPlain, IsRested, LinksFit, RowFits, StartsAt}
 use Rattle.vx_events.proofs.Places.{never_some}
+use Rattle.vx_effects.specs.Settings.{AllSetFail, SetsFail}
 use Rattle.vx_effects.proofs.Headers.{bare_none}
 use Rattle.vx_effects.proofs.Moves.{All, fit_moves, moves_like, moves_same}
 use Rattle.vx_effects.proofs.Outcomes.{IsSettled, crash_moves, deported_moves, outcome_moves}
@@ -181,18 +184,18 @@ fit_site d name disks blocks fit =
     (λ p _. none_more (w.headers p) 0 refl ∙ sym (all.1 p)) all.0
 
 -- a further link
-new_plain : (place : ℕ) (sync : SyncMode) (n : Node) → IsPlain (new_link place sync n)
-new_plain place sync n = record { prot = refl; mode = refl; bunker = refl; trimmed = refl; map = λ volume region. refl }
+new_plain : (place : ℕ) (sync : SyncMode) (prot : Prot) (n : Node) → prot ≡ FailsWhenFull → IsPlain (new_link place sync prot n)
+new_plain place sync prot n fails = record { prot = fails; mode = refl; bunker = refl; trimmed = refl; map = λ volume region. refl }
 
-fit_link_made : (d : Doubted) (p s : ℕ) (sync : SyncMode) → s < d.world.sites → (s ≡ p → ⊥) → (d.world.nodes p).state ≡ Up → is_origin (d.world.nodes p).role ≡ true
+fit_link_made : (d : Doubted) (p s : ℕ) (sync : SyncMode) (prot : Prot) → prot ≡ FailsWhenFull → s < d.world.sites → (s ≡ p → ⊥) → (d.world.nodes p).state ≡ Up → is_origin (d.world.nodes p).role ≡ true
     → is_linked (d.world.links p s) ≡ false → LinksFit d
-    → LinksFit (record d { world = with_link d.world p s (new_link (count_links_of d.world p) sync (d.world.nodes s)) })
-fit_link_made d p s sync below other up keeps free fit = record {
+    → LinksFit (record d { world = with_link d.world p s (new_link (count_links_of d.world p) sync prot (d.world.nodes s)) })
+fit_link_made d p s sync prot fails below other up keeps free fit = record {
   rows = all_updated (λ (q : ℕ) (row : ℕ → LinkOf). RowFits q d.world.sites row) d.world.links p (updated (d.world.links p) s l)
       (record {
         places = places_made d.world.sites (d.world.links p) s l below free refl (fit.rows p).places;
         apart = all_updated (λ (k : ℕ) (m : LinkOf). is_linked m ≡ true → k ≡ p → ⊥) (d.world.links p) s l (λ _. other) (λ k _. (fit.rows p).apart k);
-        plain = all_updated (λ (k : ℕ) (m : LinkOf). is_linked m ≡ true → IsPlain m) (d.world.links p) s l (λ _. new_plain (count_links_of d.world p) sync (d.world.nodes s))
+        plain = all_updated (λ (k : ℕ) (m : LinkOf). is_linked m ≡ true → IsPlain m) (d.world.links p) s l (λ _. new_plain (count_links_of d.world p) sync prot (d.world.nodes s) fails)
             (λ k _. (fit.rows p).plain k);
         none = all_updated (λ (k : ℕ) (m : LinkOf). is_linked m ≡ false → m ≡ no_link) (d.world.links p) s l (λ e. let f : true ≡ false = e in absurd (cc)) (λ k _. (fit.rows p).none k);
       }) (λ q _. fit.rows q);
@@ -214,7 +217,7 @@ fit_link_made d p s sync below other up keeps free fit = record {
 }
   where
     l : LinkOf
-    l = new_link (count_links_of d.world p) sync (d.world.nodes s)
+    l = new_link (count_links_of d.world p) sync prot (d.world.nodes s)
 
 -- writes arise at a primary, which does not follow itself
 follows_keeps : (w : World) (p s : ℕ) → (is_primary (w.nodes p).role && follows w p s) ≡ true → is_origin (w.nodes p).role ≡ true
@@ -240,13 +243,13 @@ follows_other w p s e same =
     never (Handing to) a b = cc
     never Bunker a b = cc
 
-fit_made : (d : Doubted) (p s : ℕ) (sync : SyncMode) → LinksFit d → LinksFit (record d { world = (step d.world (Link p s sync Made)).world })
-fit_made d p s sync fit =
+fit_made : (d : Doubted) (p s : ℕ) (sync : SyncMode) (prot : Prot) → prot ≡ FailsWhenFull → LinksFit d → LinksFit (record d { world = (step d.world (Link p s sync prot Made)).world })
+fit_made d p s sync prot fails fit =
     let w : World = d.world in
-    let e : Event = Link p s sync Made in
-    let o : Outcome = done (with_link w p s (new_link (count_links_of w p) sync (w.nodes s))) in
+    let e : Event = Link p s sync prot Made in
+    let o : Outcome = done (with_link w p s (new_link (count_links_of w p) sync prot (w.nodes s))) in
     let free : Outcome = unless (is_linked (w.links p s)) (Exists (w.nodes s).name) w o in
-    let part : Outcome = link_part Made w p s sync in
+    let part : Outcome = link_part Made w p s sync prot in
     let Q : Outcome → Type 0 = λ (r : Outcome).
     (LinksFit (record d { world = r.world })) × ((i : ℕ) → r.world.headers i ≡ w.headers i) × ((i : ℕ) → r.world.nodes i ≡ w.nodes i) in
     let refusals : (why : No) → Q (refused w why) = λ why. (fit, λ i. refl, λ i. refl) in
@@ -258,7 +261,7 @@ fit_made d p s sync fit =
     (λ led. Tests.unless_ends Q w refusals (is_linked (w.links p s)) (Exists (w.nodes s).name) o
     (λ none.
     let leads : (is_primary (w.nodes p).role && follows w p s) ≡ true = not-false (is_primary (w.nodes p).role && follows w p s) led in
-    (fit_link_made d p s sync below (follows_other w p s leads) up (follows_keeps w p s leads) none fit, λ i. refl, λ i. refl)))))) in
+    (fit_link_made d p s sync prot fails below (follows_other w p s leads) up (follows_keeps w p s leads) none fit, λ i. refl, λ i. refl)))))) in
     fit_counted (record d { world = (outcome_of w e).world }) (λ i. w.headers i + headers_by e w (outcome_of w e) i)
     (λ i bare. none_more (w.headers i) (headers_by e w (outcome_of w e) i) (bare_none w i (subst (λ (n : Node). n.state ≡ Bare) (all.2 i) bare) e) ∙ sym (all.1 i)) all.0
 
@@ -310,37 +313,39 @@ fit_deport d s fit =
     fit_counted (record d { world = (outcome_of w (Deport s)).world }) (λ i. w.headers i + 0) (λ p _. none_more (w.headers p) 0 refl ∙ sym (all.1 p)) all.0
 
 -- whatever happens
-pub fit_happened : (d : Doubted) (e : Event) (taken : Bool) → LinksFit d → LinksFit (happened d e taken)
-fit_happened d (Site name disks blocks) taken fit = fit_site d name disks blocks fit
-fit_happened d (Raw s) taken fit = fit_settled d (Raw s) tt fit
-fit_happened d (Group s) taken fit = fit_settled d (Group s) tt fit
-fit_happened d (Volumes s log xs) taken fit = fit_settled d (Volumes s log xs) tt fit
-fit_happened d (Write s volume start bytes fails) taken fit = fit_settled d (Write s volume start bytes fails) tt fit
-fit_happened d (Read s volume start count) taken fit = fit_settled d (Read s volume start count) tt fit
-fit_happened d (Apply s count reached) taken fit = fit_settled d (Apply s count reached) tt fit
-fit_happened d (Pump p s) taken fit = fit_settled d (Pump p s) tt fit
-fit_happened d (Tick p s) taken fit = fit_settled d (Tick p s) tt fit
-fit_happened d (Deliver number) taken fit = fit_settled d (Deliver number) tt fit
-fit_happened d (Connect p s) taken fit = fit_settled d (Connect p s) tt fit
-fit_happened d (Cut p s) taken fit = fit_settled d (Cut p s) tt fit
-fit_happened d (Pause p s) taken fit = fit_settled d (Pause p s) tt fit
-fit_happened d (Resume p s) taken fit = fit_settled d (Resume p s) tt fit
-fit_happened d (Wait p number) taken fit = fit_settled d (Wait p number) tt fit
-fit_happened d (Link p s sync Joins) taken fit = fit_settled d (Link p s sync Joins) tt fit
-fit_happened d (Link p s sync Made) taken fit = fit_made d p s sync fit
-fit_happened d (Link p s sync Marked) taken fit = fit_settled d (Link p s sync Marked) tt fit
-fit_happened d (Link p s sync Opened) taken fit = fit_settled d (Link p s sync Opened) tt fit
-fit_happened d (Set p s sync) taken fit = fit_settled d (Set p s sync) tt fit
-fit_happened d (Crash s kept) taken fit = fit_crash (resolved_at d s taken) s kept (at_place d.after s None) (fit_resolved d s taken fit)
-fit_happened d (Deport s) taken fit = fit_deport d s fit
-fit_happened d (Fall s) taken fit = fit_settled d (Fall s) tt fit
-fit_happened d (Recover s fails) taken fit = fit_settled d (Recover s fails) tt fit
-fit_happened d (Fault s disk) taken fit = fit_settled d (Fault s disk) tt fit
+pub fit_happened : (d : Doubted) (e : Event) (taken : Bool) → SetsFail e → LinksFit d → LinksFit (happened d e taken)
+fit_happened d (Site name disks blocks) taken sets fit = fit_site d name disks blocks fit
+fit_happened d (Raw s) taken sets fit = fit_settled d (Raw s) tt fit
+fit_happened d (Group s) taken sets fit = fit_settled d (Group s) tt fit
+fit_happened d (Volumes s log xs) taken sets fit = fit_settled d (Volumes s log xs) tt fit
+fit_happened d (Write s volume start bytes fails) taken sets fit = fit_settled d (Write s volume start bytes fails) tt fit
+fit_happened d (Read s volume start count) taken sets fit = fit_settled d (Read s volume start count) tt fit
+fit_happened d (Apply s count reached) taken sets fit = fit_settled d (Apply s count reached) tt fit
+fit_happened d (Pump p s) taken sets fit = fit_settled d (Pump p s) tt fit
+fit_happened d (Tick p s) taken sets fit = fit_settled d (Tick p s) tt fit
+fit_happened d (Deliver number) taken sets fit = fit_settled d (Deliver number) tt fit
+fit_happened d (Connect p s) taken sets fit = fit_settled d (Connect p s) tt fit
+fit_happened d (Cut p s) taken sets fit = fit_settled d (Cut p s) tt fit
+fit_happened d (Pause p s) taken sets fit = fit_settled d (Pause p s) tt fit
+fit_happened d (Resume p s) taken sets fit = fit_settled d (Resume p s) tt fit
+fit_happened d (Wait p number) taken sets fit = fit_settled d (Wait p number) tt fit
+fit_happened d (Link p s sync prot Joins) taken sets fit = fit_settled d (Link p s sync prot Joins) tt fit
+fit_happened d (Link p s sync prot Made) taken sets fit = fit_made d p s sync prot sets fit
+fit_happened d (Link p s sync prot Marked) taken sets fit = fit_settled d (Link p s sync prot Marked) tt fit
+fit_happened d (Link p s sync prot Opened) taken sets fit = fit_settled d (Link p s sync prot Opened) tt fit
+fit_happened d (Set p s sync prot) taken sets fit = fit_settled d (Set p s sync prot) sets fit
+fit_happened d (Attach p s) taken sets fit = fit_settled d (Attach p s) tt fit
+fit_happened d (Detach p s) taken sets fit = fit_settled d (Detach p s) tt fit
+fit_happened d (Crash s kept) taken sets fit = fit_crash (resolved_at d s taken) s kept (at_place d.after s None) (fit_resolved d s taken fit)
+fit_happened d (Deport s) taken sets fit = fit_deport d s fit
+fit_happened d (Fall s) taken sets fit = fit_settled d (Fall s) tt fit
+fit_happened d (Recover s fails) taken sets fit = fit_settled d (Recover s fails) tt fit
+fit_happened d (Fault s disk) taken sets fit = fit_settled d (Fault s disk) tt fit
 
-pub fit_run : (taken : Bool) (d : Doubted) (events : List Event) → LinksFit d → LinksFit (run_as taken d events)
-fit_run taken d [] fit = fit
-fit_run taken d (e ∷ es) fit = fit_run taken (happened d e taken) es (fit_happened d e taken fit)
+pub fit_run : (taken : Bool) (d : Doubted) (events : List Event) → AllSetFail events → LinksFit d → LinksFit (run_as taken d events)
+fit_run taken d [] sets fit = fit
+fit_run taken d (e ∷ es) sets fit = fit_run taken (happened d e taken) es sets.1 (fit_happened d e taken sets.0 fit)
 
-pub fit_runs : (d new : Doubted) (events : List Event) → Runs d events new → LinksFit d → LinksFit new
-fit_runs d new [] runs fit = subst (λ (x : Doubted). LinksFit x) (sym runs) fit
-fit_runs d new (e ∷ es) runs fit = fit_runs (happened d e runs.0) new es runs.1 (fit_happened d e runs.0 fit)
+pub fit_runs : (d new : Doubted) (events : List Event) → Runs d events new → AllSetFail events → LinksFit d → LinksFit new
+fit_runs d new [] runs sets fit = subst (λ (x : Doubted). LinksFit x) (sym runs) fit
+fit_runs d new (e ∷ es) runs sets fit = fit_runs (happened d e runs.0) new es runs.1 sets.1 (fit_happened d e runs.0 sets.0 fit)

@@ -4,7 +4,7 @@ use Rattle.std.specs.Prelude.{[], eqb, None, if◌then◌else◌}
 use Rattle.vx_model.specs.declared.site.SiteState.TheVariants.{Bare, Up}
 use Rattle.vx_history.proofs.Updates.{at_place}
 use Rattle.vx_history.specs.Doubts.{Doubted, happened}
-use Rattle.vx_history.specs.Events.{crash_at, deport_at, kept_of, lost_touch}
+use Rattle.vx_history.specs.Events.{crash_at, deport_at, kept_of, link_left, lost_touch}
 use Rattle.vx_history.specs.Step.{done}
 use Rattle.vx_history.specs.Sound.{is_at_rest}
 use Rattle.vx_history.specs.Steps.{crashed, deported_site, group_back, group_made, group_set, group_up}
@@ -13,7 +13,9 @@ use Rattle.vx_history.specs.declared.event.Event.TheVariants.{Group, Deport}
 use Rattle.vx_events.proofs.Steps.{again_step, deport_step, group_step}
 use Rattle.vx_model.specs.declared.site.Role.TheVariants.{Primary}
 use Rattle.vx_events.specs.Effects.{EffectAt}
-use Rattle.vx_effects.proofs.Effects.{Turns, crash_turns, effect_plain, turns_like, turns_node}
+use Rattle.vx_events.specs.LinksFit.{RowFits}
+use Rattle.vx_effects.proofs.Effects.{Turns, crash_turns, effect_plain, effect_row, turns_like, turns_node}
+use Rattle.vx_effects.proofs.Links.{row_left}
 
 module _ (d : Doubted) (s : ℕ) where
   abbrev w : World
@@ -37,7 +39,7 @@ module _ (d : Doubted) (s : ℕ) where
   abbrev k : ℕ
   k = kept_of n 0
 
-  pub deport_turns : Turns s w (deport_at w s) (deported_site n.fuse (crashed n k)) (λ to. lost_touch (w.links s to)) w.packets None
+  pub deport_turns : Turns s w (deport_at w s) (deported_site n.fuse (crashed n k)) (λ to. link_left n k (w.links s to)) w.packets None
   deport_turns =
       let t = crash_turns s w k in
       record { sites = t.sites; nodes = λ i. by i (eqb i s) refl; links = t.links; headers = t.headers; sent = t.sent; gathering = t.gathering }
@@ -50,6 +52,8 @@ module _ (d : Doubted) (s : ℕ) where
           (crash_turns s d.world (kept_of (d.world.nodes s) 0)).nodes i
           ∙ ap (λ (b : Bool). if b then crashed (d.world.nodes s) (kept_of (d.world.nodes s) 0) else d.world.nodes i) is
 
-  pub deport_effect : (taken : Bool) → s < w.sites → n.state ≡ Up → n.halted ≡ None
+  pub deport_effect : (taken : Bool) → RowFits s w.sites (w.links s) → s < w.sites → n.state ≡ Up → n.halted ≡ None
       → EffectAt s d (happened d (Deport s) taken) (deported_site n.fuse (crashed n k)) (λ to. lost_touch (w.links s to)) (w.headers s) (d.after s) w.packets None
-  deport_effect taken below up runs = effect_plain d (Deport s) (done (deport_at w s)) s (deport_step w s below up runs) deport_turns (λ i. refl)
+  deport_effect taken fits below up runs =
+      effect_row s d (happened d (Deport s) taken) (effect_plain d (Deport s) (done (deport_at w s)) s (deport_step w s below up runs) deport_turns (λ i. refl))
+      (λ to. row_left n k s w.sites (w.links s) fits to)

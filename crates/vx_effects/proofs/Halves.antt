@@ -4,7 +4,7 @@ use Rattle.std.specs.Prelude.{Option, Some, None}
 use Rattle.vx_history.proofs.Behind.{after_of}
 use Rattle.vx_history.proofs.Updates.{at_place}
 use Rattle.vx_history.specs.Doubts.{Doubted, crashed_as, halved, resolved_at}
-use Rattle.vx_history.specs.Events.{kept_of, lost_touch}
+use Rattle.vx_history.specs.Events.{kept_of, link_left}
 use Rattle.vx_history.specs.Step.{step}
 use Rattle.vx_history.specs.Steps.{burned, crashed}
 use Rattle.vx_history.specs.World.{Gathering, Link, Node, Packet, World}
@@ -54,13 +54,13 @@ module _ (d : Doubted) (e : Event) (s : ℕ) (n : Node) (row : ℕ → Link) (pa
 -- a crash of a site that may be in doubt
 pub crashed_effect : (d : Doubted) (s kept : ℕ) (taken : Bool)
     → EffectAt s d (crashed_as d s kept taken) (crashed ((resolved_at d s taken).world.nodes s) (kept_of ((resolved_at d s taken).world.nodes s) kept))
-    (λ k. lost_touch ((resolved_at d s taken).world.links s k)) (d.world.headers s) None d.world.packets None
+    (λ k. link_left ((resolved_at d s taken).world.nodes s) (kept_of ((resolved_at d s taken).world.nodes s) kept) ((resolved_at d s taken).world.links s k)) (d.world.headers s) None d.world.packets None
 crashed_effect d s kept taken =
     let r : Doubted = resolved_at d s taken in
     let w : World = r.world in
     let j : ℕ = kept_of (w.nodes s) kept in
     let n : Node = crashed (w.nodes s) j in
-    let row : ℕ → Link = λ to. lost_touch (w.links s to) in
+    let row : ℕ → Link = λ to. link_left (w.nodes s) j (w.links s to) in
     let t = crash_turns s w j in
     let c : ChangesAt s d r = resolved_changes d s taken in
     record {

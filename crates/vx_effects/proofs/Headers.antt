@@ -5,20 +5,19 @@ use Rattle.std.proofs.lemmas.Bool.Decides.{nat_tests}
 use Rattle.vx_model.specs.Answer.{is_too_large}
 use Rattle.vx_model.specs.Content.{Write as WriteBlocks, blocks_in}
 use Rattle.vx_model.specs.Sites.{is_origin, is_up}
-use Rattle.vx_model.specs.declared.link.Prot.TheVariants.{Fail as FailsWhenFull}
 use Rattle.vx_model.specs.declared.no.No.{No}
 use Rattle.vx_model.specs.declared.site.SiteState.{SiteState}
 use Rattle.vx_model.specs.declared.site.SiteState.TheVariants.{Bare, Up}
 use Rattle.vx_history.proofs.Updates.{by_test, eqb_equal}
 use Rattle.vx_history.specs.Admission.{mode_holds}
-use Rattle.vx_history.specs.Events.{admitted, delivered, gathers, handed, heard, packet_at, written_if}
+use Rattle.vx_history.specs.Events.{admitted, delivered, gathers, handed, heard, link_attached, link_detached, link_with, packet_at, written_if}
 use Rattle.vx_history.specs.Headers.{count_at, headers_by, heard_headers, is_given_up, is_refused, one_at, part_writes}
 use Rattle.vx_history.specs.Refusals.{Outcome, at_site, both_at_work, how_many_below, is_running, refused, says}
 use Rattle.vx_history.specs.Sends.{with_link}
 use Rattle.vx_history.specs.Step.{done, link_part, outcome_of}
 use Rattle.vx_history.specs.World.{Link as LinkOf, Packet, World}
 use Rattle.vx_history.specs.declared.event.Event.{Event}
-use Rattle.vx_history.specs.declared.event.Event.TheVariants.{Site, Raw, Group, Volumes, Write, Read, Apply, Pump, Tick, Deliver, Connect, Cut, Pause, Resume, Wait, Link, Set, Crash, Deport, Fall, Recover, Fault}
+use Rattle.vx_history.specs.declared.event.Event.TheVariants.{Site, Raw, Group, Volumes, Write, Read, Apply, Pump, Tick, Deliver, Connect, Cut, Pause, Resume, Wait, Link, Set, Attach, Detach, Crash, Deport, Fall, Recover, Fault}
 use Rattle.vx_history.specs.declared.event.LinkPart.{LinkPart}
 use Rattle.vx_history.specs.declared.event.LinkPart.TheVariants.{Joins, Made, Marked, Opened}
 use Rattle.vx_history.specs.declared.event.Said.TheVariants.{Ignored as IsIgnored}
@@ -103,14 +102,20 @@ module _ (w : World) (i : ℕ) (bare : (w.nodes i).state ≡ Bare) where
   bare_none (Pause p s) = refl
   bare_none (Resume p s) = refl
   bare_none (Wait p number) = refl
-  bare_none (Link p s sync part) =
+  bare_none (Link p s sync prot part) =
       let x : ℕ = part_writes part p s in
-      let o : Outcome = link_part part w p s sync in
+      let o : Outcome = link_part part w p s sync prot in
       Tests.site_ends (None_at x) w (refused_none x) p (at_site w s (both_at_work w p s o))
       (λ _. Tests.site_ends (None_at x) w (refused_none x) s (both_at_work w p s o)
       (λ _. Tests.both_ends (None_at x) w (refused_none x) p s o (λ up there _ _. part_none part p s o up there)))
-  bare_none (Set p s sync) =
-      let o : Outcome = done (with_link w p s (record (w.links p s) { sync = sync; prot = FailsWhenFull })) in
+  bare_none (Set p s sync prot) =
+      let o : Outcome = done (with_link w p s (link_with sync prot (w.links p s))) in
+      Tests.link_ends (None_at p) w (refused_none p) is_origin p s o (λ up _. up_none p o up)
+  bare_none (Attach p s) =
+      let o : Outcome = done (with_link w p s (link_attached (w.links p s))) in
+      Tests.link_ends (None_at p) w (refused_none p) is_origin p s o (λ up _. up_none p o up)
+  bare_none (Detach p s) =
+      let o : Outcome = done (with_link w p s (link_detached (w.links p s))) in
       Tests.link_ends (None_at p) w (refused_none p) is_origin p s o (λ up _. up_none p o up)
   bare_none (Crash s kept) = refl
   bare_none (Deport s) = refl

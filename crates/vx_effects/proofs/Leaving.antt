@@ -12,8 +12,9 @@ use Rattle.vx_history.specs.Steps.{burned, fused, stopped_by, worked_on}
 use Rattle.vx_history.specs.Stops.{IsOpen, WritesAt}
 use Rattle.vx_history.specs.World.{FuseSet, empty_world, Node, Packet, World, updated, with_node, Link as LinkOf}
 use Rattle.vx_history.specs.declared.event.Event.{Event}
-use Rattle.vx_history.specs.declared.event.Event.TheVariants.{Site, Raw, Group, Volumes, Write, Read, Apply, Pump, Tick, Deliver, Connect, Cut, Pause, Resume, Wait, Link, Set, Crash, Deport, Fall, Recover, Fault}
+use Rattle.vx_history.specs.declared.event.Event.TheVariants.{Site, Raw, Group, Volumes, Write, Read, Apply, Pump, Tick, Deliver, Connect, Cut, Pause, Resume, Wait, Link, Set, Attach, Detach, Crash, Deport, Fall, Recover, Fault}
 use Rattle.vx_history.specs.declared.event.LinkPart.TheVariants.{Joins, Made, Marked, Opened}
+use Rattle.vx_model.specs.declared.link.Prot.{Prot}
 use Rattle.vx_model.specs.declared.link.SyncMode.{SyncMode}
 use Rattle.vx_model.specs.declared.no.No.{No}
 use Rattle.vx_model.specs.declared.no.No.TheVariants.{Exists, Role as WrongRole}
@@ -29,6 +30,7 @@ use Rattle.vx_events.specs.Failing.{is_failing, made_fail}
 use Rattle.vx_events.specs.LinkEnds.{AreLeft, link_noted, target_noted}
 use Rattle.vx_events.specs.LinksFit.{DoubtFits, IsBlank, IsRested, LinksFit, RowFits, StartsAt}
 use Rattle.vx_events.proofs.Places.{never_some, some_same}
+use Rattle.vx_effects.specs.Settings.{SetsFail}
 use Rattle.vx_effects.proofs.Fitting.{fit_crashed, fit_happened, fit_resolved, none_more, updated_other}
 use Rattle.vx_effects.proofs.Headers.{bare_none}
 use Rattle.vx_effects.proofs.Moves.{All, Moves, Rests, fit_moves, moves_alike, moves_like}
@@ -59,14 +61,14 @@ settled_remains : (w : World) (e : Event) (s : ℕ) → Moves All w (outcome_of 
 settled_remains w e s m = record { sites = m.sites; up = λ up. (m.stays s tt).up up }
 
 -- a link that is made changes no site
-made_remains : (w : World) (p q : ℕ) (sync : SyncMode) (s : ℕ) → Remains w (step w (Link p q sync Made)).world s
-made_remains w p q sync s =
-    let o : Outcome = done (with_link w p q (new_link (count_links_of w p) sync (w.nodes q))) in
+made_remains : (w : World) (p q : ℕ) (sync : SyncMode) (prot : Prot) (s : ℕ) → Remains w (step w (Link p q sync prot Made)).world s
+made_remains w p q sync prot s =
+    let o : Outcome = done (with_link w p q (new_link (count_links_of w p) sync prot (w.nodes q))) in
     let free : Outcome = unless (is_linked (w.links p q)) (Exists (w.nodes q).name) w o in
-    let part : Outcome = link_part Made w p q sync in
+    let part : Outcome = link_part Made w p q sync prot in
     let Q : Outcome → Type 0 = λ (r : Outcome). (r.world.sites ≡ w.sites) × ((i : ℕ) → r.world.nodes i ≡ w.nodes i) in
     let refusals : (why : No) → Q (refused w why) = λ why. (refl, λ i. refl) in
-    let all : Q (outcome_of w (Link p q sync Made)) =
+    let all : Q (outcome_of w (Link p q sync prot Made)) =
     Tests.site_ends Q w refusals p (at_site w q (both_at_work w p q part))
     (λ _. Tests.site_ends Q w refusals q (both_at_work w p q part)
     (λ _. Tests.both_ends Q w refusals p q part
@@ -74,64 +76,68 @@ made_remains w p q sync s =
     (λ _. Tests.unless_ends Q w refusals (is_linked (w.links p q)) (Exists (w.nodes q).name) o (λ _. (refl, λ i. refl)))))) in
     record { sites = all.0; up = λ up. ap (λ (n : Node). n.state) (all.1 s) ∙ up }
 
-writes_remains : (d : Doubted) (e : Event) (s : ℕ) → LinksFit d → WritesAt d.world e s → Remains d.world (step d.world e).world s
-writes_remains d (Site name disks blocks) s fit writes = absurd writes
-writes_remains d (Raw p) s fit writes = absurd writes
-writes_remains d (Group p) s fit writes = absurd writes
-writes_remains d (Volumes p log xs) s fit writes = absurd writes
-writes_remains d (Write p volume start bytes fails) s fit writes = settled_remains d.world (Write p volume start bytes fails) s (outcome_moves d.world (Write p volume start bytes fails) tt)
-writes_remains d (Read p volume start count) s fit writes = absurd writes
-writes_remains d (Apply p count reached) s fit writes = absurd writes
-writes_remains d (Pump p q) s fit writes = absurd writes
-writes_remains d (Tick p q) s fit writes = absurd writes
-writes_remains d (Deliver number) s fit writes = settled_remains d.world (Deliver number) s (outcome_moves d.world (Deliver number) tt)
-writes_remains d (Connect p q) s fit writes = absurd writes
-writes_remains d (Cut p q) s fit writes = absurd writes
-writes_remains d (Pause p q) s fit writes = absurd writes
-writes_remains d (Resume p q) s fit writes = absurd writes
-writes_remains d (Wait p number) s fit writes = absurd writes
-writes_remains d (Link p q sync Joins) s fit writes = settled_remains d.world (Link p q sync Joins) s (outcome_moves d.world (Link p q sync Joins) tt)
-writes_remains d (Link p q sync Made) s fit writes = made_remains d.world p q sync s
-writes_remains d (Link p q sync Marked) s fit writes = settled_remains d.world (Link p q sync Marked) s (outcome_moves d.world (Link p q sync Marked) tt)
-writes_remains d (Link p q sync Opened) s fit writes = settled_remains d.world (Link p q sync Opened) s (outcome_moves d.world (Link p q sync Opened) tt)
-writes_remains d (Set p q sync) s fit writes = settled_remains d.world (Set p q sync) s (outcome_moves d.world (Set p q sync) tt)
-writes_remains d (Crash p kept) s fit writes = absurd writes
-writes_remains d (Deport p) s fit writes = absurd writes
-writes_remains d (Fall p) s fit writes = absurd writes
-writes_remains d (Recover p fails) s fit writes = absurd writes
-writes_remains d (Fault p disk) s fit writes = settled_remains d.world (Fault p disk) s (outcome_moves d.world (Fault p disk) tt)
+writes_remains : (d : Doubted) (e : Event) (s : ℕ) → LinksFit d → WritesAt d.world e s → SetsFail e → Remains d.world (step d.world e).world s
+writes_remains d (Site name disks blocks) s fit writes sets = absurd writes
+writes_remains d (Raw p) s fit writes sets = absurd writes
+writes_remains d (Group p) s fit writes sets = absurd writes
+writes_remains d (Volumes p log xs) s fit writes sets = absurd writes
+writes_remains d (Write p volume start bytes fails) s fit writes sets = settled_remains d.world (Write p volume start bytes fails) s (outcome_moves d.world (Write p volume start bytes fails) tt)
+writes_remains d (Read p volume start count) s fit writes sets = absurd writes
+writes_remains d (Apply p count reached) s fit writes sets = absurd writes
+writes_remains d (Pump p q) s fit writes sets = absurd writes
+writes_remains d (Tick p q) s fit writes sets = absurd writes
+writes_remains d (Deliver number) s fit writes sets = settled_remains d.world (Deliver number) s (outcome_moves d.world (Deliver number) tt)
+writes_remains d (Connect p q) s fit writes sets = absurd writes
+writes_remains d (Cut p q) s fit writes sets = absurd writes
+writes_remains d (Pause p q) s fit writes sets = absurd writes
+writes_remains d (Resume p q) s fit writes sets = absurd writes
+writes_remains d (Wait p number) s fit writes sets = absurd writes
+writes_remains d (Link p q sync prot Joins) s fit writes sets = settled_remains d.world (Link p q sync prot Joins) s (outcome_moves d.world (Link p q sync prot Joins) tt)
+writes_remains d (Link p q sync prot Made) s fit writes sets = made_remains d.world p q sync prot s
+writes_remains d (Link p q sync prot Marked) s fit writes sets = settled_remains d.world (Link p q sync prot Marked) s (outcome_moves d.world (Link p q sync prot Marked) tt)
+writes_remains d (Link p q sync prot Opened) s fit writes sets = settled_remains d.world (Link p q sync prot Opened) s (outcome_moves d.world (Link p q sync prot Opened) tt)
+writes_remains d (Set p q sync prot) s fit writes sets = settled_remains d.world (Set p q sync prot) s (outcome_moves d.world (Set p q sync prot) sets)
+writes_remains d (Attach p q) s fit writes sets = settled_remains d.world (Attach p q) s (outcome_moves d.world (Attach p q) tt)
+writes_remains d (Detach p q) s fit writes sets = settled_remains d.world (Detach p q) s (outcome_moves d.world (Detach p q) tt)
+writes_remains d (Crash p kept) s fit writes sets = absurd writes
+writes_remains d (Deport p) s fit writes sets = absurd writes
+writes_remains d (Fall p) s fit writes sets = absurd writes
+writes_remains d (Recover p fails) s fit writes sets = absurd writes
+writes_remains d (Fault p disk) s fit writes sets = settled_remains d.world (Fault p disk) s (outcome_moves d.world (Fault p disk) tt)
 
 -- such an event crashes nothing
-written_done : (d : Doubted) (e : Event) (s : ℕ) → WritesAt d.world e s → LinksFit d → LinksFit (record d { world = (step d.world e).world })
-written_done d (Site name disks blocks) s writes fit = absurd writes
-written_done d (Raw p) s writes fit = absurd writes
-written_done d (Group p) s writes fit = absurd writes
-written_done d (Volumes p log xs) s writes fit = absurd writes
-written_done d (Write p volume start bytes fails) s writes fit = fit_happened d (Write p volume start bytes fails) false fit
-written_done d (Read p volume start count) s writes fit = absurd writes
-written_done d (Apply p count reached) s writes fit = absurd writes
-written_done d (Pump p q) s writes fit = absurd writes
-written_done d (Tick p q) s writes fit = absurd writes
-written_done d (Deliver number) s writes fit = fit_happened d (Deliver number) false fit
-written_done d (Connect p q) s writes fit = absurd writes
-written_done d (Cut p q) s writes fit = absurd writes
-written_done d (Pause p q) s writes fit = absurd writes
-written_done d (Resume p q) s writes fit = absurd writes
-written_done d (Wait p number) s writes fit = absurd writes
-written_done d (Link p q sync part) s writes fit = fit_happened d (Link p q sync part) false fit
-written_done d (Set p q sync) s writes fit = fit_happened d (Set p q sync) false fit
-written_done d (Crash p kept) s writes fit = absurd writes
-written_done d (Deport p) s writes fit = absurd writes
-written_done d (Fall p) s writes fit = absurd writes
-written_done d (Recover p fails) s writes fit = absurd writes
-written_done d (Fault p disk) s writes fit = fit_happened d (Fault p disk) false fit
+written_done : (d : Doubted) (e : Event) (s : ℕ) → WritesAt d.world e s → SetsFail e → LinksFit d → LinksFit (record d { world = (step d.world e).world })
+written_done d (Site name disks blocks) s writes sets fit = absurd writes
+written_done d (Raw p) s writes sets fit = absurd writes
+written_done d (Group p) s writes sets fit = absurd writes
+written_done d (Volumes p log xs) s writes sets fit = absurd writes
+written_done d (Write p volume start bytes fails) s writes sets fit = fit_happened d (Write p volume start bytes fails) false sets fit
+written_done d (Read p volume start count) s writes sets fit = absurd writes
+written_done d (Apply p count reached) s writes sets fit = absurd writes
+written_done d (Pump p q) s writes sets fit = absurd writes
+written_done d (Tick p q) s writes sets fit = absurd writes
+written_done d (Deliver number) s writes sets fit = fit_happened d (Deliver number) false sets fit
+written_done d (Connect p q) s writes sets fit = absurd writes
+written_done d (Cut p q) s writes sets fit = absurd writes
+written_done d (Pause p q) s writes sets fit = absurd writes
+written_done d (Resume p q) s writes sets fit = absurd writes
+written_done d (Wait p number) s writes sets fit = absurd writes
+written_done d (Link p q sync prot part) s writes sets fit = fit_happened d (Link p q sync prot part) false sets fit
+written_done d (Set p q sync prot) s writes sets fit = fit_happened d (Set p q sync prot) false sets fit
+written_done d (Attach p q) s writes sets fit = fit_happened d (Attach p q) false sets fit
+written_done d (Detach p q) s writes sets fit = fit_happened d (Detach p q) false sets fit
+written_done d (Crash p kept) s writes sets fit = absurd writes
+written_done d (Deport p) s writes sets fit = absurd writes
+written_done d (Fall p) s writes sets fit = absurd writes
+written_done d (Recover p fails) s writes sets fit = absurd writes
+written_done d (Fault p disk) s writes sets fit = fit_happened d (Fault p disk) false sets fit
 
-pub fit_halved : (d : Doubted) (e : Event) (s disk : ℕ) → IsOpen (d.world.nodes s) → WritesAt d.world e s → LinksFit d → LinksFit (halved d e s disk)
-fit_halved d e s disk opens writes fit =
+pub fit_halved : (d : Doubted) (e : Event) (s disk : ℕ) → IsOpen (d.world.nodes s) → WritesAt d.world e s → SetsFail e → LinksFit d → LinksFit (halved d e s disk)
+fit_halved d e s disk opens writes sets fit =
     let w : World = d.world in
     let v : World = (step w e).world in
-    let stays : Remains w v s = writes_remains d e s fit writes in
-    let after : LinksFit (record d { world = v }) = written_done d e s writes fit in
+    let stays : Remains w v s = writes_remains d e s fit writes sets in
+    let after : LinksFit (record d { world = v }) = written_done d e s writes sets fit in
     let here : Node = record (w.nodes s) { halted = Some disk; fuse = burned (w.nodes s).fuse } in
     let there : Node = record (v.nodes s) { halted = Some disk; fuse = burned (v.nodes s).fuse } in
     let stopped : World = record (stopped_by w s disk) { headers = v.headers } in

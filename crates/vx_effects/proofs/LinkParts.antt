@@ -4,6 +4,7 @@ use Rattle.std.proofs.lemmas.Bool.{not-false}
 use Rattle.std.specs.Prelude.{not, ◌&&◌, eqb, leb, Option, None, if◌then◌else◌}
 use Rattle.vx_model.specs.Sites.{first_line, is_origin, is_up, same_line}
 use Rattle.vx_model.specs.declared.limits.TheConstants.{MOST_LINKS}
+use Rattle.vx_model.specs.declared.link.Prot.{Prot}
 use Rattle.vx_model.specs.declared.link.SyncMode.{SyncMode}
 use Rattle.vx_model.specs.declared.no.Counted.TheVariants.{Links}
 use Rattle.vx_model.specs.declared.no.No.{No}
@@ -43,11 +44,11 @@ pub record AreTwo (w : World) (p s : ℕ) : Type 0 where
   pub running : (w.nodes p).halted ≡ None
   pub running_too : (w.nodes s).halted ≡ None
 
-module _ (w : World) (p s : ℕ) (sync : SyncMode) where
+module _ (w : World) (p s : ℕ) (sync : SyncMode) (prot : Prot) where
   -- a part that is done passed the tests of its sites
-  pub two_done : (part : LinkPart) → (step w (Link p s sync part)).said ≡ Done → AreTwo w p s × (outcome_of w (Link p s sync part) ≡ link_part part w p s sync)
+  pub two_done : (part : LinkPart) → (step w (Link p s sync prot part)).said ≡ Done → AreTwo w p s × (outcome_of w (Link p s sync prot part) ≡ link_part part w p s sync prot)
   two_done part =
-      let o : Outcome = link_part part w p s sync in
+      let o : Outcome = link_part part w p s sync prot in
       let Q : Outcome → Type 0 = λ (r : Outcome). r.said ≡ Done → AreTwo w p s × (r ≡ o) in
       let none : (why : No) → Q (refused w why) = λ why e. absurd (never why e) in
       Tests.site_ends Q w none p (at_site w s (both_at_work w p s o))
@@ -57,13 +58,13 @@ module _ (w : World) (p s : ℕ) (sync : SyncMode) where
       (record { first = first; second = second; up = up; up_too = up_too; running = running; running_too = running_too }, refl))))
 
   -- what is said of the part itself
-  part_done : (part : LinkPart) → (step w (Link p s sync part)).said ≡ Done → (link_part part w p s sync).said ≡ Done
+  part_done : (part : LinkPart) → (step w (Link p s sync prot part)).said ≡ Done → (link_part part w p s sync prot).said ≡ Done
   part_done part said = subst (λ (o : Outcome). o.said ≡ Done) (two_done part said).1 said
 
   -- both sites pass the tests of the sites
-  two_pass : (part : LinkPart) → AreTwo w p s → outcome_of w (Link p s sync part) ≡ link_part part w p s sync
+  two_pass : (part : LinkPart) → AreTwo w p s → outcome_of w (Link p s sync prot part) ≡ link_part part w p s sync prot
   two_pass part t =
-      let o : Outcome = link_part part w p s sync in
+      let o : Outcome = link_part part w p s sync prot in
       let second : Outcome = unless_halted (w.nodes s).halted w o in
       let works : Outcome = both_at_work w p s o in
       is_site w p (at_site w s works) t.first
@@ -79,7 +80,7 @@ module _ (w : World) (p s : ℕ) (sync : SyncMode) where
   behind_joins = emptied (with_node w s (joined (w.nodes p) p (w.nodes s))) s
 
   abbrev behind_made : World
-  behind_made = with_link w p s (new_link (count_links_of w p) sync (w.nodes s))
+  behind_made = with_link w p s (new_link (count_links_of w p) sync prot (w.nodes s))
 
   abbrev behind_marked : World
   behind_marked = with_node w s (record (w.nodes s) { mark = Consistent })
@@ -87,8 +88,8 @@ module _ (w : World) (p s : ℕ) (sync : SyncMode) where
   abbrev behind_opened : World
   behind_opened = with_link w p s (opened (w.links p s) (w.nodes p).safe)
 
-  pub joins_done : (step w (Link p s sync Joins)).said ≡ Done
-      → (may_link w p s ≡ true) × (is_linked (w.links p s) ≡ false) × (link_part Joins w p s sync ≡ done behind_joins)
+  pub joins_done : (step w (Link p s sync prot Joins)).said ≡ Done
+      → (may_link w p s ≡ true) × (is_linked (w.links p s) ≡ false) × (link_part Joins w p s sync prot ≡ done behind_joins)
   joins_done said =
       let o : Outcome = done behind_joins in
       let sized : Outcome = unless (not (sizes_meet (w.nodes p).volumes (w.nodes s).volumes && rings_fit (w.nodes p) (w.nodes s))) Size w o in
@@ -102,8 +103,8 @@ module _ (w : World) (p s : ℕ) (sync : SyncMode) where
       (λ _. Tests.unless_ends Q w none (not (sizes_meet (w.nodes p).volumes (w.nodes s).volumes && rings_fit (w.nodes p) (w.nodes s))) Size o
       (λ _ e. (not-false (may_link w p s) may, unlinked, refl))))) (part_done Joins said)
 
-  pub made_done : (step w (Link p s sync Made)).said ≡ Done
-      → (is_linked (w.links p s) ≡ false) × (link_part Made w p s sync ≡ done behind_made)
+  pub made_done : (step w (Link p s sync prot Made)).said ≡ Done
+      → (is_linked (w.links p s) ≡ false) × (link_part Made w p s sync prot ≡ done behind_made)
   made_done said =
       let o : Outcome = done behind_made in
       let free : Outcome = unless (is_linked (w.links p s)) (Exists (w.nodes s).name) w o in
@@ -112,7 +113,7 @@ module _ (w : World) (p s : ℕ) (sync : SyncMode) where
       Tests.unless_ends Q w none (not (is_primary (w.nodes p).role && follows w p s)) WrongRole free
       (λ _. Tests.unless_ends Q w none (is_linked (w.links p s)) (Exists (w.nodes s).name) o (λ unlinked e. (unlinked, refl))) (part_done Made said)
 
-  pub marked_done : (step w (Link p s sync Marked)).said ≡ Done → link_part Marked w p s sync ≡ done behind_marked
+  pub marked_done : (step w (Link p s sync prot Marked)).said ≡ Done → link_part Marked w p s sync prot ≡ done behind_marked
   marked_done said =
       let Q : Outcome → Type 0 = λ (r : Outcome). r.said ≡ Done → r ≡ done behind_marked in
       let none : (why : No) → Q (refused w why) = λ why e. absurd (never why e) in
@@ -125,7 +126,7 @@ module _ (w : World) (p s : ℕ) (sync : SyncMode) where
       is_primary (w.nodes p).role
       && (follows w p s && (is_linked (w.links p s) && (is_empty (w.nodes p).log && (is_stale_mode (w.links p s).mode && (phase_takes (w.nodes s).phase && is_consistent (w.nodes s).mark)))))
 
-  pub opened_done : (step w (Link p s sync Opened)).said ≡ Done → (may_open ≡ true) × (link_part Opened w p s sync ≡ done behind_opened)
+  pub opened_done : (step w (Link p s sync prot Opened)).said ≡ Done → (may_open ≡ true) × (link_part Opened w p s sync prot ≡ done behind_opened)
   opened_done said =
       let Q : Outcome → Type 0 = λ (r : Outcome). r.said ≡ Done → (may_open ≡ true) × (r ≡ done behind_opened) in
       let none : (why : No) → Q (refused w why) = λ why e. absurd (never why e) in
@@ -154,14 +155,14 @@ turns_link p s w l = record {
   gathering = λ i. updated_self w.gathering p i;
 }
 
-module _ (d : Doubted) (p s : ℕ) (sync : SyncMode) (taken : Bool) where
+module _ (d : Doubted) (p s : ℕ) (sync : SyncMode) (prot : Prot) (taken : Bool) where
   abbrev w : World
   w = d.world
 
-  pub joins_effect : (step w (Link p s sync Joins)).said ≡ Done
-      → EffectAt s d (happened d (Link p s sync Joins) taken) (joined (w.nodes p) p (w.nodes s)) (w.links s) (w.headers s + 1) (d.after s) w.packets None
+  pub joins_effect : (step w (Link p s sync prot Joins)).said ≡ Done
+      → EffectAt s d (happened d (Link p s sync prot Joins) taken) (joined (w.nodes p) p (w.nodes s)) (w.links s) (w.headers s + 1) (d.after s) w.packets None
   joins_effect said =
-      effect_of d (Link p s sync Joins) (done (behind_joins w p s sync)) s 1 ((two_done w p s sync Joins said).1 ∙ (joins_done w p s sync said).2)
+      effect_of d (Link p s sync prot Joins) (done (behind_joins w p s sync prot)) s 1 ((two_done w p s sync prot Joins said).1 ∙ (joins_done w p s sync prot said).2)
       (record {
         sites = refl;
         nodes = λ i. refl;
@@ -171,22 +172,22 @@ module _ (d : Doubted) (p s : ℕ) (sync : SyncMode) (taken : Bool) where
         gathering = λ i. refl;
       }) (one_here s) (λ i apart. none_there s i apart)
 
-  pub made_effect : (step w (Link p s sync Made)).said ≡ Done
-      → EffectAt p d (happened d (Link p s sync Made) taken) (w.nodes p) (updated (w.links p) s (new_link (count_links_of w p) sync (w.nodes s))) (w.headers p + 1) (d.after p) w.packets (w.gathering p)
+  pub made_effect : (step w (Link p s sync prot Made)).said ≡ Done
+      → EffectAt p d (happened d (Link p s sync prot Made) taken) (w.nodes p) (updated (w.links p) s (new_link (count_links_of w p) sync prot (w.nodes s))) (w.headers p + 1) (d.after p) w.packets (w.gathering p)
   made_effect said =
-      effect_of d (Link p s sync Made) (done (behind_made w p s sync)) p 1 ((two_done w p s sync Made said).1 ∙ (made_done w p s sync said).1)
-      (turns_link p s w (new_link (count_links_of w p) sync (w.nodes s))) (one_here p) (λ i apart. none_there p i apart)
+      effect_of d (Link p s sync prot Made) (done (behind_made w p s sync prot)) p 1 ((two_done w p s sync prot Made said).1 ∙ (made_done w p s sync prot said).1)
+      (turns_link p s w (new_link (count_links_of w p) sync prot (w.nodes s))) (one_here p) (λ i apart. none_there p i apart)
 
-  pub marked_effect : (step w (Link p s sync Marked)).said ≡ Done
-      → EffectAt s d (happened d (Link p s sync Marked) taken) (record (w.nodes s) { mark = Consistent }) (w.links s) (w.headers s + 1) (d.after s) w.packets (w.gathering s)
+  pub marked_effect : (step w (Link p s sync prot Marked)).said ≡ Done
+      → EffectAt s d (happened d (Link p s sync prot Marked) taken) (record (w.nodes s) { mark = Consistent }) (w.links s) (w.headers s + 1) (d.after s) w.packets (w.gathering s)
   marked_effect said =
-      effect_of d (Link p s sync Marked) (done (behind_marked w p s sync)) s 1 ((two_done w p s sync Marked said).1 ∙ marked_done w p s sync said)
+      effect_of d (Link p s sync prot Marked) (done (behind_marked w p s sync prot)) s 1 ((two_done w p s sync prot Marked said).1 ∙ marked_done w p s sync prot said)
       (turns_node s w (record (w.nodes s) { mark = Consistent })) (one_here s) (λ i apart. none_there s i apart)
 
-  pub opened_effect : (step w (Link p s sync Opened)).said ≡ Done
-      → EffectAt p d (happened d (Link p s sync Opened) taken) (w.nodes p) (updated (w.links p) s (opened (w.links p s) (w.nodes p).safe)) (w.headers p + 1) (d.after p) w.packets (w.gathering p)
+  pub opened_effect : (step w (Link p s sync prot Opened)).said ≡ Done
+      → EffectAt p d (happened d (Link p s sync prot Opened) taken) (w.nodes p) (updated (w.links p) s (opened (w.links p s) (w.nodes p).safe)) (w.headers p + 1) (d.after p) w.packets (w.gathering p)
   opened_effect said =
-      effect_of d (Link p s sync Opened) (done (behind_opened w p s sync)) p 1 ((two_done w p s sync Opened said).1 ∙ (opened_done w p s sync said).1)
+      effect_of d (Link p s sync prot Opened) (done (behind_opened w p s sync prot)) p 1 ((two_done w p s sync prot Opened said).1 ∙ (opened_done w p s sync prot said).1)
       (turns_link p s w (opened (w.links p s) (w.nodes p).safe)) (one_here p) (λ i apart. none_there p i apart)
 
 -- ---- each part follows the one before it
@@ -220,20 +221,20 @@ two_of w p s l q = record {
   running_too = q.pair.running_too;
 }
 
-module _ (w : World) (p s : ℕ) (sync : SyncMode) where
+module _ (w : World) (p s : ℕ) (sync : SyncMode) (prot : Prot) where
   abbrev after : LinkPart → World
-  after part = (step w (Link p s sync part)).world
+  after part = (step w (Link p s sync prot part)).world
 
   abbrev effect_in : LinkPart → ℕ → Node → (ℕ → LinkOf) → Option Gathering → Type 0
-  effect_in part i n row gathered = EffectAt i (sure w) (happened (sure w) (Link p s sync part) true) n row (w.headers i + 1) None w.packets gathered
+  effect_in part i n row gathered = EffectAt i (sure w) (happened (sure w) (Link p s sync prot part) true) n row (w.headers i + 1) None w.packets gathered
 
   -- the site that joined follows
-  pub joins_pairs : (step w (Link p s sync Joins)).said ≡ Done → IsPaired (after Joins) p s (w.links p s) × (is_linked (w.links p s) ≡ false)
+  pub joins_pairs : (step w (Link p s sync prot Joins)).said ≡ Done → IsPaired (after Joins) p s (w.links p s) × (is_linked (w.links p s) ≡ false)
   joins_pairs said =
-      let t = (two_done w p s sync Joins said).0 in
-      let j = joins_done w p s sync said in
+      let t = (two_done w p s sync prot Joins said).0 in
+      let j = joins_done w p s sync prot said in
       let a : Node = w.nodes p in
-      let f = joins_effect (sure w) p s sync true said in
+      let f = joins_effect (sure w) p s sync prot true said in
       let led = is_primary a.role in
       let other = not (eqb s p) in
       let empty = is_empty a.log in
@@ -264,42 +265,42 @@ module _ (w : World) (p s : ℕ) (sync : SyncMode) where
       is_false true e = absurd (cc)
       is_false false e = refl
 
-  made_goes : (l : LinkOf) → IsPaired w p s l → is_linked l ≡ false → (step w (Link p s sync Made)).said ≡ Done
+  made_goes : (l : LinkOf) → IsPaired w p s l → is_linked l ≡ false → (step w (Link p s sync prot Made)).said ≡ Done
   made_goes l q free =
       let a : Node = w.nodes p in
-      let o : Outcome = done (behind_made w p s sync) in
+      let o : Outcome = done (behind_made w p s sync prot) in
       let unlinked : Outcome = unless (is_linked (w.links p s)) (Exists (w.nodes s).name) w o in
       ap (λ (r : Outcome). r.said)
-      (two_pass w p s sync Made (two_of w p s l q)
+      (two_pass w p s sync prot Made (two_of w p s l q)
       ∙ off (not (is_primary a.role && follows w p s)) WrongRole w unlinked (ap not (both_true (is_primary a.role) (follows w p s) q.pair.primary q.pair.follows))
       ∙ off (is_linked (w.links p s)) (Exists (w.nodes s).name) w o (ap is_linked q.link ∙ free))
 
   -- the link that was made goes by nothing
-  made_pairs : (l : LinkOf) → IsPaired w p s l → (step w (Link p s sync Made)).said ≡ Done → IsPaired (after Made) p s (new_link (count_links_of w p) sync (w.nodes s))
+  made_pairs : (l : LinkOf) → IsPaired w p s l → (step w (Link p s sync prot Made)).said ≡ Done → IsPaired (after Made) p s (new_link (count_links_of w p) sync prot (w.nodes s))
   made_pairs l q said =
-      let f = made_effect (sure w) p s sync true said in
+      let f = made_effect (sure w) p s sync prot true said in
       record {
         first = omega (arith, q.first, f.site.sites);
         second = omega (arith, q.second, f.site.sites);
         apart = q.apart;
         pair = subst (λ (n : Node). IsPair n ((after Made).nodes s)) (sym f.is.node) (subst (λ (n : Node). IsPair (w.nodes p) n) (sym (f.site.nodes s q.apart)) q.pair);
-        link = f.is.links s ∙ at_place (w.links p) s (new_link (count_links_of w p) sync (w.nodes s));
+        link = f.is.links s ∙ at_place (w.links p) s (new_link (count_links_of w p) sync prot (w.nodes s));
       }
 
-  marked_goes : (l : LinkOf) → IsPaired w p s l → is_linked l ≡ true → (step w (Link p s sync Marked)).said ≡ Done
+  marked_goes : (l : LinkOf) → IsPaired w p s l → is_linked l ≡ true → (step w (Link p s sync prot Marked)).said ≡ Done
   marked_goes l q linked =
       let a : Node = w.nodes p in
       let there : is_linked (w.links p s) ≡ true = ap is_linked q.link ∙ linked in
       ap (λ (r : Outcome). r.said)
-      (two_pass w p s sync Marked (two_of w p s l q)
-      ∙ off (not (is_primary a.role && (follows w p s && (is_linked (w.links p s) && is_empty a.log)))) WrongRole w (done (behind_marked w p s sync))
+      (two_pass w p s sync prot Marked (two_of w p s l q)
+      ∙ off (not (is_primary a.role && (follows w p s && (is_linked (w.links p s) && is_empty a.log)))) WrongRole w (done (behind_marked w p s sync prot))
       (ap not (both_true (is_primary a.role) (follows w p s && (is_linked (w.links p s) && is_empty a.log)) q.pair.primary
       (both_true (follows w p s) (is_linked (w.links p s) && is_empty a.log) q.pair.follows (both_true (is_linked (w.links p s)) (is_empty a.log) there q.pair.empty)))))
 
   -- the site that follows is consistent
-  marked_pairs : (l : LinkOf) → IsPaired w p s l → (step w (Link p s sync Marked)).said ≡ Done → IsPaired (after Marked) p s l × (is_consistent ((after Marked).nodes s).mark ≡ true)
+  marked_pairs : (l : LinkOf) → IsPaired w p s l → (step w (Link p s sync prot Marked)).said ≡ Done → IsPaired (after Marked) p s l × (is_consistent ((after Marked).nodes s).mark ≡ true)
   marked_pairs l q said =
-      let f = marked_effect (sure w) p s sync true said in
+      let f = marked_effect (sure w) p s sync prot true said in
       let other : p ≡ s → ⊥ = λ e. q.apart (sym e) in (
         record {
           first = omega (arith, q.first, f.site.sites);
@@ -320,7 +321,7 @@ module _ (w : World) (p s : ℕ) (sync : SyncMode) where
         ap (λ (n : Node). is_consistent n.mark) f.is.node,
       )
 
-  opened_goes : (l : LinkOf) → IsPaired w p s l → is_linked l ≡ true → is_stale_mode l.mode ≡ true → is_consistent (w.nodes s).mark ≡ true → (step w (Link p s sync Opened)).said ≡ Done
+  opened_goes : (l : LinkOf) → IsPaired w p s l → is_linked l ≡ true → is_stale_mode l.mode ≡ true → is_consistent (w.nodes s).mark ≡ true → (step w (Link p s sync prot Opened)).said ≡ Done
   opened_goes l q linked stale marked =
       let a : Node = w.nodes p in
       let b : Node = w.nodes s in
@@ -332,32 +333,32 @@ module _ (w : World) (p s : ℕ) (sync : SyncMode) where
       let c3 = both_true (is_empty a.log) (is_stale_mode m.mode && (phase_takes b.phase && is_consistent b.mark)) q.pair.empty c2 in
       let c4 = both_true (is_linked m) (is_empty a.log && (is_stale_mode m.mode && (phase_takes b.phase && is_consistent b.mark))) there c3 in
       let c5 = both_true (follows w p s) (is_linked m && (is_empty a.log && (is_stale_mode m.mode && (phase_takes b.phase && is_consistent b.mark)))) q.pair.follows c4 in
-      let all : may_open w p s sync ≡ true =
+      let all : may_open w p s sync prot ≡ true =
       both_true (is_primary a.role) (follows w p s && (is_linked m && (is_empty a.log && (is_stale_mode m.mode && (phase_takes b.phase && is_consistent b.mark))))) q.pair.primary c5 in
       ap (λ (r : Outcome). r.said)
-      (two_pass w p s sync Opened (two_of w p s l q) ∙ off (not (may_open w p s sync)) WrongRole w (done (behind_opened w p s sync)) (ap not all))
+      (two_pass w p s sync prot Opened (two_of w p s l q) ∙ off (not (may_open w p s sync prot)) WrongRole w (done (behind_opened w p s sync prot)) (ap not all))
 
-module _ (w : World) (p s : ℕ) (sync : SyncMode) (said : (step w (Link p s sync Joins)).said ≡ Done) where
+module _ (w : World) (p s : ℕ) (sync : SyncMode) (prot : Prot) (said : (step w (Link p s sync prot Joins)).said ≡ Done) where
   abbrev one : World
-  one = run w (Link p s sync Joins ∷ [])
+  one = run w (Link p s sync prot Joins ∷ [])
 
   abbrev two : World
-  two = run w (Link p s sync Joins ∷ Link p s sync Made ∷ [])
+  two = run w (Link p s sync prot Joins ∷ Link p s sync prot Made ∷ [])
 
   abbrev three : World
-  three = run w (Link p s sync Joins ∷ Link p s sync Made ∷ Link p s sync Marked ∷ [])
+  three = run w (Link p s sync prot Joins ∷ Link p s sync prot Made ∷ Link p s sync prot Marked ∷ [])
 
-  pub made_follows : (step one (Link p s sync Made)).said ≡ Done
-  made_follows = let q = joins_pairs w p s sync said in made_goes one p s sync (w.links p s) q.0 q.1
+  pub made_follows : (step one (Link p s sync prot Made)).said ≡ Done
+  made_follows = let q = joins_pairs w p s sync prot said in made_goes one p s sync prot (w.links p s) q.0 q.1
 
   abbrev link_there : LinkOf
-  link_there = new_link (count_links_of one p) sync (one.nodes s)
+  link_there = new_link (count_links_of one p) sync prot (one.nodes s)
 
   two_paired : IsPaired two p s link_there
-  two_paired = made_pairs one p s sync (w.links p s) (joins_pairs w p s sync said).0 made_follows
+  two_paired = made_pairs one p s sync prot (w.links p s) (joins_pairs w p s sync prot said).0 made_follows
 
-  pub marked_follows : (step two (Link p s sync Marked)).said ≡ Done
-  marked_follows = marked_goes two p s sync link_there two_paired refl
+  pub marked_follows : (step two (Link p s sync prot Marked)).said ≡ Done
+  marked_follows = marked_goes two p s sync prot link_there two_paired refl
 
-  pub opened_follows : (step three (Link p s sync Opened)).said ≡ Done
-  opened_follows = let q = marked_pairs two p s sync link_there two_paired marked_follows in opened_goes three p s sync link_there q.0 refl refl q.1
+  pub opened_follows : (step three (Link p s sync prot Opened)).said ≡ Done
+  opened_follows = let q = marked_pairs two p s sync prot link_there two_paired marked_follows in opened_goes three p s sync prot link_there q.0 refl refl q.1

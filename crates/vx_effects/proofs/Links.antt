@@ -1,10 +1,11 @@
 -- What each change of a link keeps of it.
-use Rattle.std.proofs.Common.{◌≡◌, ◌∙◌, ℕ, Bool, true, false, refl, ap, sym, subst}
+use Rattle.std.proofs.Common.{◌≡◌, ◌∙◌, ℕ, List, drop, take, Bool, true, false, refl, ap, sym, subst}
 use Rattle.std.specs.Prelude.{ltb, eqb, max, min, ◌&&◌, ◌+◌, if◌then◌else◌}
 use Rattle.vx_history.proofs.Places.{places_same}
 use Rattle.vx_history.proofs.Updates.{by_test}
-use Rattle.vx_history.specs.Admission.{blocks, change, change_by, changed_mode, full_log, full_log_of, is_live_link}
-use Rattle.vx_history.specs.Events.{receiver_facts, link_after, lost_touch, restarted_link, used_above}
+use Rattle.vx_history.specs.Admission.{blocks, change, change_by, changed_mode, full_log, full_log_of, hold, is_live_link}
+use Rattle.vx_history.specs.ChangeMaps.{map_after, map_changed}
+use Rattle.vx_history.specs.Events.{receiver_facts, link_after, link_left, link_marked, lost_touch, restarted_link, used_above}
 use Rattle.vx_history.specs.LinkForms.{plain_link, with_plain}
 use Rattle.vx_history.specs.Sending.{Sent, by_log, disk_acknowledged, greeted, greeted_anew, greeted_apart, greeted_by_log, if_on_line, memory_acknowledged, mode_overtaken, mode_restarted, pumped, pumped_up_to, sent_step, with_ignored, with_nothing, with_taken}
 use Rattle.vx_history.specs.Sends.{is_linked, is_made}
@@ -174,15 +175,41 @@ change_stays need room l used prot =
     by_test (λ (c : Change). c ≡ Stays) (blocks need room l used) (change_by (full_log_of l) l.bunker) Stays
     (λ _. by_prot l.prot (is_live_link l) l.bunker prot) (λ _. refl)
 
-with_mode : Link → Change → Link
-with_mode l c = record l { mode = changed_mode c l.mode }
+with_change : Node → ℕ → Link → Change → Link
+with_change n s l c = record l { mode = changed_mode c l.mode; map = map_changed c l.mode l.map n.log (hold (plain_link s l)) }
 
 pub plain_after : (n : Node) (x : Write) (s : ℕ) (l : Link) → IsPlain l → link_after n x s l ≡ l
-unfolding with_mode
-plain_after n x s l p = ap (with_mode l) (change_stays _ _ (plain_link s l) (used_above n s l) p.prot)
+unfolding with_change
+plain_after n x s l p = ap (with_change n s l) (change_stays _ _ (plain_link s l) (used_above n s l) p.prot)
 
 pub none_after : (n : Node) (x : Write) (s : ℕ) (l : Link) → l ≡ no_link → link_after n x s l ≡ l
 none_after n x s l e = ap (λ (k : Link). link_after n x s k) e ∙ sym e
+
+-- a link that goes by the log or by nothing keeps no map
+map_plain : (m : Mode) (map : Regions) (xs : List Write) → is_plain_mode m ≡ true → map_after m map xs ≡ map
+map_plain Log map xs e = refl
+map_plain Dcm map xs e = absurd (cc)
+map_plain (Replay id phase left start end) map xs e = absurd (cc)
+map_plain (Fork maps) map xs e = absurd (cc)
+map_plain Stale map xs e = refl
+
+pub plain_marked : (xs : List Write) (l : Link) → IsPlain l → link_marked xs l ≡ l
+plain_marked xs l p = ap (λ (map : Regions). let m : Link = record l { map = map } in m) (map_plain l.mode l.map xs p.mode)
+
+pub none_marked : (xs : List Write) (l : Link) → l ≡ no_link → link_marked xs l ≡ l
+none_marked xs l e = ap (λ (k : Link). link_marked xs k) e ∙ sym e
+
+pub keeps_marked : (xs : List Write) (l : Link) → KeepsLink l (link_marked xs l)
+keeps_marked xs l = record {
+  made = refl;
+  plain = λ p. subst IsPlain (sym (plain_marked xs l p)) p;
+  none = λ e. none_marked xs l e ∙ e;
+}
+
+pub keeps_left : (n : Node) (k : ℕ) (l : Link) → KeepsLink l (link_left n k l)
+keeps_left n k l =
+    let xs : List Write = drop n.safe (take k n.log) in
+    keeps_then l (link_marked xs l) (link_left n k l) (keeps_marked xs l) (keeps_touch (link_marked xs l))
 
 -- ---- rows
 
@@ -193,6 +220,14 @@ row_moves p sites row new keeps fits = record {
   plain = λ k linked. (keeps k).plain (fits.plain k (ap is_made (sym (keeps k).made) ∙ linked));
   none = λ k unlinked. (keeps k).none (fits.none k (ap is_made (sym (keeps k).made) ∙ unlinked));
 }
+
+-- no link of a row that fits keeps a map
+pub row_marked : (xs : List Write) (p sites : ℕ) (row : ℕ → Link) → RowFits p sites row → (k : ℕ) → link_marked xs (row k) ≡ row k
+row_marked xs p sites row fits k =
+    by_bool (is_linked (row k)) (λ is. plain_marked xs (row k) (fits.plain k is)) (λ is. none_marked xs (row k) (fits.none k is))
+
+pub row_left : (n : Node) (j p sites : ℕ) (row : ℕ → Link) → RowFits p sites row → (k : ℕ) → link_left n j (row k) ≡ lost_touch (row k)
+row_left n j p sites row fits k = ap (λ (l : Link). lost_touch l) (row_marked (drop n.safe (take j n.log)) p sites row fits k)
 
 -- a write that is let in changes no link of a row that fits
 pub row_after : (n : Node) (x : Write) (p sites : ℕ) (row : ℕ → Link) → RowFits p sites row → (k : ℕ) → link_after n x k (row k) ≡ row k

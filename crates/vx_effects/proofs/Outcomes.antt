@@ -1,5 +1,5 @@
 -- What each event keeps of links, of the states of sites and of sites in doubt, but for those that make a site or a link, or crash a site.
-use Rattle.std.proofs.Common.{◌≡◌, ◌∙◌, ℕ, zero, suc, ◌+◌, ◌<◌, [], ◌∷◌, ◌++◌, length, Bool, true, false, refl, ap, sym, subst, arith, List}
+use Rattle.std.proofs.Common.{◌≡◌, ◌∙◌, ℕ, zero, suc, ◌+◌, ◌<◌, List, [], ◌∷◌, ◌++◌, length, Bool, true, false, refl, ap, sym, subst, arith, List}
 use Rattle.std.proofs.lemmas.Bool.{not-false, not-true, or_parts}
 use Rattle.std.proofs.lemmas.Bool.Decides.{nat_tests}
 use Rattle.std.specs.Prelude.{not, ◌&&◌, ◌||◌, eqb, leb, ltb, Option, Some, None, if◌then◌else◌}
@@ -8,6 +8,7 @@ use Rattle.vx_model.specs.Content.{Write as WriteBlocks, blocks_in, blocks_from}
 use Rattle.vx_model.specs.Sites.{first_line, is_origin, is_up, is_bare, same_line}
 use Rattle.vx_model.specs.Sizes.{is_raw_shape}
 use Rattle.vx_model.specs.declared.limits.TheConstants.{MOST_LINKS, MOST_NUMBER}
+use Rattle.vx_model.specs.declared.link.Prot.{Prot}
 use Rattle.vx_model.specs.declared.link.Prot.TheVariants.{Fail as FailsWhenFull}
 use Rattle.vx_model.specs.declared.link.SyncMode.{SyncMode}
 use Rattle.vx_model.specs.declared.no.Counted.TheVariants.{Links, Number}
@@ -21,7 +22,7 @@ use Rattle.vx_model.specs.declared.site.SiteState.TheVariants.{Bare, Up, Deporte
 use Rattle.vx_history.proofs.StateCases.{bare_is, up_is}
 use Rattle.vx_history.proofs.Updates.{and_left, and_right, by_test, eqb_equal}
 use Rattle.vx_history.specs.Admission.{Admitted, Goes, Held_by}
-use Rattle.vx_history.specs.Events.{fall_from, acknowledged, admitted, applied, applied_by, apply_at, come_back, crash_at, delivered, receiver_facts, from_memory, gathered_if, greeting_back, group_again, group_from, handed, heard, is_plain_group, is_taken, joined, link_after, link_event, link_heard, link_step, links_changed, lost_touch, opened, packet_at, promises_of, put_in, reached_at, recover_from, recovered_at, recovery, restarted_link, taken_if, ticked_at, ticked_link, update_taken, waited, with_write, written_if}
+use Rattle.vx_history.specs.Events.{fall_from, acknowledged, admitted, applied, applied_by, apply_at, come_back, crash_at, delivered, receiver_facts, from_memory, gathered_if, greeting_back, group_again, group_from, handed, heard, is_plain_group, is_taken, joined, link_after, link_attached, link_detached, link_event, link_heard, link_left, link_marked, link_step, link_with, links_changed, links_marked, opened, packet_at, promises_of, put_in, reached_at, recover_from, recovered_at, recovery, restarted_link, taken_if, ticked_at, ticked_link, update_taken, waited, with_write, written_if}
 use Rattle.vx_history.specs.Gatherings.{completes, emptied, gathered}
 use Rattle.vx_history.specs.LinkForms.{plain_receiver, with_plain}
 use Rattle.vx_history.specs.Receiving.{Received, phase_takes, received_step}
@@ -32,7 +33,7 @@ use Rattle.vx_history.specs.Sound.{is_at_rest}
 use Rattle.vx_history.specs.Steps.{burned, crash_left, crashed, deported_site, deported_world, fallen_site, fallen_world, group_back, group_made, group_set, group_up, half_written, logged, raw_made, raw_set, recovered, stopped_by, written}
 use Rattle.vx_history.specs.World.{DataAck, Fuse, Hello, Link as LinkOf, Message, NetAck, Node, Packet, Update, World, with_node}
 use Rattle.vx_history.specs.declared.event.Event.{Event}
-use Rattle.vx_history.specs.declared.event.Event.TheVariants.{Site, Raw, Group, Volumes, Write, Read, Apply, Pump, Tick, Deliver, Connect, Cut, Pause, Resume, Wait, Link, Set, Crash, Deport, Fall, Recover, Fault}
+use Rattle.vx_history.specs.declared.event.Event.TheVariants.{Site, Raw, Group, Volumes, Write, Read, Apply, Pump, Tick, Deliver, Connect, Cut, Pause, Resume, Wait, Link, Set, Attach, Detach, Crash, Deport, Fall, Recover, Fault}
 use Rattle.vx_history.specs.declared.event.LinkPart.{LinkPart}
 use Rattle.vx_history.specs.declared.event.LinkPart.TheVariants.{Joins, Made, Marked, Opened}
 use Rattle.vx_history.specs.declared.event.Said.TheVariants.{DoneAt, Got, Ignored as IsIgnored, Pending, Refused}
@@ -45,7 +46,7 @@ use Rattle.vx_history.specs.declared.sender.SEvent.TheVariants.{Connect as Conne
 use Rattle.vx_events.specs.LinksFit.{IsPlain, IsRested}
 use Rattle.vx_history.specs.Volumes.{volumes_made, volumes_set}
 use Rattle.vx_history.specs.declared.volumes.DataVolume.{DataVolume}
-use Rattle.vx_effects.proofs.Links.{KeepsLink, keeps_restarted, keeps_stepped, keeps_ticked, keeps_touch, none_after, none_of, plain_after}
+use Rattle.vx_effects.proofs.Links.{KeepsLink, keeps_restarted, keeps_left, keeps_marked, keeps_stepped, keeps_ticked, none_after, none_of, plain_after}
 use Rattle.vx_effects.proofs.Moves.{All, Moves, Rests, Stays, StillKeeps, keeps_role, moves_alike, moves_kept, moves_like, moves_link, moves_node, moves_row, moves_same, moves_then}
 use Rattle.vx_effects.proofs.Tests
 
@@ -66,11 +67,13 @@ IsSettled (Cut p s) = Unit {0}
 IsSettled (Pause p s) = Unit {0}
 IsSettled (Resume p s) = Unit {0}
 IsSettled (Wait p number) = Unit {0}
-IsSettled (Link p s sync Joins) = Unit {0}
-IsSettled (Link p s sync Made) = ⊥
-IsSettled (Link p s sync Marked) = Unit {0}
-IsSettled (Link p s sync Opened) = Unit {0}
-IsSettled (Set p s sync) = Unit {0}
+IsSettled (Link p s sync prot Joins) = Unit {0}
+IsSettled (Link p s sync prot Made) = ⊥
+IsSettled (Link p s sync prot Marked) = Unit {0}
+IsSettled (Link p s sync prot Opened) = Unit {0}
+IsSettled (Set p s sync prot) = prot ≡ FailsWhenFull
+IsSettled (Attach p s) = Unit {0}
+IsSettled (Detach p s) = Unit {0}
 IsSettled (Crash s kept) = ⊥
 IsSettled (Deport s) = ⊥
 IsSettled (Fall s) = Unit {0}
@@ -97,11 +100,25 @@ keeps_opened l head linked = record {
   none = none_of l (opened l head) linked;
 }
 
-keeps_set : (l : LinkOf) (sync : SyncMode) → is_linked l ≡ true → KeepsLink l (record l { sync = sync; prot = FailsWhenFull })
-keeps_set l sync linked = record {
+keeps_set : (l : LinkOf) (sync : SyncMode) (prot : Prot) → prot ≡ FailsWhenFull → is_linked l ≡ true → KeepsLink l (link_with sync prot l)
+keeps_set l sync prot fails linked = record {
   made = refl;
-  plain = λ p. record { prot = refl; mode = p.mode; bunker = p.bunker; trimmed = p.trimmed; map = p.map };
-  none = none_of l (record l { sync = sync; prot = FailsWhenFull }) linked;
+  plain = λ p. record { prot = fails; mode = p.mode; bunker = p.bunker; trimmed = p.trimmed; map = p.map };
+  none = none_of l (link_with sync prot l) linked;
+}
+
+keeps_attached : (l : LinkOf) → is_linked l ≡ true → KeepsLink l (link_attached l)
+keeps_attached l linked = record {
+  made = refl;
+  plain = λ p. record { prot = p.prot; mode = p.mode; bunker = p.bunker; trimmed = p.trimmed; map = p.map };
+  none = none_of l (link_attached l) linked;
+}
+
+keeps_detached : (l : LinkOf) → is_linked l ≡ true → KeepsLink l (link_detached l)
+keeps_detached l linked = record {
+  made = refl;
+  plain = λ p. record { prot = p.prot; mode = refl; bunker = p.bunker; trimmed = p.trimmed; map = λ volume region. refl };
+  none = none_of l (link_detached l) linked;
 }
 
 -- what is written of a site leaves its phase and who feeds it
@@ -160,6 +177,9 @@ module _ (E : ℕ → Type 0) (w : World) where
 
   pub changed_moves : (s : ℕ) (x : WriteBlocks) → Moves E w (links_changed w s x)
   changed_moves s x = moves_row E w s (λ k. link_after (w.nodes s) x k (w.links s k)) (λ k. keeps_after (w.nodes s) x k (w.links s k))
+
+  pub marked_moves : (s : ℕ) (xs : List WriteBlocks) → Moves E w (links_marked w s xs)
+  marked_moves s xs = moves_row E w s (λ k. link_marked xs (w.links s k)) (λ k. keeps_marked xs (w.links s k))
 
   pub stopped_moves : (s disk : ℕ) → Moves E w (stopped_by w s disk)
   stopped_moves s disk =
@@ -255,14 +275,14 @@ Apart s p = p ≡ s → ⊥
 pub crash_moves : (w : World) (s k : ℕ) → (w.nodes s).state ≡ Up → Moves (Apart s) w (crash_at w s k)
 crash_moves w s k up =
     let n : Node = crashed (w.nodes s) k in
-    let row : ℕ → LinkOf = λ to. lost_touch (w.links s to) in
+    let row : ℕ → LinkOf = λ to. link_left (w.nodes s) k (w.links s to) in
     let v : World = with_node w s n in
     let u : World = with_links v s row in
     let moves : Moves (Apart s) w u =
     moves_then (Apart s) w v u
     (moves_node (Apart s) w s n (λ b. let f : Down ≡ Bare = b in absurd (cc)) (λ h b. let f : Up ≡ Bare = sym up ∙ b in absurd (cc)) (λ e. absurd (e refl))
     (keeps_role w.sites (w.links s) (w.nodes s) n refl) (calm (λ e. e) (λ _ _. refl)))
-    (moves_row (Apart s) v s row (λ j. keeps_touch (w.links s j))) in
+    (moves_row (Apart s) v s row (λ j. keeps_left (w.nodes s) k (w.links s j))) in
     by_test (λ (x : World). Moves (Apart s) w (emptied (with_links x s row) s)) (is_origin (w.nodes s).role) (crash_left w s k) (with_node w s n)
     (λ _. moves_like (Apart s) w u (emptied (with_links (crash_left w s k) s row) s) refl (λ p. refl) (λ p j. refl) moves)
     (λ _. moves_like (Apart s) w u (emptied (with_links (with_node w s n) s row) s) refl (λ p. refl) (λ p j. refl) moves)
@@ -277,7 +297,10 @@ module _ (w : World) where
   refusals why = moves_same All w
 
   put_moves : (s : ℕ) (x : WriteBlocks) (fails : Option ℕ) → Leaves (put_in (links_changed w s x) s x fails)
-  put_moves s x None = moves_then All w (links_changed w s x) (written (links_changed w s x) s x) (changed_moves All w s x) (written_moves All (links_changed w s x) s x)
+  put_moves s x None =
+      let u : World = links_changed w s x in
+      let v : World = links_marked u s (x ∷ []) in
+      moves_then All w u (written v s x) (changed_moves All w s x) (moves_then All u v (written v s x) (marked_moves All u s (x ∷ [])) (written_moves All v s x))
   put_moves s x (Some disk) =
       moves_then All w (links_changed w s x) (half_written (links_changed w s x) s x disk) (changed_moves All w s x) (half_moves All (links_changed w s x) s x disk)
 
@@ -368,8 +391,8 @@ module _ (w : World) where
   delivered_moves number (Some p) = gathered_moves (is_taken (handed w p).said) (handed w p).world p (handed_moves p)
 
   -- the parts of a line that links
-  part_moves : (part : LinkPart) (p s : ℕ) (sync : SyncMode) → IsSettled (Link p s sync part) → Leaves (link_part part w p s sync)
-  part_moves Joins p s sync one =
+  part_moves : (part : LinkPart) (p s : ℕ) (sync : SyncMode) (prot : Prot) → IsSettled (Link p s sync prot part) → Leaves (link_part part w p s sync prot)
+  part_moves Joins p s sync prot one =
       let n : Node = joined (w.nodes p) p (w.nodes s) in
       let o : Outcome = done (emptied (with_node w s n) s) in
       let sized : Outcome = unless (not (sizes_meet (w.nodes p).volumes (w.nodes s).volumes && rings_fit (w.nodes p) (w.nodes s))) Size w o in
@@ -381,10 +404,10 @@ module _ (w : World) where
       (λ _. Tests.unless_ends Leaves w refusals (not (sizes_meet (w.nodes p).volumes (w.nodes s).volumes && rings_fit (w.nodes p) (w.nodes s))) Size o
       (λ _. moves_like All w (with_node w s n) (emptied (with_node w s n) s) refl (λ i. refl) (λ i k. refl)
       (moves_kept All w s n refl refl (joins_without w p s (not-false (may_link w p s) may)) (calm (λ _. refl) (λ _ _. refl)))))))
-  part_moves Made p s sync one = absurd one
-  part_moves Marked p s sync one =
+  part_moves Made p s sync prot one = absurd one
+  part_moves Marked p s sync prot one =
       Tests.unless_ends Leaves w refusals _ WrongRole _ (λ _. moves_alike All w s (record (w.nodes s) { mark = Consistent }) refl refl refl (calm (λ e. e) (λ e. e)))
-  part_moves Opened p s sync one =
+  part_moves Opened p s sync prot one =
       let l : LinkOf = w.links p s in
       let rest : Bool = is_empty (w.nodes p).log && (is_stale_mode l.mode && (phase_takes (w.nodes s).phase && is_consistent (w.nodes s).mark)) in
       Tests.unless_ends Leaves w refusals (not (is_primary (w.nodes p).role && (follows w p s && (is_linked l && rest)))) WrongRole
@@ -454,14 +477,20 @@ module _ (w : World) where
       Tests.site_ends Leaves w refusals p (at_work w p led)
       (λ _. Tests.work_ends Leaves w refusals p led
       (λ _ _. Tests.unless_ends Leaves w refusals (not (is_origin (w.nodes p).role)) WrongRole (waited w p number) (λ _. waited_moves p number)))
-  outcome_moves (Link p s sync part) one =
-      let o : Outcome = link_part part w p s sync in
+  outcome_moves (Link p s sync prot part) one =
+      let o : Outcome = link_part part w p s sync prot in
       Tests.site_ends Leaves w refusals p (at_site w s (both_at_work w p s o))
       (λ _. Tests.site_ends Leaves w refusals s (both_at_work w p s o)
-      (λ _. Tests.both_ends Leaves w refusals p s o (λ _ _ _ _. part_moves part p s sync one)))
-  outcome_moves (Set p s sync) one =
-      Tests.link_ends Leaves w refusals is_origin p s (done (with_link w p s (record (w.links p s) { sync = sync; prot = FailsWhenFull })))
-      (λ _ linked. moves_link All w p s (record (w.links p s) { sync = sync; prot = FailsWhenFull }) (keeps_set (w.links p s) sync linked))
+      (λ _. Tests.both_ends Leaves w refusals p s o (λ _ _ _ _. part_moves part p s sync prot one)))
+  outcome_moves (Set p s sync prot) one =
+      Tests.link_ends Leaves w refusals is_origin p s (done (with_link w p s (link_with sync prot (w.links p s))))
+      (λ _ linked. moves_link All w p s (link_with sync prot (w.links p s)) (keeps_set (w.links p s) sync prot one linked))
+  outcome_moves (Attach p s) one =
+      Tests.link_ends Leaves w refusals is_origin p s (done (with_link w p s (link_attached (w.links p s))))
+      (λ _ linked. moves_link All w p s (link_attached (w.links p s)) (keeps_attached (w.links p s) linked))
+  outcome_moves (Detach p s) one =
+      Tests.link_ends Leaves w refusals is_origin p s (done (with_link w p s (link_detached (w.links p s))))
+      (λ _ linked. moves_link All w p s (link_detached (w.links p s)) (keeps_detached (w.links p s) linked))
   outcome_moves (Crash s kept) one = absurd one
   outcome_moves (Deport s) one = absurd one
   outcome_moves (Fall s) one = Tests.site_ends Leaves w refusals s (fall_from (w.nodes s).state w s) (λ below. fall_moves (w.nodes s).state s refl)

@@ -4,13 +4,13 @@ use Rattle.std.specs.Prelude.{eqb, min, Some, None, if◌then◌else◌}
 use Rattle.vx_model.specs.Sites.{is_origin}
 use Rattle.vx_model.specs.Sizes.{is_raw_shape}
 use Rattle.vx_model.specs.declared.limits.TheConstants.{MOST_NUMBER}
-use Rattle.vx_model.specs.declared.link.Prot.TheVariants.{Fail as FailsWhenFull}
+use Rattle.vx_model.specs.declared.link.Prot.{Prot}
 use Rattle.vx_model.specs.declared.link.SyncMode.{SyncMode}
 use Rattle.vx_model.specs.declared.no.No.TheVariants.{Device}
 use Rattle.vx_model.specs.declared.site.SiteState.TheVariants.{Bare, Down, Up}
 use Rattle.vx_history.proofs.Updates.{at_place, by_test, eqb_equal, eqb_self}
 use Rattle.vx_history.specs.Doubts.{Doubted, happened}
-use Rattle.vx_history.specs.Events.{acknowledged, applied_by, apply_at, come_back, reached_at, recovery, recovery_greeting, restarted_link}
+use Rattle.vx_history.specs.Events.{acknowledged, applied_by, apply_at, come_back, link_with, reached_at, recovery, recovery_greeting, restarted_link}
 use Rattle.vx_history.specs.LinkForms.{plain_receiver}
 use Rattle.vx_history.specs.Receiving.{Received, with_applied}
 use Rattle.vx_history.specs.Refusals.{Outcome, at_work, says}
@@ -116,18 +116,18 @@ module _ (d : Doubted) (s : ℕ) where
   -- ---- settings
 
   abbrev link_set : ℕ → SyncMode → Link
-  link_set q sync = record (w.links s q) { sync = sync; prot = FailsWhenFull }
+  link_set q sync prot = link_with sync prot (w.links s q)
 
-  set_step : (q : ℕ) (sync : SyncMode) → (step w (Set s q sync)).said ≡ Done → outcome_of w (Set s q sync) ≡ done (with_link w s q (link_set q sync))
-  set_step q sync =
-      Tests.link_ends (λ (o : Outcome). o.said ≡ Done → o ≡ done (with_link w s q (link_set q sync))) w
-      (λ why e. absurd (let f : Refused why ≡ Done = e in cc)) is_origin s q (done (with_link w s q (link_set q sync))) (λ _ _ _. refl)
+  set_step : (q : ℕ) (sync : SyncMode) (prot : Prot) → (step w (Set s q sync prot)).said ≡ Done → outcome_of w (Set s q sync prot) ≡ done (with_link w s q (link_set q sync prot))
+  set_step q sync prot =
+      Tests.link_ends (λ (o : Outcome). o.said ≡ Done → o ≡ done (with_link w s q (link_set q sync prot))) w
+      (λ why e. absurd (let f : Refused why ≡ Done = e in cc)) is_origin s q (done (with_link w s q (link_set q sync prot))) (λ _ _ _. refl)
 
-  pub set_effect : (q : ℕ) (sync : SyncMode) (taken : Bool) → (step w (Set s q sync)).said ≡ Done
-      → EffectAt s d (happened d (Set s q sync) taken) n (updated (w.links s) q (record (w.links s q) { sync = sync; prot = FailsWhenFull })) (w.headers s + 1) (d.after s) w.packets
+  pub set_effect : (q : ℕ) (sync : SyncMode) (prot : Prot) (taken : Bool) → (step w (Set s q sync prot)).said ≡ Done
+      → EffectAt s d (happened d (Set s q sync prot) taken) n (updated (w.links s) q (link_with sync prot (w.links s q))) (w.headers s + 1) (d.after s) w.packets
       (w.gathering s)
-  set_effect q sync taken said =
-      effect_of d (Set s q sync) (done (with_link w s q (link_set q sync))) s 1 (set_step q sync said)
+  set_effect q sync prot taken said =
+      effect_of d (Set s q sync prot) (done (with_link w s q (link_set q sync prot))) s 1 (set_step q sync prot said)
       (record {
         sites = refl;
         nodes = λ i. updated_self w.nodes s i;

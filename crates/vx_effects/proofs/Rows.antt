@@ -3,7 +3,7 @@ use Rattle.std.proofs.Common.{◌≡◌, ◌∙◌, inl, inr, ◌+◌, ◌≤◌
 use Rattle.std.specs.Prelude.{Option, Some, None, if◌then◌else◌}
 use Rattle.vx_history.proofs.Places.{count_most, in_place_same}
 use Rattle.vx_history.proofs.Updates.{all_updated, eqb_equal}
-use Rattle.vx_history.specs.Events.{is_in_place, link_in_place, linked_sites, lost_touch, put_before, restarted_link}
+use Rattle.vx_history.specs.Events.{is_in_place, link_in_place, link_left, linked_sites, lost_touch, put_before, restarted_link}
 use Rattle.vx_history.specs.KeptLinks.{kept_link, kept_links, kept_mode, kept_start}
 use Rattle.vx_history.specs.Listed.{HasPlaces, IsAmong, links_in}
 use Rattle.vx_events.proofs.Places.{never_some, some_same}
@@ -138,6 +138,11 @@ row_same row new sites same = listed_same row new sites (λ k. ap (λ (l : Link)
 pub touch_kept : (row : ℕ → Link) (sites : ℕ)
     → kept_links (λ k. lost_touch (row k)) (linked_sites (λ k. lost_touch (row k)) sites 0 sites) ≡ kept_links row (linked_sites row sites 0 sites)
 touch_kept row sites = listed_same row (λ k. lost_touch (row k)) sites (λ k. refl) (λ k. refl)
+
+-- so does a crash, whatever is marked in their maps
+pub left_kept : (n : Node) (j : ℕ) (row : ℕ → Link) (sites : ℕ)
+    → kept_links (λ k. link_left n j (row k)) (linked_sites (λ k. link_left n j (row k)) sites 0 sites) ≡ kept_links row (linked_sites row sites 0 sites)
+left_kept n j row sites = listed_same row (λ k. link_left n j (row k)) sites (λ k. refl) (λ k. refl)
 
 -- a site that comes up
 module _ (n : Node) (p sites : ℕ) (row : ℕ → Link) (fit : RowFits p sites row) where

@@ -4,7 +4,7 @@ use Rattle.std.specs.Prelude.{Option, Some, None}
 use Rattle.vx_model.specs.Content.{Write as WriteBlocks}
 use Rattle.vx_model.specs.declared.site.SiteState.TheVariants.{Up}
 use Rattle.vx_history.specs.Doubts.{After, Doubted, happened}
-use Rattle.vx_history.specs.Events.{kept_of, lost_touch}
+use Rattle.vx_history.specs.Events.{kept_of, link_left, lost_touch}
 use Rattle.vx_history.specs.Steps.{burned, crashed, half_begun, logged, spent, worked_on, write_calls}
 use Rattle.vx_history.specs.World.{Fuse, FuseLit, FuseSet, Gathering, Link, NoFuse, Node, Packet}
 use Rattle.vx_history.specs.declared.event.Event.TheVariants.{Crash, Write}
@@ -13,7 +13,8 @@ use Rattle.vx_events.specs.Doubts.{run_as}
 use Rattle.vx_events.specs.Effects.{EffectAt}
 use Rattle.vx_events.specs.LinksFit.{RowFits}
 use Rattle.vx_effects.specs.Writes.{IsLetIn}
-use Rattle.vx_effects.proofs.Effects.{changes_then, crash_effect}
+use Rattle.vx_effects.proofs.Effects.{changes_then, left_effect}
+use Rattle.vx_effects.proofs.Links.{row_left}
 use Rattle.vx_effects.proofs.Rises.{note_effect}
 use Rattle.vx_effects.proofs.Writes.{half_effect, write_effect}
 
@@ -81,13 +82,16 @@ module _ (d : Doubted) (s : ℕ) (x : WriteBlocks) (fit : RowFits s d.world.site
       let f = half_effect d s x fit can 0 false in
       let below : s < e.world.sites = omega (arith, can.call.site, f.site.sites) in
       let up : (e.world.nodes s).state ≡ Up = ap (λ (m : Node). m.state) f.is.node ∙ can.call.up in
-      let g = crash_effect e s count false below up in
+      let g = left_effect e s count false below up in
       let kept : kept_of (half 0) count ≡ count = omega (arith, least, most) in
       record {
         site = changes_then s d e (run_as false d (Write s x.volume x.start x.bytes (Some 0) ∷ Crash s count ∷ [])) f.site g.site;
         is = record {
           node = g.is.node ∙ ap (λ (m : Node). crashed m (kept_of m count)) f.is.node ∙ ap (λ (k : ℕ). crashed (half_begun n x) k) kept;
-          links = λ k. g.is.links k ∙ ap lost_touch (f.is.links k);
+          links = λ k.
+              g.is.links k
+              ∙ ap (λ (l : Link). link_left (e.world.nodes s) (kept_of (e.world.nodes s) count) l) (f.is.links k)
+              ∙ row_left (e.world.nodes s) (kept_of (e.world.nodes s) count) s d.world.sites (d.world.links s) fit k;
           headers = g.is.headers ∙ f.is.headers;
           after = g.is.after;
         };

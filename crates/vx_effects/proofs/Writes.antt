@@ -9,7 +9,7 @@ use Rattle.vx_model.specs.declared.no.No.TheVariants.{Limit}
 use Rattle.vx_history.proofs.Updates.{all_updated}
 use Rattle.vx_history.specs.Admission.{Admitted, Goes, Held_by}
 use Rattle.vx_history.specs.Doubts.{Doubted, happened}
-use Rattle.vx_history.specs.Events.{admitted, link_after, links_changed, put_in, said_of_write, written_if}
+use Rattle.vx_history.specs.Events.{admitted, link_after, link_marked, links_changed, links_marked, put_in, said_of_write, written_if}
 use Rattle.vx_history.specs.Headers.{headers_by, is_given_up}
 use Rattle.vx_history.specs.Refusals.{Outcome, how_many_below, is_waited_for, refused, some_below}
 use Rattle.vx_history.specs.Step.{outcome_of, step}
@@ -23,7 +23,7 @@ use Rattle.vx_events.specs.LinksFit.{RowFits}
 use Rattle.vx_effects.specs.Writes.{IsLetIn}
 use Rattle.vx_effects.proofs.Effects.{Turns, effect_plain, updated_self}
 use Rattle.vx_effects.proofs.Headers.{count_none, none_at, none_given}
-use Rattle.vx_effects.proofs.Links.{row_after}
+use Rattle.vx_effects.proofs.Links.{row_after, row_marked}
 use Rattle.vx_effects.proofs.Tests
 
 module _ (w : World) (s : ℕ) (x : WriteBlocks) (fit : RowFits s w.sites (w.links s)) where
@@ -34,12 +34,17 @@ module _ (w : World) (s : ℕ) (x : WriteBlocks) (fit : RowFits s w.sites (w.lin
   changed_same i k =
       all_updated (λ (j : ℕ) (r : ℕ → Link). r k ≡ w.links j k) w.links s (λ j. link_after (w.nodes s) x j (w.links s j)) (row_after (w.nodes s) x s w.sites (w.links s) fit k) (λ j _. refl) i
 
+  pub marked_same : (i k : ℕ) → (links_marked v s (x ∷ [])).links i k ≡ w.links i k
+  marked_same i k =
+      all_updated (λ (j : ℕ) (r : ℕ → Link). r k ≡ w.links j k) v.links s (λ j. link_marked (x ∷ []) (v.links s j))
+      (ap (λ (l : Link). link_marked (x ∷ []) l) (changed_same s k) ∙ row_marked (x ∷ []) s w.sites (w.links s) fit k) (λ j _. changed_same j k) i
+
   none_given_up : (o : Outcome) → ((k : ℕ) → o.world.links s k ≡ w.links s k) → how_many_below w.sites (λ k. is_given_up (w.links s k) (o.world.links s k)) ≡ 0
   none_given_up o same = count_none w.sites (λ k. is_given_up (w.links s k) (o.world.links s k)) (λ k. none_given (w.links s k) (o.world.links s k) (same k))
 
   -- no header, whatever comes of it
   put_none : (fails : Option ℕ) → how_many_below w.sites (λ k. is_given_up (w.links s k) ((put_in v s x fails).world.links s k)) ≡ 0
-  put_none None = none_given_up (put_in v s x None) (changed_same s)
+  put_none None = none_given_up (put_in v s x None) (marked_same s)
   put_none (Some disk) = none_given_up (put_in v s x (Some disk)) (changed_same s)
 
   admitted_none : (a : Admitted) (fails : Option ℕ) → how_many_below w.sites (λ k. is_given_up (w.links s k) ((written_if a w s x fails).world.links s k)) ≡ 0
@@ -61,12 +66,12 @@ module _ (w : World) (s : ℕ) (x : WriteBlocks) (fit : RowFits s w.sites (w.lin
       ∙ ap (λ (a : Admitted). written_if a w s x fails) can.goes
       ∙ off (leb MOST_NUMBER (w.nodes s).safe) (Limit Number MOST_NUMBER) w (put_in v s x fails) (above MOST_NUMBER (w.nodes s).safe can.free)
 
-  put_turns : (n : Node) (u : World) → u.sites ≡ w.sites → ((i : ℕ) → u.nodes i ≡ updated w.nodes s n i) → ((i k : ℕ) → u.links i k ≡ v.links i k)
+  put_turns : (n : Node) (u : World) → u.sites ≡ w.sites → ((i : ℕ) → u.nodes i ≡ updated w.nodes s n i) → ((i k : ℕ) → u.links i k ≡ w.links i k)
       → ((i : ℕ) → u.headers i ≡ w.headers i) → u.packets ≡ w.packets → ((i : ℕ) → u.gathering i ≡ w.gathering i) → Turns s w u n (w.links s) w.packets (w.gathering s)
   put_turns n u sites nodes links headers packets gathering = record {
     sites = sites;
     nodes = nodes;
-    links = λ i k. links i k ∙ changed_same i k ∙ ap (λ (r : ℕ → Link). r k) (updated_self w.links s i);
+    links = λ i k. links i k ∙ ap (λ (r : ℕ → Link). r k) (updated_self w.links s i);
     headers = headers;
     sent = packets;
     gathering = λ i. gathering i ∙ updated_self w.gathering s i;
@@ -98,7 +103,7 @@ module _ (d : Doubted) (s : ℕ) (x : WriteBlocks) (fit : RowFits s d.world.site
       → EffectAt s d (happened d (Write s x.volume x.start x.bytes None) taken) (logged n x) (w.links s) (w.headers s) (d.after s) w.packets (w.gathering s)
   write_effect taken =
       effect_plain d (Write s x.volume x.start x.bytes None) (put_in (links_changed w s x) s x None) s (put_step w s x fit None can)
-      (put_turns w s x fit (logged n x) (written (links_changed w s x) s x) refl (λ i. refl) (λ i k. refl) (λ i. refl) refl (λ i. refl))
+      (put_turns w s x fit (logged n x) (written (links_marked (links_changed w s x) s (x ∷ [])) s x) refl (λ i. refl) (λ i k. marked_same w s x fit i k) (λ i. refl) refl (λ i. refl))
       (no_headers None)
 
   pub half_effect : (disk : ℕ) (taken : Bool)
@@ -106,6 +111,6 @@ module _ (d : Doubted) (s : ℕ) (x : WriteBlocks) (fit : RowFits s d.world.site
       (w.headers s) (d.after s) w.packets (w.gathering s)
   half_effect disk taken =
       effect_plain d (Write s x.volume x.start x.bytes (Some disk)) (put_in (links_changed w s x) s x (Some disk)) s (put_step w s x fit (Some disk) can)
-      (put_turns w s x fit (record n { log = n.log ++ x ∷ []; halted = Some disk; fuse = burned n.fuse }) (half_written (links_changed w s x) s x disk) refl (λ i. refl) (λ i k. refl)
+      (put_turns w s x fit (record n { log = n.log ++ x ∷ []; halted = Some disk; fuse = burned n.fuse }) (half_written (links_changed w s x) s x disk) refl (λ i. refl) (λ i k. changed_same w s x fit i k)
       (λ i. refl) refl (λ i. refl))
       (no_headers (Some disk))

@@ -95,7 +95,6 @@ link_found place l = record {
   trimmed = 0;
   mode = mode_again l.mode;
   map = no_regions;
-  read_to = 0;
   since = no_regions;
 }
 

@@ -4,7 +4,7 @@ ghost use Rattle.vx_model.specs.Content.{Write as LogWrite, blocks_in};
 ghost use Rattle.vx_model.specs.Sites.{is_origin};
 ghost use Rattle.vx_model.specs.Sizes.{is_raw_shape};
 ghost use Rattle.vx_model.specs.declared.limits.TheConstants.{MOST_NUMBER};
-ghost use Rattle.vx_model.specs.declared.link.Prot.TheVariants.{Fail as FailsWhenFull};
+ghost use Rattle.vx_model.specs.declared.link.Prot.{Prot};
 ghost use Rattle.vx_model.specs.declared.link.SyncMode.{SyncMode};
 ghost use Rattle.vx_model.specs.declared.site.Mark.{Mark};
 ghost use Rattle.vx_model.specs.declared.site.SiteState.TheVariants.{Bare, Up, Down};
@@ -12,7 +12,7 @@ ghost use Rattle.vx_model.specs.declared.site.Role.TheVariants.{Primary};
 ghost use Rattle.vx_history.specs.Sound.{is_at_rest};
 ghost use Rattle.vx_model.specs.declared.state.KeptLink.{KeptLink};
 ghost use Rattle.vx_history.specs.Doubts.{Doubted, Runs, crashed_as, halved, happened, resolved_at};
-ghost use Rattle.vx_history.specs.Events.{admitted, applied, come_back, kept_of, linked_sites, lost_touch, recovery_greeting, restarted_link, said_of_write, used_above};
+ghost use Rattle.vx_history.specs.Events.{admitted, applied, come_back, kept_of, link_with, linked_sites, lost_touch, recovery_greeting, restarted_link, said_of_write, used_above};
 ghost use Rattle.vx_history.specs.Headers.{headers_by};
 ghost use Rattle.vx_history.specs.KeptLinks.{kept_links};
 ghost use Rattle.vx_history.specs.Admission.{Goes, is_holding};
@@ -45,16 +45,17 @@ ghost use Rattle.vx_events.specs.Stamps.{waiting_of};
 ghost use Rattle.vx_effects.specs.Applies.{applied_up_to, behind_apply};
 ghost use Rattle.vx_effects.specs.Facts.{down_fact, fact_of, half_fact, halted_fact, logged_fact, marked_fact, risen_fact};
 ghost use Rattle.vx_effects.specs.Restarts.{IsAgain, are_fine, facts_again, needs_of, row_of_kept};
+ghost use Rattle.vx_effects.specs.Settings.{AllSetFail, SetsFail};
 ghost use Rattle.vx_effects.specs.Writes.{IsLetIn};
 
 /// The links of the world without sites fit. Events that are done, one that a failing disk ends, a crash of a site in doubt, and what a line notes keep
-/// the links of a world fitting.
+/// the links of a world fitting, where none of the events sets a link to anything but to fail the writes that its log has no room for.
 pub fn links_stay_fit()
     ensures empty { LinksFit (sure empty_world) }
-    ensures happened { (d : Doubted) (e : Event) (taken : Bool) → LinksFit d → LinksFit (happened d e taken) }
-    ensures run { (taken : Bool) (d : Doubted) (events : List Event) → LinksFit d → LinksFit (run_as taken d events) }
-    ensures runs { (d new : Doubted) (events : List Event) → Runs d events new → LinksFit d → LinksFit new }
-    ensures halved { (d : Doubted) (e : Event) (s disk : ℕ) → IsOpen (d.world.nodes s) → WritesAt d.world e s → LinksFit d → LinksFit (halved d e s disk) }
+    ensures happened { (d : Doubted) (e : Event) (taken : Bool) → SetsFail e → LinksFit d → LinksFit (happened d e taken) }
+    ensures run { (taken : Bool) (d : Doubted) (events : List Event) → AllSetFail events → LinksFit d → LinksFit (run_as taken d events) }
+    ensures runs { (d new : Doubted) (events : List Event) → Runs d events new → AllSetFail events → LinksFit d → LinksFit new }
+    ensures halved { (d : Doubted) (e : Event) (s disk : ℕ) → IsOpen (d.world.nodes s) → WritesAt d.world e s → SetsFail e → LinksFit d → LinksFit (halved d e s disk) }
     ensures crashed { (d : Doubted) (s kept : ℕ) (taken : Bool) → (d.world.nodes s).state ≡ Up → LinksFit d → LinksFit (crashed_as d s kept taken) }
     ensures left { (s : ℕ) (line : ScriptLine) (taken : Bool) (d last new : Doubted) → IsLeft s line taken d last new → LinksFit last → LinksFit new }
     ensures found { (d : Doubted) (s : ℕ) (n k : Node) (row : ℕ → Link) → s < d.world.sites → d.after s ≡ None → ComesUpAs s d.world.sites n k row → LinksFit d → LinksFit (found_linked d s k row) }
@@ -65,7 +66,7 @@ pub fn links_stay_fit()
 /// Each event of one site by itself, which its tests let through, leaves the others as they are, and of that site this. So does what a line notes.
 pub fn changes_one_site()
     ensures resolved { (d : Doubted) (s : ℕ) (taken : Bool) → ChangesAt s d (resolved_at d s taken) }
-    ensures crash { (d : Doubted) (s kept : ℕ) (taken : Bool) → s < (resolved_at d s taken).world.sites → ((resolved_at d s taken).world.nodes s).state ≡ Up
+    ensures crash { (d : Doubted) (s kept : ℕ) (taken : Bool) → RowFits s (resolved_at d s taken).world.sites ((resolved_at d s taken).world.links s) → s < (resolved_at d s taken).world.sites → ((resolved_at d s taken).world.nodes s).state ≡ Up
         → EffectAt s d (happened d (Crash s kept) taken) (crashed ((resolved_at d s taken).world.nodes s) (kept_of ((resolved_at d s taken).world.nodes s) kept))
         (λ k. lost_touch ((resolved_at d s taken).world.links s k)) (d.world.headers s) None d.world.packets None }
     ensures recover { (d : Doubted) (s : ℕ) (taken : Bool) → s < d.world.sites → (d.world.nodes s).state ≡ Down → (d.world.nodes s).session < MOST_NUMBER
@@ -98,8 +99,8 @@ pub fn changes_one_site()
     ensures fault { (d : Doubted) (s disk : ℕ) (taken : Bool) → s < d.world.sites → (d.world.nodes s).state ≡ Up
         → EffectAt s d (happened d (Fault s disk) taken) (record (d.world.nodes s) { halted = Some disk; fuse = burned (d.world.nodes s).fuse }) (d.world.links s) (d.world.headers s) (d.after s)
         d.world.packets (d.world.gathering s) }
-    ensures set { (d : Doubted) (s q : ℕ) (sync : SyncMode) (taken : Bool) → (step d.world (Set s q sync)).said ≡ Done
-        → EffectAt s d (happened d (Set s q sync) taken) (d.world.nodes s) (updated (d.world.links s) q (record (d.world.links s q) { sync = sync; prot = FailsWhenFull }))
+    ensures set { (d : Doubted) (s q : ℕ) (sync : SyncMode) (prot : Prot) (taken : Bool) → (step d.world (Set s q sync prot)).said ≡ Done
+        → EffectAt s d (happened d (Set s q sync prot) taken) (d.world.nodes s) (updated (d.world.links s) q (link_with sync prot (d.world.links s q)))
         (d.world.headers s + 1) (d.after s) d.world.packets (d.world.gathering s) }
     ensures raw { (d : Doubted) (s : ℕ) (taken : Bool) → s < d.world.sites → (d.world.nodes s).state ≡ Bare → is_raw_shape (d.world.nodes s).disks (d.world.nodes s).blocks ≡ true
         → EffectAt s d (happened d (Raw s) taken) (raw_set s (d.world.nodes s)) (d.world.links s) (d.world.headers s) (d.after s) d.world.packets (d.world.gathering s) }
@@ -108,7 +109,7 @@ pub fn changes_one_site()
     ensures again { (d : Doubted) (s : ℕ) (taken : Bool) → s < d.world.sites → is_at_rest (d.world.nodes s).state ≡ true → (d.world.nodes s).role ≡ Primary
         → (d.world.nodes s).volumes ≡ [] → (d.world.nodes s).log ≡ []
         → EffectAt s d (happened d (Group s) taken) (group_up (d.world.nodes s)) (d.world.links s) (d.world.headers s) (d.after s) d.world.packets (d.world.gathering s) }
-    ensures deport { (d : Doubted) (s : ℕ) (taken : Bool) → s < d.world.sites → (d.world.nodes s).state ≡ Up → (d.world.nodes s).halted ≡ None
+    ensures deport { (d : Doubted) (s : ℕ) (taken : Bool) → RowFits s d.world.sites (d.world.links s) → s < d.world.sites → (d.world.nodes s).state ≡ Up → (d.world.nodes s).halted ≡ None
         → EffectAt s d (happened d (Deport s) taken) (deported_site (d.world.nodes s).fuse (crashed (d.world.nodes s) (kept_of (d.world.nodes s) 0))) (λ k. lost_touch (d.world.links s k)) (d.world.headers s) (d.after s)
         d.world.packets None }
     ensures note { (d : Doubted) (s : ℕ) (n : Node) → EffectAt s d (record d { world = with_node d.world s n }) n (d.world.links s) (d.world.headers s) (d.after s) d.world.packets (d.world.gathering s) }

@@ -1,5 +1,6 @@
 // What the events of a line that makes a link change, that each follows the one before it, and what is then seen and kept of the links.
 ghost use Rattle.std.specs.Prelude.{◌≡◌, ◌⊎◌, ℕ, List, Option, ◌+◌, ◌<◌, ◌++◌, ◌∷◌, [], Bool, true, false, Some, None};
+ghost use Rattle.vx_model.specs.declared.link.Prot.{Prot};
 ghost use Rattle.vx_model.specs.declared.link.SyncMode.{SyncMode};
 ghost use Rattle.vx_model.specs.declared.site.Mark.{Mark};
 ghost use Rattle.vx_model.specs.declared.site.Mark.TheVariants.{Consistent};
@@ -26,27 +27,27 @@ ghost use Rattle.vx_effects.specs.LinkParts.{further_fact, joined_fact, kept_ove
 /// Each part of a line that links s to p, if it is done, leaves all sites but one as they are. That one has one header more: s as it comes to
 /// the line of p, where nothing is in assembly any more, and as it is marked; p as it has the link, and as that goes by the log.
 pub fn parts_change_one_site()
-    ensures joins { (d : Doubted) (p s : ℕ) (sync : SyncMode) (taken : Bool) → (step d.world (LinkAt p s sync Joins)).said ≡ Done
-        → EffectAt s d (happened d (LinkAt p s sync Joins) taken) (joined (d.world.nodes p) p (d.world.nodes s)) (d.world.links s) (d.world.headers s + 1) (d.after s) d.world.packets None }
-    ensures made { (d : Doubted) (p s : ℕ) (sync : SyncMode) (taken : Bool) → (step d.world (LinkAt p s sync Made)).said ≡ Done
-        → EffectAt p d (happened d (LinkAt p s sync Made) taken) (d.world.nodes p) (updated (d.world.links p) s (new_link (count_links_of d.world p) sync (d.world.nodes s)))
+    ensures joins { (d : Doubted) (p s : ℕ) (sync : SyncMode) (prot : Prot) (taken : Bool) → (step d.world (LinkAt p s sync prot Joins)).said ≡ Done
+        → EffectAt s d (happened d (LinkAt p s sync prot Joins) taken) (joined (d.world.nodes p) p (d.world.nodes s)) (d.world.links s) (d.world.headers s + 1) (d.after s) d.world.packets None }
+    ensures made { (d : Doubted) (p s : ℕ) (sync : SyncMode) (prot : Prot) (taken : Bool) → (step d.world (LinkAt p s sync prot Made)).said ≡ Done
+        → EffectAt p d (happened d (LinkAt p s sync prot Made) taken) (d.world.nodes p) (updated (d.world.links p) s (new_link (count_links_of d.world p) sync prot (d.world.nodes s)))
         (d.world.headers p + 1) (d.after p) d.world.packets (d.world.gathering p) }
-    ensures marked { (d : Doubted) (p s : ℕ) (sync : SyncMode) (taken : Bool) → (step d.world (LinkAt p s sync Marked)).said ≡ Done
-        → EffectAt s d (happened d (LinkAt p s sync Marked) taken) (record (d.world.nodes s) { mark = Consistent }) (d.world.links s) (d.world.headers s + 1) (d.after s) d.world.packets
+    ensures marked { (d : Doubted) (p s : ℕ) (sync : SyncMode) (prot : Prot) (taken : Bool) → (step d.world (LinkAt p s sync prot Marked)).said ≡ Done
+        → EffectAt s d (happened d (LinkAt p s sync prot Marked) taken) (record (d.world.nodes s) { mark = Consistent }) (d.world.links s) (d.world.headers s + 1) (d.after s) d.world.packets
         (d.world.gathering s) }
-    ensures opened { (d : Doubted) (p s : ℕ) (sync : SyncMode) (taken : Bool) → (step d.world (LinkAt p s sync Opened)).said ≡ Done
-        → EffectAt p d (happened d (LinkAt p s sync Opened) taken) (d.world.nodes p) (updated (d.world.links p) s (opened (d.world.links p s) (d.world.nodes p).safe))
+    ensures opened { (d : Doubted) (p s : ℕ) (sync : SyncMode) (prot : Prot) (taken : Bool) → (step d.world (LinkAt p s sync prot Opened)).said ≡ Done
+        → EffectAt p d (happened d (LinkAt p s sync prot Opened) taken) (d.world.nodes p) (updated (d.world.links p) s (opened (d.world.links p s) (d.world.nodes p).safe))
         (d.world.headers p + 1) (d.after p) d.world.packets (d.world.gathering p) }
 {}
 
 /// Behind the part that brings s to the line of p each further part is done.
 pub fn parts_follow()
-    ensures made { (w : World) (p s : ℕ) (sync : SyncMode) → (step w (LinkAt p s sync Joins)).said ≡ Done
-        → (step (run w (LinkAt p s sync Joins ∷ [])) (LinkAt p s sync Made)).said ≡ Done }
-    ensures marked { (w : World) (p s : ℕ) (sync : SyncMode) → (step w (LinkAt p s sync Joins)).said ≡ Done
-        → (step (run w (LinkAt p s sync Joins ∷ LinkAt p s sync Made ∷ [])) (LinkAt p s sync Marked)).said ≡ Done }
-    ensures opened { (w : World) (p s : ℕ) (sync : SyncMode) → (step w (LinkAt p s sync Joins)).said ≡ Done
-        → (step (run w (LinkAt p s sync Joins ∷ LinkAt p s sync Made ∷ LinkAt p s sync Marked ∷ [])) (LinkAt p s sync Opened)).said ≡ Done }
+    ensures made { (w : World) (p s : ℕ) (sync : SyncMode) (prot : Prot) → (step w (LinkAt p s sync prot Joins)).said ≡ Done
+        → (step (run w (LinkAt p s sync prot Joins ∷ [])) (LinkAt p s sync prot Made)).said ≡ Done }
+    ensures marked { (w : World) (p s : ℕ) (sync : SyncMode) (prot : Prot) → (step w (LinkAt p s sync prot Joins)).said ≡ Done
+        → (step (run w (LinkAt p s sync prot Joins ∷ LinkAt p s sync prot Made ∷ [])) (LinkAt p s sync prot Marked)).said ≡ Done }
+    ensures opened { (w : World) (p s : ℕ) (sync : SyncMode) (prot : Prot) → (step w (LinkAt p s sync prot Joins)).said ≡ Done
+        → (step (run w (LinkAt p s sync prot Joins ∷ LinkAt p s sync prot Made ∷ LinkAt p s sync prot Marked ∷ [])) (LinkAt p s sync prot Opened)).said ≡ Done }
 {}
 
 /// What the tests of a line see of a site without links that came to the line of another one, of one with a link more, and of one that is marked.

@@ -17,7 +17,7 @@ use Rattle.vx_model.specs.declared.site.SiteState.{SiteState}
 use Rattle.vx_model.specs.declared.site.SiteState.TheVariants.{Bare, Up, Deported, Down}
 use Rattle.vx_history.proofs.Updates.{all_updated}
 use Rattle.vx_history.specs.Admission.{Admitted, Held_by, Goes}
-use Rattle.vx_history.specs.Events.{fall_from, group_again, group_from, is_plain_group, admitted, written_if, put_in, links_changed, link_after, acknowledged, applied, applied_by, apply_at, reached_at, crash_at, deport_at, crash_world, kept_of, lost_touch, recover_from, recovery, recovered_at, restarted_link, come_back, recovery_greeting}
+use Rattle.vx_history.specs.Events.{fall_from, group_again, group_from, is_plain_group, admitted, written_if, put_in, links_changed, link_after, acknowledged, applied, applied_by, apply_at, reached_at, crash_at, deport_at, crash_world, kept_of, link_left, link_marked, links_marked, recover_from, recovery, recovered_at, restarted_link, come_back, recovery_greeting}
 use Rattle.vx_history.specs.LinkForms.{plain_receiver}
 use Rattle.vx_history.specs.Receiving.{Received, received_step}
 use Rattle.vx_history.specs.Refusals.{Outcome, says, unless, unless_halted, is_primary, some_below, at_site, at_work, on_volume}
@@ -28,7 +28,7 @@ use Rattle.vx_history.specs.declared.event.Said.TheVariants.{Got, Refused}
 use Rattle.vx_history.specs.Steps.{site_made, raw_made, raw_set, group_back, group_made, group_set, group_up, written, logged, half_written, crashed, crash_left, deported_site, deported_world, fallen_site, fallen_world, session_begun, stopped_by, recovered, burned}
 use Rattle.vx_history.specs.World.{Node, Fuse, Link as LinkOf, World, bare_site, updated, with_node}
 use Rattle.vx_history.specs.declared.event.Event.{Event}
-use Rattle.vx_history.specs.declared.event.Event.TheVariants.{Site, Raw, Group, Volumes, Write, Read, Apply, Pump, Tick, Deliver, Connect, Cut, Pause, Resume, Wait, Link, Set, Crash, Deport, Fall, Recover, Fault}
+use Rattle.vx_history.specs.declared.event.Event.TheVariants.{Site, Raw, Group, Volumes, Write, Read, Apply, Pump, Tick, Deliver, Connect, Cut, Pause, Resume, Wait, Link, Set, Attach, Detach, Crash, Deport, Fall, Recover, Fault}
 use Rattle.vx_history.specs.declared.receiver.RAction.{RAction}
 use Rattle.vx_history.specs.declared.receiver.RAction.TheVariants.{Nothing, Ignored, IgnoredAck, Take, DataAck}
 use Rattle.vx_history.specs.declared.receiver.RState.{RState}
@@ -65,6 +65,7 @@ pub record KeptBy (P : World → Type 0) : Type 0 where
   pub back : (w : World) (s : ℕ) → P w → P (group_back w s)
   pub volumes : (w : World) (s log : ℕ) (xs : List DataVolume) → P w → P (volumes_made w s log xs)
   pub links : (w : World) (s : ℕ) (x : WriteBlocks) → P w → P (links_changed w s x)
+  pub marks : (w : World) (s : ℕ) (xs : List WriteBlocks) → P w → P (links_marked w s xs)
   pub write : (w : World) (s : ℕ) (x : WriteBlocks) → P w → P (written w s x)
   pub half : (w : World) (s : ℕ) (x : WriteBlocks) (disk : ℕ) → P w → P (half_written w s x disk)
   pub apply : (w : World) (s number : ℕ) (mark : Mark) → P w → P (acknowledged w s (applied (w.nodes s) number mark))
@@ -116,7 +117,7 @@ read_stays w s volume start count = past_volume (λ (v : World). v ≡ w) w s vo
 
 module _ (P : World → Type 0) (keeps : KeptBy P) where
   put_keeps : (w : World) (s : ℕ) (x : WriteBlocks) (fails : Option ℕ) → P w → Holds P (put_in w s x fails)
-  put_keeps w s x None p = keeps.write w s x p
+  put_keeps w s x None p = keeps.write (links_marked w s (x ∷ [])) s x (keeps.marks w s (x ∷ []) p)
   put_keeps w s x (Some disk) p = keeps.half w s x disk p
 
   written_keeps : (a : Admitted) (w : World) (s : ℕ) (x : WriteBlocks) (fails : Option ℕ) → P w → Holds P (written_if a w s x fails)
@@ -211,8 +212,10 @@ module _ (P : World → Type 0) (keeps : KeptBy P) where
   outcome_keeps w (Pause s q) one p = absurd one
   outcome_keeps w (Resume s q) one p = absurd one
   outcome_keeps w (Wait s number) one p = absurd one
-  outcome_keeps w (Link s q sync part) one p = absurd one
-  outcome_keeps w (Set s q sync) one p = absurd one
+  outcome_keeps w (Link s q sync prot part) one p = absurd one
+  outcome_keeps w (Set s q sync prot) one p = absurd one
+  outcome_keeps w (Attach s q) one p = absurd one
+  outcome_keeps w (Detach s q) one p = absurd one
 
   pub step_keeps : (w : World) (e : Event) → IsSingle e → P w → P (step w e).world
   step_keeps w e one p = keeps.count (outcome_of w e).world (λ i. w.headers i + headers_by e w (outcome_of w e) i) (outcome_keeps w e one p)
@@ -244,12 +247,13 @@ unlinked_kept = record {
   back = λ w s none. same_links w (group_back w s) (λ p q. refl) none;
   volumes = λ w s log xs none. same_links w (volumes_made w s log xs) (λ p q. refl) none;
   links = λ w s x none. row_unlinked w s (λ k. link_after (w.nodes s) x k (w.links s k)) none (λ k. refl);
+  marks = λ w s xs none. row_unlinked w s (λ k. link_marked xs (w.links s k)) none (λ k. refl);
   write = λ w s x none. same_links w (written w s x) (λ p q. refl) none;
   half = λ w s x disk none. same_links w (half_written w s x disk) (λ p q. refl) none;
   apply = λ w s number mark none. same_links w (acknowledged w s (applied (w.nodes s) number mark)) (λ p q. refl) none;
   crash = λ w s kept none.
-      same_links (with_links (crash_world w s kept) s (λ to. lost_touch (w.links s to))) (crash_at w s kept) (λ p q. refl)
-      (row_unlinked (crash_world w s kept) s (λ to. lost_touch (w.links s to)) (same_links w (crash_world w s kept) (crash_links (is_origin (w.nodes s).role) w s kept) none)
+      same_links (with_links (crash_world w s kept) s (λ to. link_left (w.nodes s) kept (w.links s to))) (crash_at w s kept) (λ p q. refl)
+      (row_unlinked (crash_world w s kept) s (λ to. link_left (w.nodes s) kept (w.links s to)) (same_links w (crash_world w s kept) (crash_links (is_origin (w.nodes s).role) w s kept) none)
       (λ k. ap (λ (l : LinkOf). is_linked l) (sym (crash_links (is_origin (w.nodes s).role) w s kept s k))));
   fall = λ w s none. same_links w (fallen_world w s) (λ p q. refl) none;
   deport = λ w s fuse none. same_links w (deported_world fuse w s) (λ p q. refl) none;
@@ -296,6 +300,7 @@ primaries_kept = record {
   back = λ w s all. node_primary w (group_back w s) s (group_up (w.nodes s)) (λ k. refl) (all.each s) all;
   volumes = λ w s log xs all. node_primary w (volumes_made w s log xs) s (volumes_set log xs (w.nodes s)) (λ k. refl) (all.each s) all;
   links = λ w s x all. record { each = all.each };
+  marks = λ w s xs all. record { each = all.each };
   write = λ w s x all. node_primary w (written w s x) s (logged (w.nodes s) x) (λ k. refl) (all.each s) all;
   half = λ w s x disk all. node_primary w (half_written w s x disk) s (record (w.nodes s) { log = (w.nodes s).log ++ x ∷ []; halted = Some disk; fuse = burned (w.nodes s).fuse }) (λ k. refl) (all.each s) all;
   apply = λ w s number mark all. node_primary w (acknowledged w s (applied (w.nodes s) number mark)) s (applied (w.nodes s) number mark) (λ k. refl) (all.each s) all;

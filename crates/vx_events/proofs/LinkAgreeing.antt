@@ -6,6 +6,7 @@ use Rattle.std.proofs.lemmas.Bool.Decides.{nat_tests}
 use Rattle.vx_model.specs.Sites.{is_origin}
 use Rattle.vx_model.specs.declared.limits.TheConstants.{MOST_PACKETS}
 use Rattle.vx_model.specs.declared.link.SyncMode.{SyncMode}
+use Rattle.vx_model.specs.declared.link.Prot.TheVariants.{Fail as FailsWhenFull}
 use Rattle.vx_model.specs.declared.link.Prot.{Prot}
 use Rattle.vx_model.specs.declared.no.Named.TheVariants.{Number as ByNumber}
 use Rattle.vx_model.specs.declared.no.No.TheVariants.{Unknown, Role as WrongRole, LinkDown, Paused}
@@ -54,7 +55,7 @@ module _ (w : World) (files : Bool) (p s : List ℕ) where
   abbrev b : ℕ
   b = site_number w s
 
-  pub set_agrees : (sync : SyncMode) (prot : Prot) → refused_over w files (Set p s sync prot) ≡ None → (step w (SetAt a b sync)).said ≡ Done
+  pub set_agrees : (sync : SyncMode) (prot : Prot) → refused_over w files (Set p s sync prot) ≡ None → (step w (SetAt a b sync FailsWhenFull)).said ≡ Done
   unfolding first_name second_name need_of halt_of ask_of
   set_agrees sync prot free =
       let t = passes (facts_over w) files (Set p s sync prot) free in

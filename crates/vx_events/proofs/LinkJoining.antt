@@ -8,6 +8,7 @@ use Rattle.std.proofs.lemmas.Bool.Decides.{nat_tests}
 use Rattle.vx_model.specs.Sites.{is_up, is_origin, same_line, first_line}
 use Rattle.vx_model.specs.declared.limits.TheConstants.{MOST_LINKS}
 use Rattle.vx_model.specs.declared.link.SyncMode.{SyncMode}
+use Rattle.vx_model.specs.declared.link.Prot.TheVariants.{Fail as FailsWhenFull}
 use Rattle.vx_model.specs.declared.link.Prot.{Prot}
 use Rattle.vx_model.specs.declared.no.Counted.TheVariants.{Links}
 use Rattle.vx_model.specs.declared.no.No.{No}
@@ -155,7 +156,7 @@ record MayJoin (w : World) (a b : ℕ) : Type 0 where
   few : count_links_of w a < MOST_LINKS
   fits : (sizes_meet (w.nodes a).volumes (w.nodes b).volumes && history.rings_fit (w.nodes a) (w.nodes b)) ≡ true
 
-joins_step : (w : World) (a b : ℕ) (sync : SyncMode) → MayJoin w a b → outcome_of w (LinkAt a b sync Joins) ≡ done (emptied (with_node w b (joined (w.nodes a) a (w.nodes b))) b)
+joins_step : (w : World) (a b : ℕ) (sync : SyncMode) → MayJoin w a b → outcome_of w (LinkAt a b sync FailsWhenFull Joins) ≡ done (emptied (with_node w b (joined (w.nodes a) a (w.nodes b))) b)
 joins_step w a b sync m =
     let o : Outcome = done (emptied (with_node w b (joined (w.nodes a) a (w.nodes b))) b) in
     let sized : Outcome = unless (not (sizes_meet (w.nodes a).volumes (w.nodes b).volumes && history.rings_fit (w.nodes a) (w.nodes b))) Size w o in
@@ -255,7 +256,7 @@ join_apart w files p s sync prot free =
     (apart_shown w a is_unused refl unused.0, apart_shown w b is_unused refl unused.1)
 
 pub join_agrees : (w : World) (files : Bool) (p s : List ℕ) (sync : SyncMode) (prot : Prot) → AreDurable w → AreListed w → refused_over w files (Link p s sync prot) ≡ None
-    → (step w (LinkAt (site_number w p) (site_number w s) sync Joins)).said ≡ Done
+    → (step w (LinkAt (site_number w p) (site_number w s) sync FailsWhenFull Joins)).said ≡ Done
 unfolding first_name second_name need_of halt_of ask_of first_said_no
 join_agrees w files p s sync prot whole listed free =
     let t = passes (facts_over w) files (Link p s sync prot) free in

@@ -59,12 +59,12 @@ set_line = Set a b FailsIfNotLive FailsWhenFull
 abbrev doubt : Doubted
 doubt =
     let d = behind two link_line in
-    let last = halved d (SetAt 0 1 FailsIfNotLive) 0 0 in record last { world = link_noted d.world set_line last.world }
+    let last = halved d (SetAt 0 1 FailsIfNotLive FailsWhenFull) 0 0 in record last { world = link_noted d.world set_line last.world }
 
 sets : LineStep (Unit {0}) false (behind two link_line) set_line ((0, 0) ∷ []) (Refused (Device 0)) doubt
 unfolding line_refusal first_said_no first_name second_name need_of halt_of line_role line_unknown taken over_limit wrong_size span_of ask_of is_raw_shape
 sets = record {
-  ends = LinksHalt (SetAt 0 1 FailsIfNotLive) 0 0 (behind two link_line)
+  ends = LinksHalt (SetAt 0 1 FailsIfNotLive FailsWhenFull) 0 0 (behind two link_line)
       (record { before = []; rest = []; split = refl; runs = refl; fails = refl; opens = (refl, refl); writes = refl }) (λ none. refl) refl refl (record { world = refl; after = λ s. refl });
   counts = tt;
   works = λ said. refl;

@@ -1,5 +1,5 @@
 -- What is said of an event that no test of its own refuses, and the world that it leaves.
-use Rattle.std.proofs.Common.{◌≡◌, ◌∙◌, ◌+◌, ◌<◌, ◌≤◌, ℕ, zero, suc, Bool, true, false, ap, refl, arith, length, List, []}
+use Rattle.std.proofs.Common.{◌≡◌, ◌∙◌, ◌+◌, ◌<◌, ◌≤◌, ℕ, zero, suc, Bool, true, false, ap, refl, arith, length, List, [], ◌∷◌}
 use Rattle.std.specs.Prelude.{not, ◌&&◌, ◌||◌, leb, ltb, eqb, min, max, Option, Some, None, bytes_eq, if◌then◌else◌}
 use Rattle.vx_model.specs.Answer.{is_too_large}
 use Rattle.vx_model.specs.Content.{Write as WriteBlocks, blocks_in, blocks_from}
@@ -15,7 +15,7 @@ use Rattle.vx_history.proofs.Updates.{at_place}
 use Rattle.vx_history.specs.Sound.{is_at_rest}
 use Rattle.vx_model.specs.declared.site.Role.TheVariants.{Primary}
 use Rattle.vx_history.specs.Admission.{Admitted, Goes, admit}
-use Rattle.vx_history.specs.Events.{group_again, group_from, is_plain_group, admitted, written_if, put_in, links_changed, link_after, said_of_write, is_in_place, link_in_place, put_before, linked_sites, plain_links, log_uses, reached_at, apply_at, crash_at, deport_at, kept_of, recover_from, recovery}
+use Rattle.vx_history.specs.Events.{group_again, group_from, is_plain_group, admitted, written_if, put_in, links_changed, links_marked, link_after, said_of_write, is_in_place, link_in_place, put_before, linked_sites, plain_links, log_uses, reached_at, apply_at, crash_at, deport_at, kept_of, recover_from, recovery}
 use Rattle.vx_history.specs.Refusals.{Outcome, says, unless, at_work, some_below, is_waited_for, waits, goes, refused}
 use Rattle.vx_history.specs.Sends.{is_made, is_linked}
 use Rattle.vx_history.specs.Step.{outcome_of, done, joined_blocks}
@@ -159,9 +159,9 @@ confirmed w s x number none =
     unwaited k l e = ap (λ (b : Bool). b && (waits l.sync && goes k l)) e
 
 pub write_step : (w : World) (s : ℕ) (x : WriteBlocks) → CanPut w s x
-    → outcome_of w (Write s x.volume x.start x.bytes None) ≡ says (written (links_changed w s x) s x) (DoneAt ((w.nodes s).safe + 1))
+    → outcome_of w (Write s x.volume x.start x.bytes None) ≡ says (written (links_marked (links_changed w s x) s (x ∷ [])) s x) (DoneAt ((w.nodes s).safe + 1))
 write_step w s x can =
-    put_step w s x None can ∙ ap (λ (said : Said). says (written (links_changed w s x) s x) said) (confirmed w s x ((w.nodes s).safe + 1) can.unlinked)
+    put_step w s x None can ∙ ap (λ (said : Said). says (written (links_marked (links_changed w s x) s (x ∷ [])) s x) said) (confirmed w s x ((w.nodes s).safe + 1) can.unlinked)
 
 pub half_step : (w : World) (s : ℕ) (x : WriteBlocks) (disk : ℕ) → CanPut w s x
     → outcome_of w (Write s x.volume x.start x.bytes (Some disk)) ≡ says (half_written (links_changed w s x) s x disk) (Refused (Device disk))

@@ -12,7 +12,7 @@ use Rattle.vx_model.specs.declared.site.SiteState.TheVariants.{Up}
 use Rattle.vx_history.proofs.Updates.{all_updated, at_place}
 use Rattle.vx_history.specs.Admission.{Admitted, Held_by, Goes}
 use Rattle.vx_history.specs.Doubts.{After, Doubted, halved, resolved, taken_up, crashed_as}
-use Rattle.vx_history.specs.Events.{admitted, written_if, put_in, links_changed, crash_at, kept_of, lost_touch}
+use Rattle.vx_history.specs.Events.{admitted, written_if, put_in, links_changed, crash_at, kept_of, link_left}
 use Rattle.vx_history.specs.Headers.{headers_by}
 use Rattle.vx_history.specs.Likes.{IsLike, SameLink}
 use Rattle.vx_history.specs.Refusals.{Outcome}
@@ -151,9 +151,10 @@ module _ (s kept : ℕ) (a v : World) (near : IsNear s a v) where
 
   rows_same : (i : ℕ) → (crash_at v s (kept_of (v.nodes s) kept)).links i ≡ (crash_at a s (kept_of (a.nodes s) kept)).links i
   rows_same i =
-      let row : ℕ → LinkOf = λ to. lost_touch (a.links s to) in
-      ap (λ (f : ℕ → ℕ → LinkOf). updated f s (λ to. lost_touch (v.links s to)) i) (links_are (is_origin (v.nodes s).role) v s (crashed (v.nodes s) (kept_of (v.nodes s) kept)) (kept_by (v.lines (v.nodes s).line) (v.nodes s) (kept_of (v.nodes s) kept)))
-      ∙ ap (λ (r : ℕ → LinkOf). updated v.links s (λ to. lost_touch (r to)) i) (near.rows s)
+      let row : ℕ → LinkOf = λ to. link_left (a.nodes s) (kept_of (a.nodes s) kept) (a.links s to) in
+      ap (λ (f : ℕ → ℕ → LinkOf). updated f s (λ to. link_left (v.nodes s) (kept_of (v.nodes s) kept) (v.links s to)) i) (links_are (is_origin (v.nodes s).role) v s (crashed (v.nodes s) (kept_of (v.nodes s) kept)) (kept_by (v.lines (v.nodes s).line) (v.nodes s) (kept_of (v.nodes s) kept)))
+      ∙ ap (λ (n : Node). updated v.links s (λ to. link_left n (kept_of n kept) (v.links s to)) i) (sym near.here)
+      ∙ ap (λ (r : ℕ → LinkOf). updated v.links s (λ to. link_left (a.nodes s) (kept_of (a.nodes s) kept) (r to)) i) (near.rows s)
       ∙ all_updated (λ j r. r ≡ updated a.links s row j) v.links s row (sym (at_place a.links s row)) (λ j apart. near.rows j ∙ sym (other_place a.links s row j apart)) i
       ∙ ap (λ (f : ℕ → ℕ → LinkOf). updated f s row i) (sym (links_are (is_origin (a.nodes s).role) a s (crashed (a.nodes s) (kept_of (a.nodes s) kept)) (kept_by (a.lines (a.nodes s).line) (a.nodes s) (kept_of (a.nodes s) kept))))
 

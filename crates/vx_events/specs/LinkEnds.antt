@@ -59,8 +59,8 @@ ReadsLog w other site = ⊥
 
 -- an event that writes a header of this site's log, or records, each of which takes a number
 abbrev pub TakesNumber : World → Event → (site : ℕ) → Type 0
-TakesNumber w (LinkAt p s sync part) site = IsPartAt part p s site
-TakesNumber w (SetAt p s sync) site = p ≡ site
+TakesNumber w (LinkAt p s sync prot part) site = IsPartAt part p s site
+TakesNumber w (SetAt p s sync prot) site = p ≡ site
 TakesNumber w (DeliverAt number) site = IsHeardAt w number site
 TakesNumber w (ApplyAt s count reached) site = s ≡ site
 TakesNumber w other site = ⊥

@@ -2,6 +2,7 @@
 ghost use Rattle.std.specs.Prelude.{◌≡◌, ◌⊎◌, ◌*◌, ℕ, List, Bool, Some, None, false, length, replicate};
 ghost use Rattle.vx_model.specs.declared.link.SyncMode.{SyncMode};
 ghost use Rattle.vx_model.specs.declared.link.Prot.{Prot};
+ghost use Rattle.vx_model.specs.declared.link.Prot.TheVariants.{Fail as FailsWhenFull};
 ghost use Rattle.vx_history.specs.Admission.{Goes};
 ghost use Rattle.vx_history.specs.Doubts.{Doubted};
 ghost use Rattle.vx_history.specs.Events.{packet_at, admitted};
@@ -32,7 +33,7 @@ use vx_model::limits::BLOCK;
 /// may be settled.
 pub fn link_tests_agree()
     ensures set { (w : World) (files : Bool) (p s : List ℕ) (sync : SyncMode) (prot : Prot) → refused_over w files (Set p s sync prot) ≡ None
-        → (step w (SetAt (site_number w p) (site_number w s) sync)).said ≡ Done }
+        → (step w (SetAt (site_number w p) (site_number w s) sync FailsWhenFull)).said ≡ Done }
     ensures connect { (w : World) (files : Bool) (p s : List ℕ) → refused_over w files (Connect p s) ≡ None → (step w (ConnectAt (site_number w p) (site_number w s))).said ≡ Done }
     ensures cut { (w : World) (files : Bool) (p s : List ℕ) → refused_over w files (Cut p s) ≡ None → (step w (CutAt (site_number w p) (site_number w s))).said ≡ Done }
     ensures pause { (w : World) (files : Bool) (p s : List ℕ) → refused_over w files (Pause p s) ≡ None → (step w (PauseAt (site_number w p) (site_number w s))).said ≡ Done }
@@ -40,7 +41,7 @@ pub fn link_tests_agree()
     ensures tick { (w : World) (files : Bool) (p s : List ℕ) → refused_over w files (Tick p s) ≡ None → (step w (TickAt (site_number w p) (site_number w s))).said ≡ Done }
     ensures pump { (w : World) (files : Bool) (p s : List ℕ) → refused_over w files (Pump p s) ≡ None → (step w (PumpAt (site_number w p) (site_number w s))).said ≡ Done }
     ensures link { (w : World) (files : Bool) (p s : List ℕ) (sync : SyncMode) (prot : Prot) → AreDurable w → AreListed w → refused_over w files (Link p s sync prot) ≡ None
-        → (step w (LinkAt (site_number w p) (site_number w s) sync Joins)).said ≡ Done }
+        → (step w (LinkAt (site_number w p) (site_number w s) sync FailsWhenFull Joins)).said ≡ Done }
     ensures wait { (w : World) (files : Bool) (p : List ℕ) (number : ℕ) → AreListed w → refused_over w files (Wait p number) ≡ None
         → ((step w (WaitAt (site_number w p) number)).said ≡ DoneAt number) ⊎ ((step w (WaitAt (site_number w p) number)).said ≡ Pending number) }
     ensures deliver { (w : World) (files : Bool) (number : ℕ) → refused_over w files (Deliver number) ≡ None → (q : Packet) × (packet_at w.packets number ≡ Some q) }

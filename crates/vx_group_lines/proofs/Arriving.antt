@@ -139,7 +139,7 @@ arrives_crash d e s n before arrives below up log safe =
     arrives_as d (happened e (CrashAt s 0) false) s (crashed (e.world.nodes s) (kept_of (e.world.nodes s) 0)) (crashed n 0) None
     (ap (λ (x : Node). crashed x (kept_of x 0)) arrives.node ∙ ap (λ (k : ℕ). crashed n k) none)
     (arrives_then d e (happened e (CrashAt s 0) false) s n (crashed (e.world.nodes s) (kept_of (e.world.nodes s) 0)) row (e.world.headers s) None e.world.packets before None arrives
-    (crash_effect e s 0 false below up_there) (fit_happened e (CrashAt s 0) false arrives.fits) refl refl (touch_kept (e.world.links s) e.world.sites ∙ arrives.links))
+    (crash_effect e s 0 false (arrives.fits.rows s) below up_there) (fit_happened e (CrashAt s 0) false tt arrives.fits) refl refl (touch_kept (e.world.links s) e.world.sites ∙ arrives.links))
 
 -- a group that is down or deported comes up
 pub arrives_up : (d e : Doubted) (s : ℕ) (n : Node) (before : Option Gathering) → Arrives d e s n before → s < e.world.sites → is_at_rest n.state ≡ true → n.role ≡ Primary → n.volumes ≡ [] → n.log ≡ []
@@ -150,7 +150,7 @@ arrives_up d e s n before arrives below rest role volumes log =
     (arrives_then d e (happened e (GroupAt s) false) s n (group_up (e.world.nodes s)) (e.world.links s) (e.world.headers s) (e.after s) e.world.packets before (e.world.gathering s) arrives
     (again_effect e s false below (ap (λ (x : Node). is_at_rest x.state) arrives.node ∙ rest) (ap (λ (x : Node). x.role) arrives.node ∙ role)
     (ap (λ (x : Node). x.volumes) arrives.node ∙ volumes) (ap (λ (x : Node). x.log) arrives.node ∙ log))
-    (fit_happened e (GroupAt s) false arrives.fits) arrives.sure refl arrives.links))
+    (fit_happened e (GroupAt s) false tt arrives.fits) arrives.sure refl arrives.links))
 
 -- a bare site becomes a group
 pub arrives_made : (d e : Doubted) (s : ℕ) (n : Node) (before : Option Gathering) → Arrives d e s n before → s < e.world.sites → n.state ≡ Bare
@@ -159,7 +159,7 @@ arrives_made d e s n before arrives below bare =
     arrives_as d (happened e (GroupAt s) false) s (group_set s (e.world.nodes s)) (group_set s n) before (ap (λ (x : Node). group_set s x) arrives.node)
     (subst (λ (o : Option Gathering). Arrives d (happened e (GroupAt s) false) s (group_set s (e.world.nodes s)) o) arrives.gathering
     (arrives_then d e (happened e (GroupAt s) false) s n (group_set s (e.world.nodes s)) (e.world.links s) (e.world.headers s) (e.after s) e.world.packets before (e.world.gathering s) arrives
-    (group_effect e s false below (ap (λ (x : Node). x.state) arrives.node ∙ bare)) (fit_happened e (GroupAt s) false arrives.fits) arrives.sure refl arrives.links))
+    (group_effect e s false below (ap (λ (x : Node). x.state) arrives.node ∙ bare)) (fit_happened e (GroupAt s) false tt arrives.fits) arrives.sure refl arrives.links))
 
 -- a group is deported
 pub arrives_away : (d e : Doubted) (s : ℕ) (n : Node) (before : Option Gathering) → Arrives d e s n before → s < e.world.sites → n.state ≡ Up → n.halted ≡ None → n.log ≡ [] → n.safe ≡ 0
@@ -171,5 +171,5 @@ arrives_away d e s n before arrives below up runs log safe =
     arrives_as d (happened e (DeportAt s) false) s there (deported_site n.fuse (crashed n 0)) None
     (ap (λ (x : Node). deported_site x.fuse (crashed x (kept_of x 0))) arrives.node ∙ ap (λ (k : ℕ). deported_site n.fuse (crashed n k)) none)
     (arrives_then d e (happened e (DeportAt s) false) s n there row (e.world.headers s) (e.after s) e.world.packets before None arrives
-    (deport_effect e s false below (ap (λ (x : Node). x.state) arrives.node ∙ up) (ap (λ (x : Node). x.halted) arrives.node ∙ runs))
-    (fit_happened e (DeportAt s) false arrives.fits) arrives.sure refl (touch_kept (e.world.links s) e.world.sites ∙ arrives.links))
+    (deport_effect e s false (arrives.fits.rows s) below (ap (λ (x : Node). x.state) arrives.node ∙ up) (ap (λ (x : Node). x.halted) arrives.node ∙ runs))
+    (fit_happened e (DeportAt s) false tt arrives.fits) arrives.sure refl (touch_kept (e.world.links s) e.world.sites ∙ arrives.links))

@@ -3,11 +3,13 @@ use Rattle.std.proofs.Common.{◌≡◌, ℕ, ◌+◌, ◌≤◌, List, [], ◌�
 use Rattle.std.specs.Prelude.{Some}
 use Rattle.std.proofs.lemmas.List.{length-take, take-take, take-append-drop, take-append-le}
 use Rattle.vx_model.specs.Content.{Write, Content, fold_writes, IsPrefixOf}
-use Rattle.vx_history.specs.World.{Node, World, Fuse, FuseSet, with_node, with_history}
+use Rattle.vx_history.specs.World.{Node, History, World, Fuse, FuseSet, with_node, with_history}
 use Rattle.vx_model.specs.Sites.{is_origin}
 use Rattle.vx_history.specs.Steps.{crashed, kept_by, crash_left, half_begun, cut_write, deported_site, deported_world, fallen_site, fallen_world, group_back, group_up, recovered, came_up, session_begun, stopped_by, worked_on, fused, burned}
 use Rattle.vx_history.specs.Events.{crash_at}
 use Rattle.vx_history.specs.Good.{GoodNode, Good, IsMade, TellsContent}
+use Rattle.vx_history.specs.GoodCopies.{GoodCopy, GoodReplays}
+use Rattle.vx_history.proofs.Copies.{copy_more, replays_more}
 use Rattle.vx_model.specs.declared.history.Line.{Line}
 use Rattle.vx_model.specs.declared.site.SiteState.TheVariants.{Down}
 use Rattle.vx_model.specs.declared.site.Mark.TheVariants.{Consistent}
@@ -58,7 +60,17 @@ module _ (w : World) (i k : ℕ) (s : Good w) (made : IsMade (w.nodes i)) (origi
     origin_mark = λ _. mark;
     plain = λ bare. absurd (cc);
     content = λ tells. kept_content n k least most (content tells);
+    copy = λ _ not. absurd (let e : true ≡ false = sym role ∙ not in cc);
   }
+
+  -- the line holds what it held, and what the crash kept beside
+  pub kept_line : (w.lines n.line).held ++ drop n.safe (take k n.log) ≡ take k n.log
+  kept_line = ap (λ (t : List Write). t ++ drop n.safe (take k n.log)) (sym held) ∙ kept_parts n k least most
+
+  table : (j : ℕ) → GoodReplays (take k n.log) ((w.lines n.line).replays j)
+  table j =
+      let h : History = w.lines n.line in
+      subst (λ (t : List Write). GoodReplays t (h.replays j)) kept_line (replays_more h.held (drop n.safe (take k n.log)) (h.replays j) (s.replays n.line j))
 
   there : (j : ℕ) → (j ≡ i → ⊥) → IsMade (w.nodes j) → (w.nodes j).line ≡ n.line → GoodNode (kept_by (w.lines n.line) n k) j (w.nodes j)
   there j apart is e =
@@ -72,6 +84,10 @@ module _ (w : World) (i k : ℕ) (s : Good w) (made : IsMade (w.nodes i)) (origi
         origin_mark = good.origin_mark;
         plain = good.plain;
         content = good.content;
+        copy = λ is_made not.
+            let h : History = w.lines n.line in
+            subst (λ (t : List Write). GoodCopy t (h.replays j) (w.nodes j)) kept_line
+            (copy_more h.held (drop n.safe (take k n.log)) (h.replays j) (s.replays n.line j) (w.nodes j) good.safe_fits (good.receiver_log is_made not) (good.copy is_made not));
       }
 
   good_down : Good (with_history w i (crashed n k) (kept_by (w.lines n.line) n k))
@@ -79,6 +95,7 @@ module _ (w : World) (i k : ℕ) (s : Good w) (made : IsMade (w.nodes i)) (origi
       good_changed w i (crashed n k) (kept_by (w.lines n.line) n k) s here
       (λ e. cc) own
       (omega (arith, s.told n.line, ap (λ (t : List Write). length t) held, length-take n.safe n.log, kept_length n k least most, least))
+      table
       there
       (made_is_given w i s made)
 
@@ -116,6 +133,7 @@ good_deported w i fuse s made whole =
       origin_mark = good.origin_mark;
       plain = λ bare. absurd (cc);
       content = good.content;
+      copy = λ _ not. let c = good.copy made not in record { size = c.size; known = c.known; copying = c.copying; filling = c.filling };
     })
     (λ e. cc)
 
@@ -133,6 +151,7 @@ good_fallen w i s made whole =
       origin_mark = good.origin_mark;
       plain = λ bare. absurd (cc);
       content = good.content;
+      copy = λ _ not. let c = good.copy made not in record { size = c.size; known = c.known; copying = c.copying; filling = c.filling };
     })
     (λ e. cc)
 
@@ -150,6 +169,7 @@ good_recovered w i s made whole =
       origin_mark = good.origin_mark;
       plain = λ bare. absurd (cc);
       content = good.content;
+      copy = λ _ not. let c = good.copy made not in record { size = c.size; known = c.known; copying = c.copying; filling = c.filling };
     })
     (λ e. cc)
 
@@ -167,6 +187,7 @@ good_back w i s made whole =
       origin_mark = good.origin_mark;
       plain = λ bare. absurd (cc);
       content = good.content;
+      copy = λ _ not. let c = good.copy made not in record { size = c.size; known = c.known; copying = c.copying; filling = c.filling };
     })
     (λ e. cc)
 
@@ -183,6 +204,7 @@ good_session_begun w i s made =
       origin_mark = good.origin_mark;
       plain = good.plain;
       content = good.content;
+      copy = λ is not. let c = good.copy is not in record { size = c.size; known = c.known; copying = c.copying; filling = c.filling };
     })
     made
 
@@ -199,6 +221,7 @@ good_stopped w i disk s made =
       origin_mark = good.origin_mark;
       plain = good.plain;
       content = good.content;
+      copy = λ is not. let c = good.copy is not in record { size = c.size; known = c.known; copying = c.copying; filling = c.filling };
     })
     made
 
@@ -216,6 +239,7 @@ good_fuse w i fuse s made =
       origin_mark = good.origin_mark;
       plain = good.plain;
       content = good.content;
+      copy = λ is not. let c = good.copy is not in record { size = c.size; known = c.known; copying = c.copying; filling = c.filling };
     })
     made
 

@@ -5,11 +5,13 @@ use Rattle.std.proofs.lemmas.Bool.{cases_lt}
 use Rattle.std.proofs.lemmas.List.{take_all, take-append-le}
 pub use Rattle.vx_model.proofs.Contents.{fold_append}
 use Rattle.vx_model.specs.Content.{Write, Content, put, fold_writes, IsPrefixOf}
-use Rattle.vx_history.specs.World.{Node, History, Volume, World, no_volumes, updated, line_updated, with_node, with_history, empty_world, bare_site}
+use Rattle.vx_history.specs.World.{Node, History, Volume, World, no_replays, no_volumes, updated, line_updated, with_node, with_history, empty_world, bare_site}
 use Rattle.vx_model.specs.Sites.{same_line}
 use Rattle.vx_model.specs.Sizes.{ring_of}
 use Rattle.vx_history.specs.Steps.{site_made, begun_site, begun_line, line_begun, raw_made, raw_volumes, raw_content, group_made, logged, told_of, written, half_written, burned}
 use Rattle.vx_history.specs.Good.{GoodNode, Good, IsMade, IsWorking}
+use Rattle.vx_history.specs.GoodCopies.{GoodReplays}
+use Rattle.vx_history.proofs.Copies.{copy_more, replays_more}
 use Rattle.vx_model.specs.declared.history.Line.{Line}
 use Rattle.vx_model.specs.declared.site.SiteState.{SiteState}
 use Rattle.vx_model.specs.declared.site.SiteState.TheVariants.{Bare, Up, Deported, Down}
@@ -38,12 +40,13 @@ good_bare g h i n bare good = record {
   origin_mark = good.origin_mark;
   plain = good.plain;
   content = good.content;
+  copy = λ made. absurd (made bare);
 }
 
 -- a site with the record of its line
 pub good_changed : (w : World) (i : ℕ) (n : Node) (h : History) → Good w → GoodNode h i n → IsMade n → n.line.origin ≡ i → h.told ≤ length h.held
-    → ((k : ℕ) → (k ≡ i → ⊥) → IsMade (w.nodes k) → (w.nodes k).line ≡ n.line → GoodNode h k (w.nodes k)) → i < w.sites → Good (with_history w i n h)
-good_changed w i n h s good made own told others given = record {
+    → ((s : ℕ) → GoodReplays h.held (h.replays s)) → ((k : ℕ) → (k ≡ i → ⊥) → IsMade (w.nodes k) → (w.nodes k).line ≡ n.line → GoodNode h k (w.nodes k)) → i < w.sites → Good (with_history w i n h)
+good_changed w i n h s good made own told table others given = record {
   nodes = all_updated (λ k (m : Node). GoodNode (line_updated w.lines n.line h m.line) k m) w.nodes i n
       (subst (λ (r : History). GoodNode r i n) (sym (at_line w.lines n.line h)) good)
       (λ k apart. by_test (λ (r : History). GoodNode r k (w.nodes k)) (same_line (w.nodes k).line n.line) h (w.lines (w.nodes k).line)
@@ -57,6 +60,7 @@ good_changed w i n h s good made own told others given = record {
       (λ k _ is. by_test IsMade (eqb (w.nodes k).line.origin i) n (w.nodes (w.nodes k).line.origin) (λ _. made) (λ _. s.begun k is));
   later = all_updated (λ k (m : Node). w.sites ≤ k → m.state ≡ Bare) w.nodes i n (λ past. absurd (omega arith)) (λ k _ past. s.later k past);
   told = all_lines (λ l (r : History). r.told ≤ length r.held) w.lines n.line h told (λ k _. s.told k);
+  replays = all_lines (λ l (r : History). (k : ℕ) → GoodReplays r.held (r.replays k)) w.lines n.line h table (λ k _. s.replays k);
 }
 
 -- a site that stays on its line, of which the record stays
@@ -69,6 +73,7 @@ good_stays w i n s good begun stays bare = record {
       (λ k _ is. still (w.nodes k).line.origin (s.begun k is));
   later = all_updated (λ k (m : Node). w.sites ≤ k → m.state ≡ Bare) w.nodes i n bare (λ k _ past. s.later k past);
   told = s.told;
+  replays = s.replays;
 }
   where
     still : (k : ℕ) → IsMade (w.nodes k) → IsMade (updated w.nodes i n k)
@@ -77,6 +82,10 @@ good_stays w i n s good begun stays bare = record {
     later : IsMade n → (k : ℕ) → IsMade (w.nodes k) ⊎ (k ≡ i) → IsMade (updated w.nodes i n k)
     later made k (inl is) = still k is
     later made k (inr e) = subst (λ (j : ℕ). IsMade (updated w.nodes i n j)) (sym e) (subst IsMade (sym (at_place w.nodes i n)) made)
+
+-- where no replay was begun nothing is asked
+none_begun : (held : List Write) → GoodReplays held no_replays
+none_begun held = record { spans = λ i le. (omega arith, omega arith); rise = λ i j less le. absurd (omega (arith, less, le)) }
 
 pub good_empty : Good empty_world
 good_empty = record {
@@ -89,10 +98,12 @@ good_empty = record {
     origin_mark = λ _. refl;
     plain = λ _. (refl, refl);
     content = λ _. refl;
+    copy = λ made. absurd (made refl);
   };
   begun = λ i made. absurd (made refl);
   later = λ i _. refl;
   told = λ l. omega arith;
+  replays = λ l s. none_begun [];
 }
 
 good_bare_site : (h : History) (i : ℕ) (name : List ℕ) (disks blocks : ℕ) → GoodNode h i (bare_site name disks blocks)
@@ -105,6 +116,7 @@ good_bare_site h i name disks blocks = record {
   origin_mark = λ _. refl;
   plain = λ _. (refl, refl);
   content = λ _. refl;
+  copy = λ made. absurd (made refl);
 }
 
 pub good_site : (w : World) (name : List ℕ) (disks blocks : ℕ) → Good w → Good (site_made w name disks blocks)
@@ -112,7 +124,7 @@ good_site w name disks blocks s =
     let bare : (w.nodes w.sites).state ≡ Bare = s.later w.sites (omega arith) in
     let changed : Good (with_node w w.sites (bare_site name disks blocks)) = good_stays w w.sites (bare_site name disks blocks) s
     (good_bare_site _ w.sites name disks blocks) (λ made. absurd (made refl)) (λ made. absurd (made bare)) (λ _. refl) in
-    record { nodes = changed.nodes; begun = changed.begun; later = λ k past. changed.later k (omega arith); told = changed.told }
+    record { nodes = changed.nodes; begun = changed.begun; later = λ k past. changed.later k (omega arith); told = changed.told; replays = changed.replays }
 
 pub good_begun : (w : World) (i ring : ℕ) (volumes : List Volume) (content : Content) → Good w → i < w.sites → (w.nodes i).state ≡ Bare
     → Good (line_begun w i ring volumes content)
@@ -127,8 +139,10 @@ good_begun w i ring volumes content s given bare =
       origin_mark = λ _. refl;
       plain = λ bare. absurd (let e : Up ≡ Bare = bare in cc);
       content = λ _. refl;
+      copy = λ _ not. absurd (cc);
     })
     (λ e. cc) refl (omega arith)
+    (λ _. none_begun [])
     (λ k _ made e. absurd (subst (λ (l : Line). IsMade (w.nodes l.origin)) e (s.begun k made) bare))
     given
 
@@ -175,8 +189,10 @@ good_written w i x s working =
       origin_mark = good.origin_mark;
       plain = good.plain;
       content = λ tells. content_after n x good.safe_fits whole (good.content tells);
+      copy = λ _ not. absurd (let e : true ≡ false = sym working.origin ∙ not in cc);
     })
     made (good.own_line made working.origin) (omega (arith, length-append h.held (x ∷ [])))
+    (λ k. replays_more h.held (x ∷ []) (h.replays k) (s.replays n.line k))
     (λ k apart is e. other k apart is e)
     (made_is_given w i s made)
   where
@@ -193,6 +209,9 @@ good_written w i x s working =
           origin_mark = good.origin_mark;
           plain = good.plain;
           content = good.content;
+          copy = λ made not.
+              let h : History = w.lines (w.nodes i).line in
+              copy_more h.held (x ∷ []) (h.replays k) (s.replays (w.nodes i).line k) (w.nodes k) good.safe_fits (good.receiver_log made not) (good.copy made not);
         }
 
 take_front : (n : ℕ) (xs ys : List Write) → n ≤ length xs → take n (xs ++ ys) ≡ take n xs
@@ -214,5 +233,6 @@ good_half_written w i x disk s working =
       origin_mark = good.origin_mark;
       plain = good.plain;
       content = λ tells. good.content tells ∙ ap (λ (t : List Write). fold_writes n.start t) (sym front);
+      copy = λ _ not. absurd (let e : true ≡ false = sym working.origin ∙ not in cc);
     })
     (λ is. inl (s.begun i is)) (λ is. is) (λ past. s.later i past)

@@ -8,3 +8,9 @@ pub mod MissedRows
 pub mod StateCases
 pub mod Fuses
 pub mod Behind
+pub mod Each
+pub mod Fuzzies
+pub mod Marking
+pub mod Copies
+pub mod Converting
+pub mod Advancing

@@ -5,7 +5,7 @@ use Rattle.vx_history.specs.Events.{crash_at, kept_of}
 use Rattle.vx_history.specs.Steps.{stopped_by}
 use Rattle.vx_history.specs.Step.{step}
 use Rattle.vx_history.specs.declared.event.Event.{Event}
-use Rattle.vx_history.specs.declared.event.Event.TheVariants.{Site, Raw, Group, Volumes, Write, Read, Apply, Pump, Tick, Deliver, Connect, Cut, Pause, Resume, Wait, Link as LinkSites, Set, Crash, Deport, Fall, Recover, Fault}
+use Rattle.vx_history.specs.declared.event.Event.TheVariants.{Site, Raw, Group, Volumes, Write, Read, Apply, Pump, Tick, Deliver, Connect, Cut, Pause, Resume, Wait, Link as LinkSites, Set, Attach, Detach, Crash, Deport, Fall, Recover, Fault}
 
 -- a site and its links as they would be, had the event that failed been done
 pub record After : Type 0 where
@@ -60,8 +60,10 @@ crashed_by (Cut p q) = None
 crashed_by (Pause p q) = None
 crashed_by (Resume p q) = None
 crashed_by (Wait p number) = None
-crashed_by (LinkSites p q sync part) = None
-crashed_by (Set p q sync) = None
+crashed_by (LinkSites p q sync prot part) = None
+crashed_by (Set p q sync prot) = None
+crashed_by (Attach p q) = None
+crashed_by (Detach p q) = None
 crashed_by (Crash p kept) = Some p
 crashed_by (Deport p) = None
 crashed_by (Fall p) = None

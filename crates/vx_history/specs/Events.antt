@@ -5,6 +5,7 @@ use Rattle.vx_history.specs.World.{Node, Link, Message, Packet, Promise, World, 
 use Rattle.vx_model.specs.Sites.{is_origin, same_line}
 use Rattle.vx_history.specs.Steps.{crashed, crash_left, deported_world, fallen_world, group_back, group_made, recovered, session_begun, written, half_written}
 use Rattle.vx_history.specs.Admission.{is_fail, hold, change, changed_mode, admit, Admitted, Held_by, Goes}
+use Rattle.vx_history.specs.ChangeMaps.{map_after, map_changed}
 use Rattle.vx_history.specs.Sending.{Sent, sent_step}
 use Rattle.vx_history.specs.Receiving.{received_step}
 use Rattle.vx_history.specs.Gatherings.{completes, gathered, emptied}
@@ -19,7 +20,7 @@ use Rattle.vx_model.specs.declared.site.SiteState.{SiteState}
 use Rattle.vx_model.specs.declared.site.SiteState.TheVariants.{Bare, Up, Deported, Down}
 use Rattle.vx_model.specs.declared.link.Link.{Link as PlainLink}
 use Rattle.vx_model.specs.declared.link.SyncMode.{SyncMode}
-use Rattle.vx_model.specs.declared.link.Prot.TheVariants.{Fail as FailsWhenFull}
+use Rattle.vx_model.specs.declared.link.Prot.{Prot}
 use Rattle.vx_model.specs.declared.link.Mode.TheVariants.{Log, Stale}
 use Rattle.vx_history.specs.declared.sender.SEvent.{SEvent}
 use Rattle.vx_history.specs.declared.sender.SEvent.TheVariants.{Hello as HearHello, NetAck as HearNetAck, DataAck as HearDataAck, Tick as TickLink, Restart as RestartLink}
@@ -84,7 +85,10 @@ admitted w p x =
 
 -- a link after a write was let in
 abbrev pub link_after : Node → Write → (site : ℕ) → Link → Link
-link_after n x s l = record l { mode = changed_mode (change (blocks_in x.bytes + 1) n.ring (plain_link s l) (used_above n s l)) l.mode }
+link_after n x s l =
+    let k = plain_link s l in
+    let c = change (blocks_in x.bytes + 1) n.ring k (used_above n s l) in
+    record l { mode = changed_mode c l.mode; map = map_changed c l.mode l.map n.log (hold k) }
 
 abbrev pub links_changed : World → ℕ → Write → World
 links_changed w p x = with_links w p (λ k. link_after (w.nodes p) x k (w.links p k))
@@ -93,9 +97,16 @@ links_changed w p x = with_links w p (λ k. link_after (w.nodes p) x k (w.links 
 abbrev pub said_of_write : World → ℕ → ℕ → Said
 said_of_write w p number = if some_below w.sites (λ k. is_waited_for k (w.links p k)) then Logged number else DoneAt number
 
--- the write is durable, or a disk failed in it
+-- a link whose map, where it keeps one, has the regions of these writes
+abbrev pub link_marked : List Write → Link → Link
+link_marked xs l = record l { map = map_after l.mode l.map xs }
+
+abbrev pub links_marked : World → ℕ → List Write → World
+links_marked w p xs = with_links w p (λ k. link_marked xs (w.links p k))
+
+-- The write is durable, with its regions in the maps that links keep; or a disk failed in it.
 abbrev pub put_in : World → ℕ → Write → Option ℕ → Outcome
-put_in w p x None = says (written w p x) (said_of_write w p ((w.nodes p).safe + 1))
+put_in w p x None = says (written (links_marked w p (x ∷ [])) p x) (said_of_write w p ((w.nodes p).safe + 1))
 put_in w p x (Some disk) = says (half_written w p x disk) (Refused (Device disk))
 
 abbrev pub written_if : Admitted → World → ℕ → Write → Option ℕ → Outcome
@@ -279,8 +290,12 @@ lost_touch l = record l { connected = false; paused = false; net = l.stored; sin
 abbrev pub crash_world : World → ℕ → ℕ → World
 crash_world w s k = if is_origin (w.nodes s).role then crash_left w s k else with_node w s (crashed (w.nodes s) k)
 
+-- a link of a site that kept its first k writes: a map has the regions of those that were not durable before
+abbrev pub link_left : Node → (k : ℕ) → Link → Link
+link_left n k l = lost_touch (link_marked (drop n.safe (take k n.log)) l)
+
 abbrev pub crash_at : World → ℕ → ℕ → World
-crash_at w s k = emptied (with_links (crash_world w s k) s (λ to. lost_touch (w.links s to))) s
+crash_at w s k = emptied (with_links (crash_world w s k) s (λ to. link_left (w.nodes s) k (w.links s to))) s
 
 -- a deport is a crash that keeps no more than it has to, and the site is then deported; the fuse of its disks stays set
 abbrev pub deport_at : World → ℕ → World
@@ -365,8 +380,8 @@ joined a p n =
     }
 
 -- a link to b, in this place among those of its site
-abbrev pub new_link : (place : ℕ) → SyncMode → Node → Link
-new_link place sync b =
+abbrev pub new_link : (place : ℕ) → SyncMode → Prot → Node → Link
+new_link place sync prot b =
     record {
       made = Some place;
       bunker = false;
@@ -374,7 +389,7 @@ new_link place sync b =
       connected = false;
       paused = false;
       sync = sync;
-      prot = FailsWhenFull;
+      prot = prot;
       session = b.session;
       net = 0;
       stored = 0;
@@ -382,9 +397,20 @@ new_link place sync b =
       trimmed = 0;
       mode = Stale;
       map = no_regions;
-      read_to = 0;
       since = no_regions;
     }
+
+-- a link with these settings
+abbrev pub link_with : SyncMode → Prot → Link → Link
+link_with sync prot l = record l { sync = sync; prot = prot }
+
+-- a link that holds the log
+abbrev pub link_attached : Link → Link
+link_attached l = record l { attached = true }
+
+-- a link that holds nothing: what its receiver lacks is not known, and no region is marked
+abbrev pub link_detached : Link → Link
+link_detached l = record l { attached = false; mode = Stale; map = no_regions }
 
 -- it goes by the log from its site's head on
 abbrev pub opened : Link → (head : ℕ) → Link

@@ -9,7 +9,7 @@ use Rattle.vx_history.specs.declared.event.Said.TheVariants.{Done, DoneAt, Logge
 use Rattle.vx_history.specs.declared.event.LinkPart.{LinkPart}
 use Rattle.vx_history.specs.declared.event.LinkPart.TheVariants.{Joins, Made, Marked, Opened}
 use Rattle.vx_history.specs.declared.event.Event.{Event}
-use Rattle.vx_history.specs.declared.event.Event.TheVariants.{Site, Raw, Group, Volumes, Write, Read, Apply, Pump, Tick, Deliver, Connect, Cut, Pause, Resume, Wait, Link, Set, Crash, Deport, Fall, Recover, Fault}
+use Rattle.vx_history.specs.declared.event.Event.TheVariants.{Site, Raw, Group, Volumes, Write, Read, Apply, Pump, Tick, Deliver, Connect, Cut, Pause, Resume, Wait, Link, Set, Attach, Detach, Crash, Deport, Fall, Recover, Fault}
 
 abbrev pub is_refused : Said → Bool
 is_refused Done = false
@@ -66,8 +66,10 @@ headers_by (Cut p s) w o i = 0
 headers_by (Pause p s) w o i = 0
 headers_by (Resume p s) w o i = 0
 headers_by (Wait p number) w o i = 0
-headers_by (Link p s sync part) w o i = one_at (part_writes part p s) i o.said
-headers_by (Set p s sync) w o i = one_at p i o.said
+headers_by (Link p s sync prot part) w o i = one_at (part_writes part p s) i o.said
+headers_by (Set p s sync prot) w o i = one_at p i o.said
+headers_by (Attach p s) w o i = one_at p i o.said
+headers_by (Detach p s) w o i = one_at p i o.said
 headers_by (Crash s kept) w o i = 0
 headers_by (Deport s) w o i = 0
 headers_by (Fall s) w o i = 0

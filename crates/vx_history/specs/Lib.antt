@@ -1,10 +1,12 @@
 pub mod Admission
+pub mod ChangeMaps
 pub mod DataLists
 pub mod Doubts
 pub mod Events
 pub mod Fits
 pub mod Gatherings
 pub mod Good
+pub mod GoodCopies
 pub mod GoodGatherings
 pub mod GoodWorld
 pub mod Groups
@@ -18,6 +20,7 @@ pub mod MapChanges
 pub mod Missing
 pub mod Receiving
 pub mod Refusals
+pub mod Regions
 pub mod Sending
 pub mod Sends
 pub mod Settling

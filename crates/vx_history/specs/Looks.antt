@@ -3,7 +3,7 @@ use Rattle.std.specs.Prelude.{◌≡◌, List, [], ◌∷◌}
 use Rattle.vx_history.specs.Step.{step}
 use Rattle.vx_history.specs.World.{World}
 use Rattle.vx_history.specs.declared.event.Event.{Event}
-use Rattle.vx_history.specs.declared.event.Event.TheVariants.{Site, Raw, Group, Volumes, Write, Read, Apply, Pump, Tick, Deliver, Connect, Cut, Pause, Resume, Wait, Link, Set, Crash, Deport, Fall, Recover, Fault}
+use Rattle.vx_history.specs.declared.event.Event.TheVariants.{Site, Raw, Group, Volumes, Write, Read, Apply, Pump, Tick, Deliver, Connect, Cut, Pause, Resume, Wait, Link, Set, Attach, Detach, Crash, Deport, Fall, Recover, Fault}
 
 -- what the event looks at is the same in both worlds
 abbrev pub LooksSame : Event → World → World → Type 0
@@ -22,8 +22,10 @@ LooksSame (Cut p q) w v = Unit {0}
 LooksSame (Pause p q) w v = Unit {0}
 LooksSame (Resume p q) w v = Unit {0}
 LooksSame (Wait p number) w v = Unit {0}
-LooksSame (Link p q sync part) w v = Unit {0}
-LooksSame (Set p q sync) w v = Unit {0}
+LooksSame (Link p q sync prot part) w v = Unit {0}
+LooksSame (Set p q sync prot) w v = Unit {0}
+LooksSame (Attach p q) w v = Unit {0}
+LooksSame (Detach p q) w v = Unit {0}
 LooksSame (Crash p kept) w v = Unit {0}
 LooksSame (Deport p) w v = Unit {0}
 LooksSame (Fall p) w v = Unit {0}

@@ -5,15 +5,13 @@ use Rattle.std.specs.List.{AllByRecursion}
 use Rattle.vx_model.specs.Content.{Write, IsNumber}
 use Rattle.vx_history.specs.World.{Node, Link, History, Message, Packet, Promise, Surety, World, Hello, Update, NetAck, DataAck, Durable, InSession}
 use Rattle.vx_model.specs.Sites.{is_origin, same_line}
-use Rattle.vx_history.specs.Receiving.{phase_takes}
 use Rattle.vx_history.specs.Good.{Good, IsMade}
+use Rattle.vx_history.specs.GoodCopies.{GoodMode}
 use Rattle.vx_model.specs.declared.history.Line.{Line}
 use Rattle.vx_model.specs.declared.site.Mark.TheVariants.{Consistent}
-use Rattle.vx_model.specs.declared.site.SPhase.TheVariants.{Log as ByLog}
+use Rattle.vx_model.specs.declared.site.SPhase.TheVariants.{Quiet, Log as ByLog}
 use Rattle.vx_model.specs.declared.site.SiteState.{SiteState}
 use Rattle.vx_model.specs.declared.site.SiteState.TheVariants.{Bare, Up, Deported, Down}
-use Rattle.vx_model.specs.declared.link.Mode.{Mode}
-use Rattle.vx_model.specs.declared.link.Mode.TheVariants.{Log, Dcm, Replay, Fork, Stale}
 use Rattle.vx_history.specs.Refusals.{keeps_links, is_bunker}
 use Rattle.vx_history.specs.Sends.{is_linked}
 
@@ -38,10 +36,10 @@ LosesNothing n = is_at_rest n.state ≡ true → length n.log ≤ n.safe
 abbrev pub IsFed : Node → Type 0
 IsFed n = is_origin n.role ≡ false → n.other ≡ n.line.origin
 
--- Fact 14. No site copies the regions of a replay, and none keeps the map of a fork: no event brings a site there. So the content of each
--- site is told by its log.
+-- Fact 14. No site stands in a replay, and none keeps the map of a fork: no event brings a site there. So each site takes updates, and
+-- its content is told by its log.
 abbrev pub TakesUpdates : Node → Type 0
-TakesUpdates n = phase_takes n.phase ≡ true
+TakesUpdates n = n.phase ≡ Quiet
 
 -- Fact 16. A receiver in a replay's last phase that has durable all writes up to the end of the replay is marked consistent, unless it is
 -- down or halted. So what it says that it has stored it says as a consistent site.
@@ -96,22 +94,13 @@ GoesElsewhere p s l = is_linked l ≡ true → p ≢ s
 abbrev pub HasStored : Node → ℕ → Type 0
 HasStored n k = (k ≤ n.safe) × (n.phase ≡ ByLog → n.end ≤ k → n.mark ≡ Consistent)
 
--- What the mode of an origin's link says of the site that it feeds, on a line that holds these writes.
--- Fact 7. By the log only a site is fed that takes updates: else settling would not come to an end.
-abbrev pub ModeSays : (held : List Write) → Node → Mode → Type 0
-ModeSays held b Log = (b.mark ≡ Consistent) × (phase_takes b.phase ≡ true)
-ModeSays held b Dcm = Unit {0}
-ModeSays held b (Replay id phase left start end) = Unit {0}
-ModeSays held b (Fork maps) = Unit {0}
-ModeSays held b Stale = Unit {0}
-
 -- Fact 20. A link goes to a site that came to its line. None waits for a site that is still to come.
 abbrev pub HasArrived : Node → Node → Link → Type 0
 HasArrived a b l = is_linked l ≡ true → has_line b.stood a.line ≡ true
 
--- What the link of site p, now a, to site s, now b, says of b, where the line of a holds these writes: its session is not above that of b,
+-- What the link of site p, now a, to site s, now b, says of b, by what is recorded of the line of a: its session is not above that of b,
 -- what is stored is on the disks there, what was acknowledged in the present session is in memory there, and what its mode says.
-pub record GoodLink (held : List Write) (p s : ℕ) (a b : Node) (l : Link) : Type 0 where
+pub record GoodLink (h : History) (p s : ℕ) (a b : Node) (l : Link) : Type 0 where
   pub ends : HasEnds a b l
   pub starts : StartsAtSender a l
   pub apart : GoesElsewhere p s l
@@ -119,7 +108,7 @@ pub record GoodLink (held : List Write) (p s : ℕ) (a b : Node) (l : Link) : Ty
   pub session : is_linked l ≡ true → l.session ≤ b.session
   pub stored : IsFollowed a b l → HasStored b l.stored
   pub net : IsFollowed a b l → IsPresent b l.session → l.net ≤ length b.log
-  pub says : is_origin a.role ≡ true → IsFollowed a b l → ModeSays held b l.mode
+  pub says : is_origin a.role ≡ true → IsFollowed a b l → GoodMode h.held (h.replays s) b l.map l.stored l.mode
 
 -- ## Packets
 
@@ -195,8 +184,10 @@ pub record Sound (w : World) : Type 0 where
   pub newest : (i : ℕ) → IsNewest (w.nodes i)
   pub stands : (i : ℕ) → StoodHere (w.nodes i)
   pub come : (i : ℕ) → AllByRecursion (HasCome w.nodes i) (w.nodes i).stood
-  pub links : (p s : ℕ) → GoodLink (w.lines (w.nodes p).line).held p s (w.nodes p) (w.nodes s) (w.links p s)
+  pub links : (p s : ℕ) → GoodLink (w.lines (w.nodes p).line) p s (w.nodes p) (w.nodes s) (w.links p s)
   pub bunkers : (p s : ℕ) → FedByBunker w.nodes w.links p s
   pub packets : AllByRecursion (GoodPacket w.nodes w.links w.lines) w.packets
   pub promised : AllByRecursion (GoodPromise w.nodes w.links) w.promised
   pub known : (i : ℕ) → KnownNode w.nodes w.links i (w.nodes i)
+  -- Fact 22. No replay was begun: no event begins one.
+  pub unbegun : (l : Line) (s : ℕ) → ((w.lines l).replays s).begun ≡ 0

@@ -11,19 +11,19 @@ use Rattle.vx_history.specs.Receiving.{phase_takes}
 use Rattle.vx_history.specs.Steps.{site_made, raw_made, stopped_by}
 use Rattle.vx_model.specs.declared.site.Mark.TheVariants.{Consistent}
 use Rattle.vx_model.specs.declared.link.SyncMode.{SyncMode}
-use Rattle.vx_model.specs.declared.link.Prot.TheVariants.{Fail as FailsWhenFull}
+use Rattle.vx_model.specs.declared.link.Prot.{Prot}
 use Rattle.vx_history.specs.declared.sender.SEvent.TheVariants.{Pump as PumpLink, Connect as ConnectLink, Cut as CutLink, Pause as PauseLink, Resume as ResumeLink}
 use Rattle.vx_model.specs.declared.no.No.TheVariants.{Exists, Size, Role as WrongRole, Down as NotUp, Device}
 use Rattle.vx_history.specs.declared.event.Said.TheVariants.{Done, Got, Refused}
 use Rattle.vx_history.specs.declared.event.LinkPart.{LinkPart}
 use Rattle.vx_history.specs.declared.event.LinkPart.TheVariants.{Joins, Made, Marked, Opened}
 use Rattle.vx_history.specs.declared.event.Event.{Event}
-use Rattle.vx_history.specs.declared.event.Event.TheVariants.{Site, Raw, Group, Volumes, Write as WriteAt, Read, Apply, Pump, Tick, Deliver, Connect, Cut, Pause, Resume, Wait, Link, Set, Crash, Deport, Fall, Recover, Fault}
+use Rattle.vx_history.specs.declared.event.Event.TheVariants.{Site, Raw, Group, Volumes, Write as WriteAt, Read, Apply, Pump, Tick, Deliver, Connect, Cut, Pause, Resume, Wait, Link, Set, Attach, Detach, Crash, Deport, Fall, Recover, Fault}
 use Rattle.vx_history.specs.Sends.{is_linked, with_link, sending}
 use Rattle.vx_history.specs.Refusals.{Outcome, says, unless, at_site, at_work, both_at_work, on_link, on_link_if, when_live, on_volume, may_be_site, may_join, is_primary, is_consistent, is_stale_mode, is_empty, follows, count_links_of}
 use Rattle.vx_model.specs.Sizes.{is_raw_shape}
 use Rattle.vx_model.specs.Sites.{is_up, is_bare}
-use Rattle.vx_history.specs.Events.{admitted, written_if, apply_at, reached_at, link_event, ticked_at, greeting_back, delivered, packet_at, waited, kept_of, crash_at, deport_at, fall_from, group_from, is_plain_group, recover_from, joined, new_link, opened}
+use Rattle.vx_history.specs.Events.{admitted, written_if, apply_at, reached_at, link_event, ticked_at, greeting_back, delivered, packet_at, waited, kept_of, crash_at, deport_at, fall_from, group_from, is_plain_group, recover_from, joined, new_link, opened, link_with, link_attached, link_detached}
 
 abbrev pub done : World → Outcome
 done w = says w Done
@@ -43,15 +43,15 @@ write_at w p x fails =
     (written_if (admitted w p x) w p x fails)
 
 -- the events of a line that links s to p; each of the later ones follows the one before it
-abbrev pub link_part : LinkPart → World → ℕ → ℕ → SyncMode → Outcome
-link_part Joins w p s sync = may_join w p s (done (emptied (with_node w s (joined (w.nodes p) p (w.nodes s))) s))
-link_part Made w p s sync =
+abbrev pub link_part : LinkPart → World → ℕ → ℕ → SyncMode → Prot → Outcome
+link_part Joins w p s sync prot = may_join w p s (done (emptied (with_node w s (joined (w.nodes p) p (w.nodes s))) s))
+link_part Made w p s sync prot =
     unless (not (is_primary (w.nodes p).role && follows w p s)) WrongRole w
-    (unless (is_linked (w.links p s)) (Exists (w.nodes s).name) w (done (with_link w p s (new_link (count_links_of w p) sync (w.nodes s)))))
-link_part Marked w p s sync =
+    (unless (is_linked (w.links p s)) (Exists (w.nodes s).name) w (done (with_link w p s (new_link (count_links_of w p) sync prot (w.nodes s)))))
+link_part Marked w p s sync prot =
     unless (not (is_primary (w.nodes p).role && (follows w p s && (is_linked (w.links p s) && is_empty (w.nodes p).log)))) WrongRole w
     (done (with_node w s (record (w.nodes s) { mark = Consistent })))
-link_part Opened w p s sync =
+link_part Opened w p s sync prot =
     unless (not (is_primary (w.nodes p).role && (follows w p s && (is_linked (w.links p s) && (is_empty (w.nodes p).log && (is_stale_mode (w.links p s).mode && (phase_takes (w.nodes s).phase && is_consistent (w.nodes s).mark))))))) WrongRole w
     (done (with_link w p s (opened (w.links p s) (w.nodes p).safe)))
 
@@ -76,8 +76,10 @@ outcome_of w (Cut p s) = on_link w p s (done (link_event w p s CutLink))
 outcome_of w (Pause p s) = on_link w p s (done (link_event w p s PauseLink))
 outcome_of w (Resume p s) = on_link w p s (done (link_event w p s ResumeLink))
 outcome_of w (Wait p number) = at_site w p (at_work w p (unless (not (is_origin (w.nodes p).role)) WrongRole w (waited w p number)))
-outcome_of w (Link p s sync part) = at_site w p (at_site w s (both_at_work w p s (link_part part w p s sync)))
-outcome_of w (Set p s sync) = on_link_if is_origin w p s (done (with_link w p s (record (w.links p s) { sync = sync; prot = FailsWhenFull })))
+outcome_of w (Link p s sync prot part) = at_site w p (at_site w s (both_at_work w p s (link_part part w p s sync prot)))
+outcome_of w (Set p s sync prot) = on_link_if is_origin w p s (done (with_link w p s (link_with sync prot (w.links p s))))
+outcome_of w (Attach p s) = on_link_if is_origin w p s (done (with_link w p s (link_attached (w.links p s))))
+outcome_of w (Detach p s) = on_link_if is_origin w p s (done (with_link w p s (link_detached (w.links p s))))
 outcome_of w (Crash s kept) = at_site w s (unless (not (is_up (w.nodes s).state)) NotUp w (done (crash_at w s (kept_of (w.nodes s) kept))))
 outcome_of w (Deport s) = at_site w s (at_work w s (done (deport_at w s)))
 outcome_of w (Fall s) = at_site w s (fall_from (w.nodes s).state w s)

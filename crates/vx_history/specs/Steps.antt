@@ -2,7 +2,7 @@
 use Rattle.std.specs.Prelude.{ℕ, ◌+◌, ◌-◌, List, [], ◌∷◌, ◌++◌, length, take, drop, ltb, if◌then◌else◌, Some, None, codes, zero, suc}
 use Rattle.std.specs.Fmt.{decimal}
 use Rattle.vx_model.specs.Content.{Write, Content, put, fold_writes, zeros}
-use Rattle.vx_history.specs.World.{Node, History, World, Volume, Fuse, NoFuse, FuseSet, FuseLit, bare_site, no_volumes, updated, with_node, with_history}
+use Rattle.vx_history.specs.World.{Node, History, World, Volume, Fuse, NoFuse, FuseSet, FuseLit, bare_site, no_replays, no_volumes, updated, with_node, with_history}
 use Rattle.vx_model.specs.Sites.{no_line, first_line}
 use Rattle.vx_model.specs.Sizes.{ring_of}
 use Rattle.vx_model.specs.declared.site.Role.TheVariants.{Primary}
@@ -43,7 +43,7 @@ begun_site site ring volumes content n = record n {
 
 -- a line that begins, and holds no write
 abbrev pub begun_line : Content → History
-begun_line content = record { parent = no_line; fork = 0; start = content; held = []; told = 0 }
+begun_line content = record { parent = no_line; fork = 0; start = content; held = []; told = 0; replays = λ s. no_replays }
 
 abbrev pub line_begun : World → ℕ → (ring : ℕ) → List Volume → Content → World
 line_begun w s ring volumes content = with_history w s (begun_site s ring volumes content (w.nodes s)) (begun_line content)

@@ -14,7 +14,7 @@ use Rattle.vx_history.specs.declared.sender.SEvent.TheVariants.{Hello as HearHel
 use Rattle.vx_history.specs.declared.event.LinkPart.{LinkPart}
 use Rattle.vx_history.specs.declared.event.LinkPart.TheVariants.{Joins, Made, Marked, Opened}
 use Rattle.vx_history.specs.declared.event.Event.{Event}
-use Rattle.vx_history.specs.declared.event.Event.TheVariants.{Site, Raw, Group, Volumes, Write, Read, Apply, Pump, Tick, Deliver, Connect, Cut, Pause, Resume, Wait, Link, Set, Crash, Deport, Fall, Recover, Fault}
+use Rattle.vx_history.specs.declared.event.Event.TheVariants.{Site, Raw, Group, Volumes, Write, Read, Apply, Pump, Tick, Deliver, Connect, Cut, Pause, Resume, Wait, Link, Set, Attach, Detach, Crash, Deport, Fall, Recover, Fault}
 use Rattle.vx_history.specs.Likes.{IsLike}
 use Rattle.vx_history.specs.Doubts.{Doubted, Runs, halved, crashed_as}
 
@@ -50,8 +50,10 @@ told_fails (Cut p q) = []
 told_fails (Pause p q) = []
 told_fails (Resume p q) = []
 told_fails (Wait p number) = []
-told_fails (Link p q sync part) = []
-told_fails (Set p q sync) = []
+told_fails (Link p q sync prot part) = []
+told_fails (Set p q sync prot) = []
+told_fails (Attach p q) = []
+told_fails (Detach p q) = []
 told_fails (Crash p kept) = []
 told_fails (Deport p) = []
 told_fails (Fall p) = []
@@ -108,8 +110,10 @@ WritesAt w (Cut p q) site = ⊥
 WritesAt w (Pause p q) site = ⊥
 WritesAt w (Resume p q) site = ⊥
 WritesAt w (Wait p number) site = ⊥
-WritesAt w (Link p q sync part) site = IsPartAt part p q site
-WritesAt w (Set p q sync) site = p ≡ site
+WritesAt w (Link p q sync prot part) site = IsPartAt part p q site
+WritesAt w (Set p q sync prot) site = p ≡ site
+WritesAt w (Attach p q) site = p ≡ site
+WritesAt w (Detach p q) site = p ≡ site
 WritesAt w (Crash p kept) site = ⊥
 WritesAt w (Deport p) site = ⊥
 WritesAt w (Fall p) site = ⊥

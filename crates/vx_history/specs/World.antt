@@ -19,14 +19,26 @@ use Rattle.vx_model.specs.declared.link.Mode.{Mode}
 use Rattle.vx_model.specs.declared.link.Mode.TheVariants.{Stale}
 use Rattle.vx_history.specs.Groups.{GroupNode}
 
+-- What is recorded of the replays to one site: the id of the last one, and 0 where none was begun; and of each id the number at which its
+-- origin's log ended as the replay began, and as the last of its regions was read.
+pub record Replays : Type 0 where
+  pub begun : ℕ
+  pub start : ℕ → ℕ
+  pub read : ℕ → ℕ
+
+abbrev pub no_replays : Replays
+no_replays = record { begun = 0; start = λ i. 0; read = λ i. 0 }
+
 -- What is recorded of a line: the line and the number from which it came (generation 0 where it came from none), what its
--- volumes held at number 0, the writes that are durable at its origin, number 1 first, and the greatest number answered.
+-- volumes held at number 0, the writes that are durable at its origin, number 1 first, the greatest number answered, and of each site the
+-- replays to it.
 pub record History : Type 0 where
   pub parent : Line
   pub fork : ℕ
   pub start : Content
   pub held : List Write
   pub told : ℕ
+  pub replays : ℕ → Replays
 
 -- a data volume, by its name and its blocks
 pub record Volume : Type 0 where
@@ -110,8 +122,6 @@ pub record Link : Type 0 where
   pub trimmed : ℕ
   pub mode : Mode
   pub map : Regions
-  -- the head as the last region of a replay was read
-  pub read_to : ℕ
   -- the regions that were sent since the last tick
   pub since : Regions
 
@@ -220,12 +230,11 @@ no_link = record {
   trimmed = 0;
   mode = Stale;
   map = no_regions;
-  read_to = 0;
   since = no_regions;
 }
 
 abbrev pub no_history : History
-no_history = record { parent = no_line; fork = 0; start = no_volumes; held = []; told = 0 }
+no_history = record { parent = no_line; fork = 0; start = no_volumes; held = []; told = 0; replays = λ s. no_replays }
 
 -- no site has been made
 abbrev pub empty_world : World

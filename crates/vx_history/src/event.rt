@@ -1,6 +1,6 @@
 // What can happen to a world, and what is then said.
 use crate::DataVolumes;
-use vx_model::{Blocks, Name, No, SyncMode};
+use vx_model::{Blocks, Name, No, Prot, SyncMode};
 
 /// Which of the events of a `link` line: they follow one another, and each is durable before the next.
 #[derive(Clone, Copy, Debug, PartialEq, Eq)]
@@ -96,18 +96,30 @@ pub enum Event {
         site: u32,
         number: u64,
     },
-    /// One of the events of a line that links a site to another, with srlprot=fail.
+    /// One of the events of a line that links a site to another, with these settings.
     Link {
         site: u32,
         to: u32,
         sync: SyncMode,
+        prot: Prot,
         part: LinkPart,
     },
-    /// The link has this setting from now on, and srlprot=fail.
+    /// The link has these settings from now on.
     Set {
         site: u32,
         to: u32,
         sync: SyncMode,
+        prot: Prot,
+    },
+    /// The link holds the log from now on, and its mode stays.
+    Attach {
+        site: u32,
+        to: u32,
+    },
+    /// The link holds no log, and is given up: all regions have to be copied.
+    Detach {
+        site: u32,
+        to: u32,
     },
     /// The site is down. It keeps its first `kept` writes, which counts as the nearest number that a crash may keep.
     Crash {

@@ -152,7 +152,7 @@ module _ {R : Type 0} {g : Ghosts R} where
         let node : (outcome_at d number).world.nodes p.target ≡ d.world.nodes p.target = ap (λ (r : Outcome). r.world.nodes p.target) ignored in
         let effect = update_effect d number p k x false at message in
         let noted = worked_effect p.target d h ((outcome_at d number).world.nodes p.target) (d.world.links p.target) (d.world.headers p.target) (d.after p.target) (outcome_at d number).world.packets ((outcome_at d number).world.gathering p.target) effect in
-        leads_same d number p old new before after stands below changed alone role h ((outcome_at d number).world.nodes p.target) (outcome_at d number).world.packets ((outcome_at d number).world.gathering p.target) Ignored effect (fit_worked h p.target (fit_happened d (DeliverAt number) false stands.links))
+        leads_same d number p old new before after stands below changed alone role h ((outcome_at d number).world.nodes p.target) (outcome_at d number).world.packets ((outcome_at d number).world.gathering p.target) Ignored effect (fit_worked h p.target (fit_happened d (DeliverAt number) false tt stands.links))
         (done_as (IsTold new) d number p Ignored IsIgnored at below (ap (λ (r : Outcome). r.said) ignored) refl) node (subst (λ (m : Node). SiteStands (beside_of d p.target) m after) (sym node) here) facts
         (λ carries. carries_node p.target d (worked_for h p.target) ((worked_for h p.target).world.nodes p.target) old new load noted.site (ap (λ (r : Outcome). r.world.packets) ignored) (ap (λ (r : Outcome). r.world.gathering p.target) ignored) refl
         (ap (λ (m : Node). m.state) noted.is.node ∙ ap (λ (m : Node). m.state) node) (ap (λ (m : Node). m.role) noted.is.node ∙ ap (λ (m : Node). m.role) node) (ap (λ (m : Node). m.fed_by) noted.is.node ∙ ap (λ (m : Node). m.fed_by) node) told carries)

@@ -116,7 +116,7 @@ module _ {R : Type 0} {g : Ghosts R} where
     -- as the world has it, and ignored
     pub exact_ignored : DeliveredTo o (beside_of d s) s after feeder a new.flight IsIgnored → new.facts.items ≡ old.facts.items → Leads d (Deliver number) Ignored old new
     exact_ignored is facts =
-        leads_same d number p old new before after stands below changed alone role h (o.world.nodes s) o.world.packets (o.world.gathering s) Ignored effect (fit_worked h s (fit_happened d (DeliverAt number) false stands.links))
+        leads_same d number p old new before after stands below changed alone role h (o.world.nodes s) o.world.packets (o.world.gathering s) Ignored effect (fit_worked h s (fit_happened d (DeliverAt number) false tt stands.links))
         (done_as (IsTold new) d number p Ignored IsIgnored at below (sym is.says) refl) (stays_ignored d.world p x number k at message (sym is.says)) is.stands facts (carried IsIgnored is)
 
     -- as the world has it, and taken
@@ -125,7 +125,7 @@ module _ {R : Type 0} {g : Ghosts R} where
     exact_taken last is receives none many facts =
         let one = node_behind d.world p x number k at message in
         leads_new d number p old new before after stands below changed alone role h (o.world.nodes s) o.world.packets (o.world.gathering s) Taken (received_fact last (fact_of n (d.world.links s) d.world.sites)) effect
-        (fit_worked h s (fit_happened d (DeliverAt number) false stands.links)) (done_as (IsTold new) d number p Taken IsTaken at below (sym is.says) refl) (apart_by receives) (either_site n (o.world.nodes s) p.source x one) is.stands
+        (fit_worked h s (fit_happened d (DeliverAt number) false tt stands.links)) (done_as (IsTold new) d number p Taken IsTaken at below (sym is.says) refl) (apart_by receives) (either_site n (o.world.nodes s) p.source x one) is.stands
         (last_shown n (o.world.nodes s) (d.world.links s) d.world.sites p.source last x receives none one many) facts (carried IsTaken is)
 
     -- ---- over disks that tell nothing
@@ -156,7 +156,7 @@ module _ {R : Type 0} {g : Ghosts R} where
           let node : o.world.nodes s ≡ n = ap (λ (r : Outcome). r.world.nodes s) is in
           let noted = worked_effect s d h (o.world.nodes s) (d.world.links s) (d.world.headers s) (d.after s) o.world.packets (o.world.gathering s) effect in
           let packets : o.world.packets ≡ d.world.packets ++ more = ap (λ (r : Outcome). r.world.packets) is in
-          leads_same d number p old new before after stands below changed alone role h (o.world.nodes s) o.world.packets (o.world.gathering s) Ignored effect (fit_worked h s (fit_happened d (DeliverAt number) false stands.links))
+          leads_same d number p old new before after stands below changed alone role h (o.world.nodes s) o.world.packets (o.world.gathering s) Ignored effect (fit_worked h s (fit_happened d (DeliverAt number) false tt stands.links))
           (done_as (IsTold new) d number p Ignored IsIgnored at below (ap (λ (r : Outcome). r.said) is) refl) node (subst (λ (m : Node). SiteStands (beside_of d s) m after) (sym node) here) facts
           (λ carries. carries_handed d (worked_for h s) s feeder a more old new noted.site packets
           (subst (λ (ps : List Packet). FlightStands ps new.flight) (sym packets) (sends d.world.packets carries.flight))

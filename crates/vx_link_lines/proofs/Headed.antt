@@ -168,7 +168,7 @@ module _ {R : Type 0} {g : Ghosts R} (note : (ℕ → Node) → ℕ → Node) (s
         stands = stands_turned start to old new s before after stands below changed
             (record {
               changes = w.site;
-              links = notes.fits (halved d e s disk) (fit_halved d e s disk h.opens h.writes h.fits_before);
+              links = notes.fits (halved d e s disk) (fit_halved d e s disk h.opens h.writes h.sets h.fits_before);
               stands = subst (λ (k : Node). SiteStands (beside_of to s) k after) there
                   (subst (λ (b : KeptBeside). SiteStands b (stopped n disk) after) (sym (worlds.halted_beside note s notes d e m h.row ls gathered h.effect h.kept h.sure disk))
                   (subst (λ (k : Node). SiteStands (in_doubt (beside_of d s) (worked m) ls disk) k after) (stopped_noted n disk) is.0));
@@ -241,7 +241,7 @@ module _ {R : Type 0} {g : Ghosts R} (note : (ℕ → Node) → ℕ → Node) (s
               stands = stands_turned start to old new s before after stands below changed
                   (record {
                     changes = changes;
-                    links = notes.fits (crashed_as (halved d e s 0) s count taken) (fit_crashed_as (halved d e s 0) s count taken half_up (fit_halved d e s 0 h.opens h.writes h.fits_before));
+                    links = notes.fits (crashed_as (halved d e s 0) s count taken) (fit_crashed_as (halved d e s 0) s count taken half_up (fit_halved d e s 0 h.opens h.writes h.sets h.fits_before));
                     stands = subst (λ (q : Node). SiteStands (beside_of to s) q after) there
                         (subst (λ (b : KeptBeside). SiteStands b (crashed k count) after) (sym (worlds.fell_beside note s notes d e m h.row ls gathered h.effect h.kept h.sure count taken k links ks node_is row_is links_are least most)) stood_there);
                     failing = subst (λ (q : Node). FailsAs q after) there (fails_still (crashed k count) (Refused Off) failing calls);

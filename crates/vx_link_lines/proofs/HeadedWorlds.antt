@@ -6,14 +6,14 @@ use Rattle.vx_history.proofs.Behind.{after_of}
 use Rattle.vx_history.proofs.Fuses.{burned_twice}
 use Rattle.vx_history.proofs.Updates.{at_place}
 use Rattle.vx_history.specs.Doubts.{After, Doubted, crashed_as, halved, resolved_at, taken_up}
-use Rattle.vx_history.specs.Events.{kept_of, lost_touch}
+use Rattle.vx_history.specs.Events.{kept_of, link_left}
 use Rattle.vx_history.specs.Steps.{crashed, worked}
 use Rattle.vx_history.specs.World.{Fuse, Gathering, Link, Node, Packet}
 use Rattle.vx_history.specs.declared.event.Event.{Event}
 use Rattle.vx_model.specs.declared.state.KeptLink.{KeptLink}
 use Rattle.vx_diskset.specs.Holds.{KeptBeside, KeptSite, beside_of, doubt_of, header_links, row_links}
 use Rattle.vx_effects.proofs.Effects.{changes_then}
-use Rattle.vx_effects.proofs.Rows.{touch_kept}
+use Rattle.vx_effects.proofs.Rows.{left_kept}
 use Rattle.vx_events.specs.Effects.{ChangesNode, EffectAt}
 use Rattle.vx_events.proofs.Steps.{kept_is}
 use Rattle.vx_link_lines.specs.Headed.{NotesAt, behind, noted_by}
@@ -123,7 +123,7 @@ module _ (note : (ℕ → Node) → ℕ → Node) (s : ℕ) (notes : NotesAt s n
     fell = noted_by note cut
 
     cut_effect : EffectAt s (halved d e s 0) cut (crashed ((resolved_at (halved d e s 0) s taken).world.nodes s) (kept_of ((resolved_at (halved d e s 0) s taken).world.nodes s) count))
-        (λ j. lost_touch ((resolved_at (halved d e s 0) s taken).world.links s j)) ((halved d e s 0).world.headers s) None d.world.packets None
+        (λ j. link_left ((resolved_at (halved d e s 0) s taken).world.nodes s) (kept_of ((resolved_at (halved d e s 0) s taken).world.nodes s) count) ((resolved_at (halved d e s 0) s taken).world.links s j)) ((halved d e s 0).world.headers s) None d.world.packets None
     cut_effect = crashed_effect (halved d e s 0) s count taken
 
     crashed_node : (resolved_at (halved d e s 0) s taken).world.nodes s ≡ k → crashed ((resolved_at (halved d e s 0) s taken).world.nodes s) (kept_of ((resolved_at (halved d e s 0) s taken).world.nodes s) count) ≡ crashed k count
@@ -155,9 +155,11 @@ module _ (note : (ℕ → Node) → ℕ → Node) (s : ℕ) (notes : NotesAt s n
 
     pub fell_beside : beside_of fell s ≡ record { links = ks; headers = d.world.headers s + 1; doubt = None }
     fell_beside =
+        let q : Node = (resolved_at (halved d e s 0) s taken).world.nodes s in
+        let left : Link → Link = link_left q (kept_of q count) in
         beside_sure fell s ks (d.world.headers s + 1)
-        (row_links_same (λ j. lost_touch (links j)) (fell.world.links s) (λ j. cut_effect.is.links j ∙ ap lost_touch (row_is j)) fell.world.sites
-        ∙ ap (λ (q : ℕ). row_links (λ j. lost_touch (links j)) q) fell_changes.sites ∙ touch_kept links d.world.sites ∙ links_are)
+        (row_links_same (λ j. left (links j)) (fell.world.links s) (λ j. cut_effect.is.links j ∙ ap left (row_is j)) fell.world.sites
+        ∙ ap (λ (i : ℕ). row_links (λ j. left (links j)) i) fell_changes.sites ∙ left_kept q (kept_of q count) links d.world.sites ∙ links_are)
         (cut_effect.is.headers ∙ (half_effect 0).is.headers) cut_effect.is.after
 
   -- the site is what it was

@@ -21,6 +21,7 @@ use Rattle.vx_events.specs.Effects.{EffectAt}
 use Rattle.vx_events.specs.Fails.{IsLogDisk}
 use Rattle.vx_events.specs.GroupLines.{is_over_group}
 use Rattle.vx_events.specs.LinksFit.{LinksFit}
+use Rattle.vx_effects.specs.Settings.{SetsFail}
 use Rattle.vx_link_lines.specs.Headed.{behind}
 use Rattle.vx_srl.specs.Views.{most_number}
 
@@ -50,6 +51,7 @@ pub record IsHeader (d : Doubted) (e : Event) (s : ℕ) (m : Node) (ls : List Ke
   pub like : SameBody (d.world.nodes s) m
   pub fits : LinksFit (behind d e)
   pub fits_before : LinksFit d
+  pub sets : SetsFail e
   pub opens : IsOpen (d.world.nodes s)
   pub none : (d.world.nodes s).group ≡ None
   pub writes : WritesAt d.world e s

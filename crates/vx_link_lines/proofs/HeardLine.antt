@@ -281,7 +281,7 @@ module _ {R : Type 0} {g : Ghosts R} where
             stands = stands_turned start to old new s before after noted below changed
                 (record {
                   changes = w.site;
-                  links = (notes_one s).fits (behind d event) (fit_happened d event false stands.links);
+                  links = (notes_one s).fits (behind d event) (fit_happened d event false tt stands.links);
                   stands = subst (λ (k : Node). SiteStands (beside_of to s) k after) there (subst (λ (b : KeptBeside). SiteStands b (worked n) after) (sym beside) (stands_worked (record { links = ls; headers = d.world.headers s; doubt = None }) n after stood));
                   failing = subst (λ (k : Node). FailsAs k after) there (fails_then n (worked n) before after refl (calls_keep NoMore Done before after h.calls) (stands.failing s before below changed.there));
                   fuse = subst (λ (k : Node). FusedAs k after) there
@@ -398,7 +398,7 @@ module _ {R : Type 0} {g : Ghosts R} where
           works = tt;
           calls = tt;
         };
-        stands = stands_kept start v y y noted left (fit_worked (behind d (DeliverAt number)) s (fit_happened d (DeliverAt number) false stands.links)) same
+        stands = stands_kept start v y y noted left (fit_worked (behind d (DeliverAt number)) s (fit_happened d (DeliverAt number) false tt stands.links)) same
             (noted.facts ∙ subst (λ (o : Outcome). facts_over start.world ≡ facts_over (worked_on (headers_counted d.world (DeliverAt number) o).world s)) (sym is) refl);
         carries = λ carries. carries_kept start v y y [] (carries_noted d s y carries) left sent same
             (subst (λ (ps : List Packet). FlightStands ps y.flight) (sym (ap (λ (o : Outcome). o.world.packets) is)) carries.flight);
@@ -426,7 +426,7 @@ module _ {R : Type 0} {g : Ghosts R} where
           works = tt;
           calls = tt;
         };
-        stands = stands_kept d v y y stands left (fit_happened d (DeliverAt number) false stands.links) same
+        stands = stands_kept d v y y stands left (fit_happened d (DeliverAt number) false tt stands.links) same
             (stands.facts ∙ subst (λ (o : Outcome). facts_over d.world ≡ facts_over (headers_counted d.world (DeliverAt number) o).world) (sym is) refl);
         carries = λ carries. carries_kept d v y y [] carries left sent same (subst (λ (ps : List Packet). FlightStands ps y.flight) (sym (ap (λ (o : Outcome). o.world.packets) is)) carries.flight);
         rose = rose_none (count_of y) (count_of y) (λ k u. omega arith);

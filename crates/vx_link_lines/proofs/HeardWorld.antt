@@ -177,8 +177,9 @@ module _ (d : Doubted) (number : ℕ) (p : Packet) (at : packet_at d.world.packe
     kept = heard_kept;
     sure = sure_open d s fits opens;
     like = record { state = refl; name = refl; disks = refl; blocks = refl; volumes = refl; group = refl; failing = refl; fuse = refl };
-    fits = fit_happened d event false fits;
+    fits = fit_happened d event false tt fits;
     fits_before = fits;
+    sets = tt;
     opens = opens;
     none = none;
     writes = (p, at, refl, no_update, rises_by opens rises);
@@ -246,4 +247,4 @@ module _ (d : Doubted) (number : ℕ) (p : Packet) (at : packet_at d.world.packe
 
     -- it goes by the log or by nothing behind it too
     pub behind_plain : is_plain_mode (o.world.links s p.source).mode ≡ true
-    behind_plain = (((fit_happened d event false fits).rows s).plain p.source (ap (λ (m : Option ℕ). is_made m) made ∙ l.linked)).mode
+    behind_plain = (((fit_happened d event false tt fits).rows s).plain p.source (ap (λ (m : Option ℕ). is_made m) made ∙ l.linked)).mode

@@ -4,6 +4,7 @@ use Rattle.std.specs.Prelude.{Bool, Some, None, not, ◌&&◌, eqb, slice_get, s
 use Rattle.std.proofs.lemmas.Bool.Decides.{nat_tests}
 use Rattle.vx_model.specs.Content.{Write}
 use Rattle.vx_model.specs.declared.limits.TheConstants.{MOST_SITES}
+use Rattle.vx_model.specs.declared.link.Prot.TheVariants.{Fail as FailsWhenFull}
 use Rattle.vx_model.specs.declared.link.SyncMode.{SyncMode}
 use Rattle.vx_model.specs.declared.no.No.{No}
 use Rattle.vx_model.specs.declared.no.No.TheVariants.{Device, Limit, Down as IsOff}
@@ -70,7 +71,7 @@ module _ {R : Type 0} {g : Ghosts R} where
 
 -- ---- the site may come to that line
 
-module _ (d : Doubted) (p s : ℕ) (sync : SyncMode) (fit : LinksFit d) (alone : (d.world.nodes s).group ≡ None) (said : (step d.world (LinkAt p s sync Joins)).said ≡ IsDone) where
+module _ (d : Doubted) (p s : ℕ) (sync : SyncMode) (fit : LinksFit d) (alone : (d.world.nodes s).group ≡ None) (said : (step d.world (LinkAt p s sync FailsWhenFull Joins)).said ≡ IsDone) where
   abbrev site : Node
   site = d.world.nodes s
 
@@ -78,7 +79,7 @@ module _ (d : Doubted) (p s : ℕ) (sync : SyncMode) (fit : LinksFit d) (alone :
   no_links = not (some_below d.world.sites (λ j. is_linked (d.world.links s j)))
 
   two_sites : AreTwo d.world p s
-  two_sites = (two_done d.world p s sync Joins said).0
+  two_sites = (two_done d.world p s sync FailsWhenFull Joins said).0
 
   pub can_join : CanJoin (beside_of d s) (worked site)
   can_join = record {
@@ -92,13 +93,13 @@ module _ (d : Doubted) (p s : ℕ) (sync : SyncMode) (fit : LinksFit d) (alone :
 
 module _ {R : Type 0} {g : Ghosts R} where
   -- what the call on the disks promises of their fuse
-  pub join_headed : (note : (ℕ → Node) → ℕ → Node) (d : Doubted) (p s : ℕ) (sync : SyncMode) → NotesAt s note → LinksFit d → (d.world.nodes s).group ≡ None → (step d.world (LinkAt p s sync Joins)).said ≡ IsDone
+  pub join_headed : (note : (ℕ → Node) → ℕ → Node) (d : Doubted) (p s : ℕ) (sync : SyncMode) → NotesAt s note → LinksFit d → (d.world.nodes s).group ≡ None → (step d.world (LinkAt p s sync FailsWhenFull Joins)).said ≡ IsDone
       → (old : Yard R g) (before after : DiskSet R g) → StandsFor (noted_by note d) old → s < d.world.sites → slice_get old.disk_sets.items s ≡ Some before → (result : Result (Unit {0}) No)
       → ((beside : KeptBeside) (k : Node) → SiteStands beside k before → CanJoin beside k → HeadUnder 2 (done_by result) before after) → HeadUnder 2 (done_by result) before after
   join_headed note d p s sync notes fit alone said old before after stands below at result call =
       call (beside_of d s) (worked (d.world.nodes s)) (subst (λ (k : Node). SiteStands (beside_of d s) k before) (notes.here d.world.nodes) (stands.disk_sets.sites s before below at)) (can_join d p s sync fit alone said)
 
-module _ {R : Type 0} {g : Ghosts R} (note : (ℕ → Node) → ℕ → Node) (d : Doubted) (p s : ℕ) (sync : SyncMode) (notes : NotesAt s note) (fit : LinksFit d) (alone : (d.world.nodes s).group ≡ None) (said : (step d.world (LinkAt p s sync Joins)).said ≡ IsDone)
+module _ {R : Type 0} {g : Ghosts R} (note : (ℕ → Node) → ℕ → Node) (d : Doubted) (p s : ℕ) (sync : SyncMode) (notes : NotesAt s note) (fit : LinksFit d) (alone : (d.world.nodes s).group ≡ None) (said : (step d.world (LinkAt p s sync FailsWhenFull Joins)).said ≡ IsDone)
     (old new : Yard R g) (before after : DiskSet R g) (stands : StandsFor (noted_by note d) old) (below : s < d.world.sites) (changed : Changed old new s before after) where
   abbrev w : World
   w = d.world
@@ -110,20 +111,21 @@ module _ {R : Type 0} {g : Ghosts R} (note : (ℕ → Node) → ℕ → Node) (d
   m = joined (w.nodes p) p n
 
   abbrev e : Event
-  e = LinkAt p s sync Joins
+  e = LinkAt p s sync FailsWhenFull Joins
 
   two : AreTwo w p s
-  two = (two_done w p s sync Joins said).0
+  two = (two_done w p s sync FailsWhenFull Joins said).0
 
   header : IsHeader d e s m (header_links w s) None
   header = record {
     row = w.links s;
-    effect = joins_effect d p s sync false said;
+    effect = joins_effect d p s sync FailsWhenFull false said;
     kept = refl;
     sure = sure_open d s fit (two.up_too, two.running_too);
     like = record { state = refl; name = refl; disks = refl; blocks = refl; volumes = refl; group = refl; failing = refl; fuse = refl };
-    fits = fit_happened d e false fit;
+    fits = fit_happened d e false refl fit;
     fits_before = fit;
+    sets = refl;
     opens = (two.up_too, two.running_too);
     none = alone;
     writes = refl;

@@ -3,6 +3,7 @@ use Rattle.std.proofs.Common.{◌≡◌, ◌∙◌, ◌+◌, ◌<◌, ℕ, zero,
 use Rattle.std.specs.Prelude.{None, not, ◌&&◌, ◌||◌, eqb}
 use Rattle.std.proofs.lemmas.Bool.{cases_eq, false_from_ne_true, not-true}
 use Rattle.vx_model.specs.Sites.{first_line, same_line}
+use Rattle.vx_model.specs.declared.link.Prot.TheVariants.{Fail as FailsWhenFull}
 use Rattle.vx_model.specs.declared.link.SyncMode.{SyncMode}
 use Rattle.vx_model.specs.declared.site.Mark.TheVariants.{Consistent}
 use Rattle.vx_model.specs.declared.state.KeptLink.{KeptLink}
@@ -58,7 +59,7 @@ none_below (suc m) test none k less =
     rest true b e = absurd (cc)
     rest false b e = e
 
-module _ (d : Doubted) (p s : ℕ) (sync : SyncMode) (fit : LinksFit d) (said : (step d.world (LinkAt p s sync Joins)).said ≡ IsDone) where
+module _ (d : Doubted) (p s : ℕ) (sync : SyncMode) (fit : LinksFit d) (said : (step d.world (LinkAt p s sync FailsWhenFull Joins)).said ≡ IsDone) where
   abbrev w : World
   w = d.world
 
@@ -66,7 +67,7 @@ module _ (d : Doubted) (p s : ℕ) (sync : SyncMode) (fit : LinksFit d) (said : 
   fresh_tests = same_line (w.nodes p).line (first_line p) && is_fresh w s
 
   tests : (not (eqb s p) && (is_empty (w.nodes p).log && fresh_tests)) ≡ true
-  tests = and_right (is_primary (w.nodes p).role) (not (eqb s p) && (is_empty (w.nodes p).log && fresh_tests)) (joins_done w p s sync said).0
+  tests = and_right (is_primary (w.nodes p).role) (not (eqb s p) && (is_empty (w.nodes p).log && fresh_tests)) (joins_done w p s sync FailsWhenFull said).0
 
   -- the two are not one site
   pub apart : s ≡ p → ⊥
@@ -98,16 +99,16 @@ module _ (d : Doubted) (p s : ℕ) (sync : SyncMode) (fit : LinksFit d) (said : 
   -- ---- the worlds
 
   abbrev joins : Event
-  joins = LinkAt p s sync Joins
+  joins = LinkAt p s sync FailsWhenFull Joins
 
   abbrev makes : Event
-  makes = LinkAt p s sync Made
+  makes = LinkAt p s sync FailsWhenFull Made
 
   abbrev marks : Event
-  marks = LinkAt p s sync Marked
+  marks = LinkAt p s sync FailsWhenFull Marked
 
   abbrev opens : Event
-  opens = LinkAt p s sync Opened
+  opens = LinkAt p s sync FailsWhenFull Opened
 
   abbrev one : Doubted
   one = behind d joins
@@ -122,34 +123,34 @@ module _ (d : Doubted) (p s : ℕ) (sync : SyncMode) (fit : LinksFit d) (said : 
   four = behind three opens
 
   pub said_two : (step one.world makes).said ≡ IsDone
-  said_two = made_follows w p s sync said
+  said_two = made_follows w p s sync FailsWhenFull said
 
   pub said_three : (step two.world marks).said ≡ IsDone
-  said_three = marked_follows w p s sync said
+  said_three = marked_follows w p s sync FailsWhenFull said
 
   pub said_four : (step three.world opens).said ≡ IsDone
-  said_four = opened_follows w p s sync said
+  said_four = opened_follows w p s sync FailsWhenFull said
 
   pub fit_one : LinksFit one
-  fit_one = fit_happened d joins false fit
+  fit_one = fit_happened d joins false refl fit
 
   pub fit_two : LinksFit two
-  fit_two = fit_happened one makes false fit_one
+  fit_two = fit_happened one makes false refl fit_one
 
   pub fit_three : LinksFit three
-  fit_three = fit_happened two marks false fit_two
+  fit_three = fit_happened two marks false refl fit_two
 
   f_one : EffectAt s d one (joined_to (w.nodes p) p (w.nodes s)) (w.links s) (w.headers s + 1) (d.after s) w.packets None
-  f_one = joins_effect d p s sync false said
+  f_one = joins_effect d p s sync FailsWhenFull false said
 
   abbrev made_link : Link
-  made_link = new_link (count_of_links one.world p) sync (one.world.nodes s)
+  made_link = new_link (count_of_links one.world p) sync FailsWhenFull (one.world.nodes s)
 
   f_two : EffectAt p one two (one.world.nodes p) (updated (one.world.links p) s made_link) (one.world.headers p + 1) (one.after p) one.world.packets (one.world.gathering p)
-  f_two = made_effect one p s sync false said_two
+  f_two = made_effect one p s sync FailsWhenFull false said_two
 
   f_three : EffectAt s two three (record (two.world.nodes s) { mark = Consistent }) (two.world.links s) (two.world.headers s + 1) (two.after s) two.world.packets (two.world.gathering s)
-  f_three = marked_effect two p s sync false said_three
+  f_three = marked_effect two p s sync FailsWhenFull false said_three
 
   -- ---- places
 
@@ -180,7 +181,7 @@ module _ (d : Doubted) (p s : ℕ) (sync : SyncMode) (fit : LinksFit d) (said : 
   first_three = f_three.site.nodes p apart_too ∙ first_two
 
   pub open_here : IsOpen (w.nodes s)
-  open_here = let t : AreTwo w p s = (two_done w p s sync Joins said).0 in (t.up_too, t.running_too)
+  open_here = let t : AreTwo w p s = (two_done w p s sync FailsWhenFull Joins said).0 in (t.up_too, t.running_too)
 
   pub open_one : IsOpen (one.world.nodes p)
   open_one = made_opens one p s sync said_two

@@ -12,6 +12,7 @@ use Rattle.vx_history.specs.declared.event.LinkPart.TheVariants.{Joins, Made, Ma
 use Rattle.vx_history.specs.declared.event.Said.{Said as EventSaid}
 use Rattle.vx_history.specs.declared.event.Said.TheVariants.{Done as IsDone}
 use Rattle.vx_history.specs.Events.{joined as joined_to}
+use Rattle.vx_model.specs.declared.link.Prot.TheVariants.{Fail as FailsWhenFull}
 use Rattle.vx_model.specs.declared.link.Prot.{Prot}
 use Rattle.vx_model.specs.declared.link.SyncMode.{SyncMode}
 use Rattle.vx_script.specs.declared.line.ScriptLine.{ScriptLine}
@@ -68,24 +69,24 @@ module _ {R : Type 0} {g : Ghosts R} where
     abbrev pub HeadsJoin : Type 0
     HeadsJoin =
         (d : Doubted) (note : (ℕ → Node) → ℕ → Node) → NotesAt s note → StandsFor (noted_by note d) old → LinksFit d → s < d.world.sites
-        → (d.world.nodes p).group ≡ None → (d.world.nodes s).group ≡ None → (step d.world (LinkAt p s sync Joins)).said ≡ IsDone → states.joined ≡ state_with (joined_to (d.world.nodes p) p (d.world.nodes s)) [] → HeadedSo note d (LinkAt p s sync Joins) s old new result
+        → (d.world.nodes p).group ≡ None → (d.world.nodes s).group ≡ None → (step d.world (LinkAt p s sync FailsWhenFull Joins)).said ≡ IsDone → states.joined ≡ state_with (joined_to (d.world.nodes p) p (d.world.nodes s)) [] → HeadedSo note d (LinkAt p s sync FailsWhenFull Joins) s old new result
 
     abbrev pub HeadsMade : Type 0
     HeadsMade =
         (d : Doubted) (note : (ℕ → Node) → ℕ → Node) → NotesAt p note → StandsFor (noted_by note d) old → LinksFit d → p < d.world.sites → (d.world.nodes p).group ≡ None → (d.world.nodes s).session ≡ states.session
-        → (step d.world (LinkAt p s sync Made)).said ≡ IsDone → states.made ≡ state_with (d.world.nodes p) (header_links (step d.world (LinkAt p s sync Made)).world p)
-        → HeadedSo note d (LinkAt p s sync Made) p old new result
+        → (step d.world (LinkAt p s sync FailsWhenFull Made)).said ≡ IsDone → states.made ≡ state_with (d.world.nodes p) (header_links (step d.world (LinkAt p s sync FailsWhenFull Made)).world p)
+        → HeadedSo note d (LinkAt p s sync FailsWhenFull Made) p old new result
 
     abbrev pub HeadsMarked : Type 0
     HeadsMarked =
-        (d : Doubted) (note : (ℕ → Node) → ℕ → Node) → NotesAt s note → StandsFor (noted_by note d) old → LinksFit d → s < d.world.sites → (d.world.nodes s).group ≡ None → (step d.world (LinkAt p s sync Marked)).said ≡ IsDone
-        → states.marked ≡ (let m : State = record (state_with (d.world.nodes s) (header_links d.world s)) { mark = Consistent } in m) → HeadedSo note d (LinkAt p s sync Marked) s old new result
+        (d : Doubted) (note : (ℕ → Node) → ℕ → Node) → NotesAt s note → StandsFor (noted_by note d) old → LinksFit d → s < d.world.sites → (d.world.nodes s).group ≡ None → (step d.world (LinkAt p s sync FailsWhenFull Marked)).said ≡ IsDone
+        → states.marked ≡ (let m : State = record (state_with (d.world.nodes s) (header_links d.world s)) { mark = Consistent } in m) → HeadedSo note d (LinkAt p s sync FailsWhenFull Marked) s old new result
 
     abbrev pub HeadsOpened : Type 0
     HeadsOpened =
         (d : Doubted) (note : (ℕ → Node) → ℕ → Node) → NotesAt p note → StandsFor (noted_by note d) old → LinksFit d → p < d.world.sites → (d.world.nodes p).group ≡ None → (d.world.nodes p).safe ≡ states.last
-        → (step d.world (LinkAt p s sync Opened)).said ≡ IsDone → states.opened ≡ state_with (d.world.nodes p) (header_links (step d.world (LinkAt p s sync Opened)).world p)
-        → HeadedSo note d (LinkAt p s sync Opened) p old new result
+        → (step d.world (LinkAt p s sync FailsWhenFull Opened)).said ≡ IsDone → states.opened ≡ state_with (d.world.nodes p) (header_links (step d.world (LinkAt p s sync FailsWhenFull Opened)).world p)
+        → HeadedSo note d (LinkAt p s sync FailsWhenFull Opened) p old new result
 
   -- ---- the line
 
@@ -154,16 +155,16 @@ module _ {R : Type 0} {g : Ghosts R} where
         subst (λ (x : Said). Leads d line x old new) (sym h.1) (leads_by new r.ends (λ (is : Refused h.0 ≡ Done). absurd (refused_undone h.0 is)) (next_then r.fails (noted_by note d) (noted_by note middle) r.next old mid new before r.goes))
 
     abbrev joins : Event
-    joins = LinkAt p s sync Joins
+    joins = LinkAt p s sync FailsWhenFull Joins
 
     abbrev makes : Event
-    makes = LinkAt p s sync Made
+    makes = LinkAt p s sync FailsWhenFull Made
 
     abbrev marks : Event
-    marks = LinkAt p s sync Marked
+    marks = LinkAt p s sync FailsWhenFull Marked
 
     abbrev opening : Event
-    opening = LinkAt p s sync Opened
+    opening = LinkAt p s sync FailsWhenFull Opened
 
     abbrev one : Doubted
     one = behind d joins
@@ -333,7 +334,7 @@ module _ {R : Type 0} {g : Ghosts R} where
     abbrev pub CallsJoin : Yard R g → Result (Unit {0}) Said → Type 0
     CallsJoin new result =
         (e : Doubted) (noting : (ℕ → Node) → ℕ → Node) → NotesAt s noting → StandsFor (noted_by noting e) old → LinksFit e → s < e.world.sites → (e.world.nodes s).group ≡ None
-        → (step e.world (LinkAt p s sync Joins)).said ≡ IsDone → OfSite (HeadUnder 2 (part_said result)) s old new
+        → (step e.world (LinkAt p s sync FailsWhenFull Joins)).said ≡ IsDone → OfSite (HeadUnder 2 (part_said result)) s old new
 
     pub under_one : (new : Yard R g) (result : Result (Unit {0}) Said) → CallsJoin new result → BothSites (UnderJoined (part_said result)) p s old new
     under_one new result call =

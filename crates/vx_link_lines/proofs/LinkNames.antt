@@ -1,6 +1,7 @@
 -- The sites that a line names which makes a link are found, and its first event is not refused.
 use Rattle.std.proofs.Common.{◌≡◌, ◌∙◌, ℕ, List, Bool, false, ap, sym, subst}
 use Rattle.std.specs.Prelude.{IsSome, Some, None}
+use Rattle.vx_model.specs.declared.link.Prot.TheVariants.{Fail as FailsWhenFull}
 use Rattle.vx_model.specs.declared.link.Prot.{Prot}
 use Rattle.vx_model.specs.declared.link.SyncMode.{SyncMode}
 use Rattle.vx_model.specs.declared.site.SiteState.{SiteState}
@@ -66,14 +67,14 @@ module _ {R : Type 0} {g : Ghosts R} (d : Doubted) (old : Yard R g) (first secon
   pub link_apart_too : is_over_group (w.nodes s) ≡ false
   link_apart_too = subst (λ (k : ℕ). is_over_group (w.nodes k) ≡ false) there.number (join_apart w (in_files old) first second sync prot tested).1
 
-  pub link_said : (step w (LinkAt p s sync Joins)).said ≡ IsDone
+  pub link_said : (step w (LinkAt p s sync FailsWhenFull Joins)).said ≡ IsDone
   link_said =
-      subst (λ (k : ℕ). (step w (LinkAt k s sync Joins)).said ≡ IsDone) here.number
-      (subst (λ (k : ℕ). (step w (LinkAt (site_number w first) k sync Joins)).said ≡ IsDone) there.number
+      subst (λ (k : ℕ). (step w (LinkAt k s sync FailsWhenFull Joins)).said ≡ IsDone) here.number
+      (subst (λ (k : ℕ). (step w (LinkAt (site_number w first) k sync FailsWhenFull Joins)).said ≡ IsDone) there.number
       (join_agrees w (in_files old) first second sync prot (durable_for d old stands) (listed d stands.links) tested))
 
   pub link_two : AreTwo w p s
-  link_two = (two_done w p s sync Joins link_said).0
+  link_two = (two_done w p s sync FailsWhenFull Joins link_said).0
 
   -- what the tests see of the links of the first site
   pub link_links : (f : SiteFacts) → f ≡ linked_fact w p → f.links ≡ links_of_site w p

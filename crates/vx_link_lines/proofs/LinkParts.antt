@@ -15,6 +15,7 @@ use Rattle.vx_history.specs.declared.event.Event.TheVariants.{Link as LinkAt}
 use Rattle.vx_history.specs.declared.event.LinkPart.TheVariants.{Made, Marked, Opened}
 use Rattle.vx_history.specs.declared.event.Said.TheVariants.{Done as IsDone}
 use Rattle.vx_history.specs.Steps.{worked}
+use Rattle.vx_model.specs.declared.link.Prot.TheVariants.{Fail as FailsWhenFull}
 use Rattle.vx_model.specs.declared.link.SyncMode.{SyncMode}
 use Rattle.vx_model.specs.declared.site.Mark.TheVariants.{Consistent}
 use Rattle.vx_model.specs.declared.state.KeptLink.{KeptLink}
@@ -54,17 +55,17 @@ module _ (d : Doubted) (p s : ℕ) (sync : SyncMode) where
   -- ---- the first site has the link
 
   abbrev made : Event
-  made = LinkAt p s sync Made
+  made = LinkAt p s sync FailsWhenFull Made
 
   abbrev made_link : Link
-  made_link = new_link (count_of_links w p) sync (w.nodes s)
+  made_link = new_link (count_of_links w p) sync FailsWhenFull (w.nodes s)
 
   module _ (said : (step w made).said ≡ IsDone) where
     pub made_f : EffectAt p d (behind d made) (w.nodes p) (updated (w.links p) s made_link) (w.headers p + 1) (d.after p) w.packets (w.gathering p)
-    made_f = made_effect d p s sync false said
+    made_f = made_effect d p s sync FailsWhenFull false said
 
     pub made_opens : IsOpen (w.nodes p)
-    made_opens = let t : AreTwo w p s = (two_done w p s sync Made said).0 in (t.up, t.running)
+    made_opens = let t : AreTwo w p s = (two_done w p s sync FailsWhenFull Made said).0 in (t.up, t.running)
 
     pub made_kept : row_links (updated (w.links p) s made_link) w.sites ≡ header_links (behind d made).world p
     made_kept =
@@ -74,7 +75,7 @@ module _ (d : Doubted) (p s : ℕ) (sync : SyncMode) where
     -- the header keeps the links of before, and the new one behind them
     pub made_links : HasPlaces w.sites (w.links p) → header_links (behind d made).world p ≡ header_links w p ++ kept_link s made_link ∷ []
     made_links has =
-        sym made_kept ∙ further_kept (w.links p) w.sites s made_link has (two_done w p s sync Made said).0.second (made_done w p s sync said).0 refl
+        sym made_kept ∙ further_kept (w.links p) w.sites s made_link has (two_done w p s sync FailsWhenFull Made said).0.second (made_done w p s sync FailsWhenFull said).0 refl
 
     pub made_can : is_over_group (w.nodes p) ≡ false → HasPlaces w.sites (w.links p) → CanKeep (beside_of d p) (worked (w.nodes p)) (state_with (w.nodes p) (header_links (behind d made).world p))
     made_can alone has = record {
@@ -91,14 +92,14 @@ module _ (d : Doubted) (p s : ℕ) (sync : SyncMode) where
   -- ---- the second site is consistent
 
   abbrev marked : Event
-  marked = LinkAt p s sync Marked
+  marked = LinkAt p s sync FailsWhenFull Marked
 
   module _ (said : (step w marked).said ≡ IsDone) where
     pub marked_f : EffectAt s d (behind d marked) (record (w.nodes s) { mark = Consistent }) (w.links s) (w.headers s + 1) (d.after s) w.packets (w.gathering s)
-    marked_f = marked_effect d p s sync false said
+    marked_f = marked_effect d p s sync FailsWhenFull false said
 
     pub marked_opens : IsOpen (w.nodes s)
-    marked_opens = let t : AreTwo w p s = (two_done w p s sync Marked said).0 in (t.up_too, t.running_too)
+    marked_opens = let t : AreTwo w p s = (two_done w p s sync FailsWhenFull Marked said).0 in (t.up_too, t.running_too)
 
     abbrev pub marked_state : State
     marked_state = record (state_with (w.nodes s) (header_links w s)) { mark = Consistent }
@@ -116,17 +117,17 @@ module _ (d : Doubted) (p s : ℕ) (sync : SyncMode) where
   -- ---- the link goes by the log
 
   abbrev opens : Event
-  opens = LinkAt p s sync Opened
+  opens = LinkAt p s sync FailsWhenFull Opened
 
   abbrev opened_link : Link
   opened_link = opened (w.links p s) (w.nodes p).safe
 
   module _ (said : (step w opens).said ≡ IsDone) where
     pub opened_f : EffectAt p d (behind d opens) (w.nodes p) (updated (w.links p) s opened_link) (w.headers p + 1) (d.after p) w.packets (w.gathering p)
-    opened_f = opened_effect d p s sync false said
+    opened_f = opened_effect d p s sync FailsWhenFull false said
 
     pub opened_opens : IsOpen (w.nodes p)
-    opened_opens = let t : AreTwo w p s = (two_done w p s sync Opened said).0 in (t.up, t.running)
+    opened_opens = let t : AreTwo w p s = (two_done w p s sync FailsWhenFull Opened said).0 in (t.up, t.running)
 
     pub opened_kept : row_links (updated (w.links p) s opened_link) w.sites ≡ header_links (behind d opens).world p
     opened_kept =
@@ -156,8 +157,9 @@ module _ (d : Doubted) (p s : ℕ) (sync : SyncMode) where
         kept = made_kept said;
         sure = sure_open d p fit (made_opens said);
         like = record { state = refl; name = refl; disks = refl; blocks = refl; volumes = refl; group = refl; failing = refl; fuse = refl };
-        fits = fit_happened d made false fit;
+        fits = fit_happened d made false refl fit;
         fits_before = fit;
+        sets = refl;
         opens = made_opens said;
         none = none;
         writes = refl;
@@ -174,8 +176,9 @@ module _ (d : Doubted) (p s : ℕ) (sync : SyncMode) where
         kept = refl;
         sure = sure_open d s fit (marked_opens said);
         like = record { state = refl; name = refl; disks = refl; blocks = refl; volumes = refl; group = refl; failing = refl; fuse = refl };
-        fits = fit_happened d marked false fit;
+        fits = fit_happened d marked false refl fit;
         fits_before = fit;
+        sets = refl;
         opens = marked_opens said;
         none = none;
         writes = refl;
@@ -192,8 +195,9 @@ module _ (d : Doubted) (p s : ℕ) (sync : SyncMode) where
         kept = opened_kept said;
         sure = sure_open d p fit (opened_opens said);
         like = record { state = refl; name = refl; disks = refl; blocks = refl; volumes = refl; group = refl; failing = refl; fuse = refl };
-        fits = fit_happened d opens false fit;
+        fits = fit_happened d opens false refl fit;
         fits_before = fit;
+        sets = refl;
         opens = opened_opens said;
         none = none;
         writes = refl;

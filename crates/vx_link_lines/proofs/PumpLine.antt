@@ -255,7 +255,7 @@ module _ {R : Type 0} {g : Ghosts R} where
           next = record d { world = v };
           fails = [];
           done = pump_done (IsTold new) d p q comes.said;
-          stands = stands_kept d v (between old new) new middle_stands left (fit_happened d (PumpAt a b) false stands.links) relinks (facts ∙ comes.stands.facts);
+          stands = stands_kept d v (between old new) new middle_stands left (fit_happened d (PumpAt a b) false tt stands.links) relinks (facts ∙ comes.stands.facts);
           carries = λ _. carries_kept d v (between old new) new sends.0 middle_carries left sends.1 relinks comes.stands.flight;
           rose = rises;
         }

@@ -219,7 +219,7 @@ module _ {R : Type 0} {g : Ghosts R} where
             calls = tt;
           };
           stands = still_apart d e old new s before after stands here.seat.below changed
-              (comes_effect d e s (worked m) packets (d.world.gathering s) after eff (fit_worked h s (fit_happened d (ApplyAt s count number) false stands.links))
+              (comes_effect d e s (worked m) packets (d.world.gathering s) after eff (fit_worked h s (fit_happened d (ApplyAt s count number) false tt stands.links))
               (ap (λ (x : Node). x.name) same) (ap (λ (x : Node). x.disks) same) (ap (λ (x : Node). x.blocks) same) (ap (λ (x : Node). x.volumes) same) (ap (λ (x : Node). x.role) same) stood
               (fails_then n (worked m) before after (ap (λ (x : Node). x.failing) same) (calls_keep NoMore (DoneAt number) before after calls) (stands.failing s before here.seat.below changed.there))
               (fuse (worked m) number (ap (λ (x : Node). burned x.fuse) same) calls) (role_kept d old s before after stands here.seat.below changed.there keeps))

@@ -14,6 +14,7 @@ use Rattle.vx_history.specs.declared.event.Event.TheVariants.{Set as SetAt}
 use Rattle.vx_history.specs.declared.event.Said.{Said as EventSaid}
 use Rattle.vx_history.specs.declared.event.Said.TheVariants.{Done as IsDone, Refused as IsRefused}
 use Rattle.vx_model.specs.Sites.{is_origin}
+use Rattle.vx_model.specs.declared.link.Prot.TheVariants.{Fail as FailsWhenFull}
 use Rattle.vx_model.specs.declared.link.Prot.{Prot}
 use Rattle.vx_model.specs.declared.link.SyncMode.{SyncMode}
 use Rattle.vx_model.specs.declared.no.Named.TheVariants.{Number as ByNumber}
@@ -68,7 +69,7 @@ use Rattle.vx_yard.proofs.Rows.{row_links_same}
 use Rattle.vx_link_lines.proofs.SetLink.{set_needs}
 
 -- a setting that is done was made at a site that is up and not halted
-pub set_open : (w : World) (p s : ℕ) (sync : SyncMode) → (step w (SetAt p s sync)).said ≡ IsDone → IsOpen (w.nodes p)
+pub set_open : (w : World) (p s : ℕ) (sync : SyncMode) → (step w (SetAt p s sync FailsWhenFull)).said ≡ IsDone → IsOpen (w.nodes p)
 set_open w p s sync said =
     let Q : Outcome → Type 0 = λ (o : Outcome). o.said ≡ IsDone → IsOpen (w.nodes p) in
     let none : (why : No) → Q (let o : Outcome = record { world = w; said = IsRefused why } in o) = λ why e. absurd (let f : IsRefused why ≡ IsDone = e in cc) in
@@ -87,7 +88,7 @@ module _ {R : Type 0} {g : Ghosts R} (d : Doubted) (old : Yard R g) (first secon
   w = d.world
 
   abbrev event : Event
-  event = SetAt s q sync
+  event = SetAt s q sync FailsWhenFull
 
   there : PlaceAt d old second q
   there = place_at d old second q stands seat_too
@@ -104,8 +105,8 @@ module _ {R : Type 0} {g : Ghosts R} (d : Doubted) (old : Yard R g) (first secon
 
   pub set_said : (step w event).said ≡ IsDone
   set_said =
-      subst (λ (k : ℕ). (step w (SetAt k q sync)).said ≡ IsDone) here.number
-      (subst (λ (k : ℕ). (step w (SetAt (site_number w first) k sync)).said ≡ IsDone) there.number (set_agrees w (in_files old) first second sync free_prot tested))
+      subst (λ (k : ℕ). (step w (SetAt k q sync FailsWhenFull)).said ≡ IsDone) here.number
+      (subst (λ (k : ℕ). (step w (SetAt (site_number w first) k sync FailsWhenFull)).said ≡ IsDone) there.number (set_agrees w (in_files old) first second sync free_prot tested))
 
   pub set_opens : IsOpen n
   set_opens = set_open w s q sync set_said
@@ -114,7 +115,7 @@ module _ {R : Type 0} {g : Ghosts R} (d : Doubted) (old : Yard R g) (first secon
   row = updated (w.links s) q (sets w s q sync)
 
   effect : EffectAt s d (behind d event) n row (w.headers s + 1) (d.after s) w.packets (w.gathering s)
-  effect = set_effect d s q sync false set_said
+  effect = set_effect d s q sync FailsWhenFull false set_said
 
   -- the state that its header keeps then
   abbrev pub state : State
@@ -134,8 +135,9 @@ module _ {R : Type 0} {g : Ghosts R} (d : Doubted) (old : Yard R g) (first secon
       kept = kept;
       sure = sure_open d s stands.links set_opens;
       like = record { state = refl; name = refl; disks = refl; blocks = refl; volumes = refl; group = refl; failing = refl; fuse = refl };
-      fits = fit_happened d event false stands.links;
+      fits = fit_happened d event false refl stands.links;
       fits_before = stands.links;
+      sets = refl;
       opens = set_opens;
       none = none_seat d old first s stands seat set_alone off;
       writes = refl;
@@ -149,8 +151,8 @@ module _ {R : Type 0} {g : Ghosts R} (d : Doubted) (old : Yard R g) (first secon
 
   numbers : (prot : Prot) → link_events w (Set first second sync prot) ≡ event ∷ []
   numbers prot =
-      ap (λ (k : ℕ). let es : List Event = SetAt k (site_number w second) sync ∷ [] in es) here.number
-      ∙ ap (λ (k : ℕ). let es : List Event = SetAt s k sync ∷ [] in es) there.number
+      ap (λ (k : ℕ). let es : List Event = SetAt k (site_number w second) sync FailsWhenFull ∷ [] in es) here.number
+      ∙ ap (λ (k : ℕ). let es : List Event = SetAt s k sync FailsWhenFull ∷ [] in es) there.number
 
   -- ---- the call on the disks
 

@@ -9,6 +9,7 @@ use Rattle.vx_history.specs.Step.{step}
 use Rattle.vx_history.specs.World.{Link, Node, World, updated}
 use Rattle.vx_history.specs.declared.event.Event.TheVariants.{Set as SetAt}
 use Rattle.vx_history.specs.declared.event.Said.TheVariants.{Done as IsDone}
+use Rattle.vx_model.specs.declared.link.Prot.TheVariants.{Fail as FailsWhenFull}
 use Rattle.vx_model.specs.declared.link.SyncMode.{SyncMode}
 use Rattle.vx_model.specs.declared.state.KeptLink.{KeptLink}
 use Rattle.vx_model.specs.declared.state.State.{State}
@@ -25,8 +26,8 @@ use Rattle.vx_linked.specs.Making.{kept_plain, set_link}
 
 -- ---- the links that the header keeps
 
-pub set_links : (w : World) (p s : ℕ) (sync : SyncMode) (l : LinkFacts) → (step w (SetAt p s sync)).said ≡ IsDone → l ≡ link_fact (w.nodes p) s (w.links p s)
-    → kept_over (kept_plain (set_link l.link sync)) (kept_links (w.links p) (linked_sites (w.links p) w.sites 0 w.sites)) ≡ header_links (step w (SetAt p s sync)).world p
+pub set_links : (w : World) (p s : ℕ) (sync : SyncMode) (l : LinkFacts) → (step w (SetAt p s sync FailsWhenFull)).said ≡ IsDone → l ≡ link_fact (w.nodes p) s (w.links p s)
+    → kept_over (kept_plain (set_link l.link sync)) (kept_links (w.links p) (linked_sites (w.links p) w.sites 0 w.sites)) ≡ header_links (step w (SetAt p s sync FailsWhenFull)).world p
 set_links w p s sync l said is =
     ap (λ (x : LinkFacts). kept_over (kept_plain (set_link x.link sync)) (kept_links (w.links p) (linked_sites (w.links p) w.sites 0 w.sites))) is
     ∙ sym (changed_kept (w.links p) w.sites s (sets w p s sync) refl)
@@ -81,8 +82,8 @@ needs_over n row ss s x site no_more k l is needs =
     r.2
 
 -- a setting changes nothing of what a link needs
-pub set_needs : (w : World) (p s : ℕ) (sync : SyncMode) (n : Node) → (step w (SetAt p s sync)).said ≡ IsDone
-    → (k : ℕ) (l : KeptLink) → slice_get (header_links (step w (SetAt p s sync)).world p) k ≡ Some l → is_needing l ≡ true → Suffices (header_links w p) n l
+pub set_needs : (w : World) (p s : ℕ) (sync : SyncMode) (n : Node) → (step w (SetAt p s sync FailsWhenFull)).said ≡ IsDone
+    → (k : ℕ) (l : KeptLink) → slice_get (header_links (step w (SetAt p s sync FailsWhenFull)).world p) k ≡ Some l → is_needing l ≡ true → Suffices (header_links w p) n l
 set_needs w p s sync n said k l is needs =
     needs_over n (w.links p) (linked_sites (w.links p) w.sites 0 w.sites) s (kept_plain (set_link (link_fact (w.nodes p) s (w.links p s)).link sync)) refl
     (λ needing. inr (needing, omega arith)) k l

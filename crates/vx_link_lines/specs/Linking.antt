@@ -1,5 +1,6 @@
 -- What the headers of two logs keep behind each part of a line that links a site to another.
 use Rattle.std.specs.Prelude.{◌≡◌, ◌<◌, ◌++◌, ◌∷◌, [], ℕ, List, None}
+use Rattle.vx_model.specs.declared.link.Prot.TheVariants.{Fail as FailsWhenFull}
 use Rattle.vx_model.specs.declared.link.SyncMode.{SyncMode}
 use Rattle.vx_model.specs.declared.site.Mark.TheVariants.{Consistent}
 use Rattle.vx_model.specs.declared.state.KeptLink.{KeptLink}
@@ -50,5 +51,5 @@ pub record IsLinking (d : Doubted) (first second : List ℕ) (p s : ℕ) (sync :
   pub apart_too : (d.world.nodes s).group ≡ None
   pub number : site_number d.world first ≡ p
   pub number_too : site_number d.world second ≡ s
-  pub said : (step d.world (LinkAt p s sync Joins)).said ≡ IsDone
+  pub said : (step d.world (LinkAt p s sync FailsWhenFull Joins)).said ≡ IsDone
   pub are : AreLinkStates d.world p s sync states

@@ -1,6 +1,7 @@
 // The parts of the line that links a site to another. Each is durable before the next.
 ghost use Rattle.std.specs.Prelude.{◌≡◌, ◌<◌, [], ℕ, None, Some, length, slice_get};
 ghost use Rattle.vx_model.specs.declared.limits.TheConstants.{LINK_PLACES};
+ghost use Rattle.vx_model.specs.declared.link.Prot.TheVariants.{Fail as FailsWhenFull};
 ghost use Rattle.vx_model.specs.declared.link.SyncMode.{SyncMode as SyncValue};
 ghost use Rattle.vx_model.specs.declared.site.Mark.TheVariants.{Consistent};
 ghost use Rattle.vx_history.specs.Doubts.{Doubted};
@@ -46,9 +47,9 @@ pub(crate) fn make_link<R: Rack>(
     requires few { (site : SiteValue) → slice_get yard.old.facts.items here ≡ Some site → length site.links < LINK_PLACES }
     requires state { CanSpellState state.now }
     ensures heads { (d : Doubted) (note : (ℕ → Node) → ℕ → Node) → NotesAt here note → StandsFor (noted_by note d) yard.old → LinksFit d → here < d.world.sites
-        → (d.world.nodes here).group ≡ None → (d.world.nodes there).session ≡ session → (step d.world (LinkAt here there sync Made)).said ≡ IsDone
-        → state.now ≡ state_with (d.world.nodes here) (header_links (step d.world (LinkAt here there sync Made)).world here)
-        → HeadedSo note d (LinkAt here there sync Made) here yard.old yard.new result }
+        → (d.world.nodes here).group ≡ None → (d.world.nodes there).session ≡ session → (step d.world (LinkAt here there sync FailsWhenFull Made)).said ≡ IsDone
+        → state.now ≡ state_with (d.world.nodes here) (header_links (step d.world (LinkAt here there sync FailsWhenFull Made)).world here)
+        → HeadedSo note d (LinkAt here there sync FailsWhenFull Made) here yard.old yard.new result }
     ensures asked { (d : Doubted) → StandsFor d yard.old → here < d.world.sites → (d.world.nodes here).group ≡ None → OfSite SameFailing here yard.old yard.new }
     ensures called { (d : Doubted) → StandsFor d yard.old → here < d.world.sites → (d.world.nodes here).group ≡ None → OfSite (HeadUnder 2 (part_said result)) here yard.old yard.new }
     ensures many { length yard.new.facts.items ≡ length yard.old.facts.items }
@@ -80,8 +81,8 @@ pub(crate) fn mark_site<R: Rack>(
     requires disk_set { there < length yard.old.disk_sets.items }
     requires state { CanSpellState state.now }
     ensures heads { (d : Doubted) (note : (ℕ → Node) → ℕ → Node) (here : ℕ) (sync : SyncValue) → NotesAt there note → StandsFor (noted_by note d) yard.old → LinksFit d → there < d.world.sites
-        → (d.world.nodes there).group ≡ None → (step d.world (LinkAt here there sync Marked)).said ≡ IsDone → state.now ≡ record (state_with (d.world.nodes there) (header_links d.world there)) { mark = Consistent }
-        → HeadedSo note d (LinkAt here there sync Marked) there yard.old yard.new result }
+        → (d.world.nodes there).group ≡ None → (step d.world (LinkAt here there sync FailsWhenFull Marked)).said ≡ IsDone → state.now ≡ record (state_with (d.world.nodes there) (header_links d.world there)) { mark = Consistent }
+        → HeadedSo note d (LinkAt here there sync FailsWhenFull Marked) there yard.old yard.new result }
     ensures asked { (d : Doubted) → StandsFor d yard.old → there < d.world.sites → (d.world.nodes there).group ≡ None → OfSite SameFailing there yard.old yard.new }
     ensures called { (d : Doubted) → StandsFor d yard.old → there < d.world.sites → (d.world.nodes there).group ≡ None → OfSite (HeadUnder 2 (part_said result)) there yard.old yard.new }
     ensures many { length yard.new.facts.items ≡ length yard.old.facts.items }
@@ -115,9 +116,9 @@ pub(crate) fn open_link<R: Rack>(
     requires disk_set { here < length yard.old.disk_sets.items }
     requires state { CanSpellState state.now }
     ensures heads { (d : Doubted) (note : (ℕ → Node) → ℕ → Node) (sync : SyncValue) → NotesAt here note → StandsFor (noted_by note d) yard.old → LinksFit d → here < d.world.sites
-        → (d.world.nodes here).group ≡ None → (d.world.nodes here).safe ≡ last → (step d.world (LinkAt here there sync Opened)).said ≡ IsDone
-        → state.now ≡ state_with (d.world.nodes here) (header_links (step d.world (LinkAt here there sync Opened)).world here)
-        → HeadedSo note d (LinkAt here there sync Opened) here yard.old yard.new result }
+        → (d.world.nodes here).group ≡ None → (d.world.nodes here).safe ≡ last → (step d.world (LinkAt here there sync FailsWhenFull Opened)).said ≡ IsDone
+        → state.now ≡ state_with (d.world.nodes here) (header_links (step d.world (LinkAt here there sync FailsWhenFull Opened)).world here)
+        → HeadedSo note d (LinkAt here there sync FailsWhenFull Opened) here yard.old yard.new result }
     ensures asked { (d : Doubted) → StandsFor d yard.old → here < d.world.sites → (d.world.nodes here).group ≡ None → OfSite SameFailing here yard.old yard.new }
     ensures called { (d : Doubted) → StandsFor d yard.old → here < d.world.sites → (d.world.nodes here).group ≡ None → OfSite (HeadUnder 2 (part_said result)) here yard.old yard.new }
     ensures many { length yard.new.facts.items ≡ length yard.old.facts.items }

@@ -1,5 +1,6 @@
 // The line that gives a link another setting.
 ghost use Rattle.std.specs.Prelude.{◌≡◌, ◌<◌, IfOk, IfSome, false, length};
+ghost use Rattle.vx_model.specs.declared.link.Prot.TheVariants.{Fail as FailsWhenFull};
 ghost use Rattle.vx_model.specs.declared.link.Prot.{Prot};
 ghost use Rattle.vx_model.specs.declared.site.SiteState.TheVariants.{Up as UpState};
 ghost use Rattle.vx_history.specs.Doubts.{Doubted};
@@ -42,7 +43,7 @@ fn set_state<R: Rack>(
     requires within { here < length sites.now }
     ensures spell { IfSome result (λ state. CanSpellState state) }
     ensures is { (beside : KeptBeside) (n : Node) (w : World) → SiteStands beside n disks.now → n.state ≡ UpState → is_over_group n ≡ false → sites.now ≡ facts_over w → HasPlaces w.sites (w.links here)
-        → (step w (SetAt here there sync)).said ≡ IsDone → IfSome result (λ state. state ≡ state_with n (header_links (step w (SetAt here there sync)).world here)) }
+        → (step w (SetAt here there sync FailsWhenFull)).said ≡ IsDone → IfSome result (λ state. state ≡ state_with n (header_links (step w (SetAt here there sync FailsWhenFull)).world here)) }
 {
     let Some(l) = link_between(sites, here, there) else {
         return None;

@@ -109,16 +109,16 @@ below_none (suc m) test none k less = by (eqb k m) (λ e. same e) (λ e. below_n
 
 module _ (w : World) (p s : ℕ) (sync : SyncMode) where
   -- the second site is a primary that logged nothing and has no links
-  pub joins_fresh : (step w (LinkAt p s sync Joins)).said ≡ Done → is_fresh w s ≡ true
+  pub joins_fresh : (step w (LinkAt p s sync Fail Joins)).said ≡ Done → is_fresh w s ≡ true
   joins_fresh said =
-      let may : may_link w p s ≡ true = (joins_done w p s sync said).0 in
+      let may : may_link w p s ≡ true = (joins_done w p s sync Fail said).0 in
       let first : Bool = same_line (w.nodes p).line (first_line p) in
       let r1 = and_right (is_primary (w.nodes p).role) (not (eqb s p) && (is_empty (w.nodes p).log && (first && is_fresh w s))) may in
       let r2 = and_right (not (eqb s p)) (is_empty (w.nodes p).log && (first && is_fresh w s)) r1 in
       let r3 = and_right (is_empty (w.nodes p).log) (first && is_fresh w s) r2 in
       and_right first (is_fresh w s) r3
 
-  pub fresh_row : (step w (LinkAt p s sync Joins)).said ≡ Done → (k : ℕ) → k < w.sites → is_linked (w.links s k) ≡ false
+  pub fresh_row : (step w (LinkAt p s sync Fail Joins)).said ≡ Done → (k : ℕ) → k < w.sites → is_linked (w.links s k) ≡ false
   fresh_row said =
       let none : Bool = not (some_below w.sites (λ k. is_linked (w.links s k))) in
       let r4 = and_right (is_primary (w.nodes s).role) (is_empty (w.nodes s).log && none) (joins_fresh said) in
@@ -129,30 +129,30 @@ module _ (w : World) (p s : ℕ) (sync : SyncMode) where
       is_false true e = absurd (cc)
       is_false false e = refl
 
-  pub joined_facts : is_over_group (w.nodes s) ≡ false → (step w (LinkAt p s sync Joins)).said ≡ Done
-      → facts_over (step w (LinkAt p s sync Joins)).world ≡ slice_set (facts_over w) s (joined_fact (w.nodes p).line (w.nodes p).parent (linked_fact w s))
+  pub joined_facts : is_over_group (w.nodes s) ≡ false → (step w (LinkAt p s sync Fail Joins)).said ≡ Done
+      → facts_over (step w (LinkAt p s sync Fail Joins)).world ≡ slice_set (facts_over w) s (joined_fact (w.nodes p).line (w.nodes p).parent (linked_fact w s))
   joined_facts alone said =
-      behind w (happened (sure w) (LinkAt p s sync Joins) true) s (two_done w p s sync Joins said).0.second alone (joins_effect (sure w) p s sync true said)
+      behind w (happened (sure w) (LinkAt p s sync Fail Joins) true) s (two_done w p s sync Fail Joins said).0.second alone (joins_effect (sure w) p s sync Fail true said)
       ∙ ap (slice_set (facts_over w) s) (joined_is (w.nodes p) (w.nodes s) p (w.links s) w.sites (fresh_row said))
 
   -- the group of the first one, as the facts have it
-  pub group_shown : (step w (LinkAt p s sync Joins)).said ≡ Done → (linked_fact w p).rvg ≡ Some (group_fact (w.nodes p))
-  group_shown said = ap (λ (t : SiteState). group_by t (w.nodes p)) (two_done w p s sync Joins said).0.up
+  pub group_shown : (step w (LinkAt p s sync Fail Joins)).said ≡ Done → (linked_fact w p).rvg ≡ Some (group_fact (w.nodes p))
+  group_shown said = ap (λ (t : SiteState). group_by t (w.nodes p)) (two_done w p s sync Fail Joins said).0.up
 
-  pub made_facts : is_over_group (w.nodes p) ≡ false → HasPlaces w.sites (w.links p) → (session : ℕ) → (w.nodes s).session ≡ session → (step w (LinkAt p s sync Made)).said ≡ Done
-      → facts_over (step w (LinkAt p s sync Made)).world
+  pub made_facts : is_over_group (w.nodes p) ≡ false → HasPlaces w.sites (w.links p) → (session : ℕ) → (w.nodes s).session ≡ session → (step w (LinkAt p s sync Fail Made)).said ≡ Done
+      → facts_over (step w (LinkAt p s sync Fail Made)).world
       ≡ slice_set (facts_over w) p (further_fact (let x : LinkFacts = record { link = fresh_link s sync session; used = 0 } in x) (linked_fact w p))
   made_facts alone has session is said =
-      let l : Link = new_link (count_links_of w p) sync (w.nodes s) in
-      let two = (two_done w p s sync Made said).0 in
-      behind w (happened (sure w) (LinkAt p s sync Made) true) p two.first alone (made_effect (sure w) p s sync true said)
-      ∙ ap (slice_set (facts_over w) p) (further_is (w.nodes p) (w.links p) w.sites s l two.up has two.second (made_done w p s sync said).0 refl)
+      let l : Link = new_link (count_links_of w p) sync Fail (w.nodes s) in
+      let two = (two_done w p s sync Fail Made said).0 in
+      behind w (happened (sure w) (LinkAt p s sync Fail Made) true) p two.first alone (made_effect (sure w) p s sync Fail true said)
+      ∙ ap (slice_set (facts_over w) p) (further_is (w.nodes p) (w.links p) w.sites s l two.up has two.second (made_done w p s sync Fail said).0 refl)
       ∙ ap (λ (k : ℕ). slice_set (facts_over w) p (further_fact (let x : LinkFacts = record { link = fresh_link s sync k; used = 0 } in x) (linked_fact w p))) is
 
-  pub marked_facts : is_over_group (w.nodes s) ≡ false → (step w (LinkAt p s sync Marked)).said ≡ Done
-      → facts_over (step w (LinkAt p s sync Marked)).world ≡ slice_set (facts_over w) s (marked_fact Consistent (linked_fact w s))
+  pub marked_facts : is_over_group (w.nodes s) ≡ false → (step w (LinkAt p s sync Fail Marked)).said ≡ Done
+      → facts_over (step w (LinkAt p s sync Fail Marked)).world ≡ slice_set (facts_over w) s (marked_fact Consistent (linked_fact w s))
   marked_facts alone said =
-      behind w (happened (sure w) (LinkAt p s sync Marked) true) s (two_done w p s sync Marked said).0.second alone (marked_effect (sure w) p s sync true said)
+      behind w (happened (sure w) (LinkAt p s sync Fail Marked) true) s (two_done w p s sync Fail Marked said).0.second alone (marked_effect (sure w) p s sync Fail true said)
       ∙ ap (slice_set (facts_over w) s) (marked_shows (w.nodes s) (w.links s) w.sites Consistent)
 
   -- ---- a link that is opened
@@ -173,10 +173,10 @@ module _ (w : World) (p s : ℕ) (sync : SyncMode) where
   opens = opened (w.links p s) (w.nodes p).safe
 
   -- nothing is logged, so it needs nothing of the log
-  pub opened_fact : (step w (LinkAt p s sync Opened)).said ≡ Done → (last : ℕ) → (w.nodes p).safe ≡ last → (l : PlainLink) → l ≡ opened_link (plain_link s (w.links p s)) last
+  pub opened_fact : (step w (LinkAt p s sync Fail Opened)).said ≡ Done → (last : ℕ) → (w.nodes p).safe ≡ last → (l : PlainLink) → l ≡ opened_link (plain_link s (w.links p s)) last
       → (let x : LinkFacts = record { link = l; used = 0 } in x) ≡ link_fact (w.nodes p) s opens
   opened_fact said last is l at =
-      let may : may_open w p s sync ≡ true = (opened_done w p s sync said).0 in
+      let may : may_open w p s sync Fail ≡ true = (opened_done w p s sync Fail said).0 in
       let n : Node = w.nodes p in
       let rest : Bool = is_stale_mode (w.links p s).mode && (phase_takes (w.nodes s).phase && is_consistent (w.nodes s).mark) in
       let r1 = and_right (is_primary n.role) (follows w p s && (is_linked (w.links p s) && (is_empty n.log && rest))) may in
@@ -187,8 +187,8 @@ module _ (w : World) (p s : ℕ) (sync : SyncMode) where
       ∙ ap (λ (k : ℕ). let f : LinkFacts = record { link = opened_link (plain_link s (w.links p s)) k; used = 0 } in f) (sym is)
       ∙ ap (λ (k : ℕ). let f : LinkFacts = record { link = plain_link s opens; used = k } in f) (sym none)
 
-  pub opened_shown : (step w (LinkAt p s sync Opened)).said ≡ Done → facts_over (step w (LinkAt p s sync Opened)).world ≡ facts_over (with_link w p s opens)
-  opened_shown said = ap (λ (o : Outcome). facts_over o.world) ((two_done w p s sync Opened said).1 ∙ (opened_done w p s sync said).1)
+  pub opened_shown : (step w (LinkAt p s sync Fail Opened)).said ≡ Done → facts_over (step w (LinkAt p s sync Fail Opened)).world ≡ facts_over (with_link w p s opens)
+  opened_shown said = ap (λ (o : Outcome). facts_over o.world) ((two_done w p s sync Fail Opened said).1 ∙ (opened_done w p s sync Fail said).1)
 
   -- ---- a link that is set
 
@@ -198,18 +198,18 @@ module _ (w : World) (p s : ℕ) (sync : SyncMode) where
   abbrev is_set : Outcome → Type 0
   is_set o = o.said ≡ Done → ((w.nodes p).state ≡ Up) × (is_linked (w.links p s) ≡ true) × (o ≡ done (with_link w p s sets))
 
-  pub set_done : is_set (outcome_of w (SetAt p s sync))
+  pub set_done : is_set (outcome_of w (SetAt p s sync Fail))
   set_done =
       Tests.link_ends is_set w (λ why e. absurd (let f : Refused why ≡ Done = e in cc)) is_origin p s (done (with_link w p s sets)) (λ up linked _. (up, linked, refl))
 
-  pub set_shown : (step w (SetAt p s sync)).said ≡ Done → facts_over (step w (SetAt p s sync)).world ≡ facts_over (with_link w p s sets)
+  pub set_shown : (step w (SetAt p s sync Fail)).said ≡ Done → facts_over (step w (SetAt p s sync Fail)).world ≡ facts_over (with_link w p s sets)
   set_shown said = ap (λ (o : Outcome). facts_over o.world) (set_done said).2
 
-  pub opened_linked : (step w (LinkAt p s sync Opened)).said ≡ Done → is_linked (w.links p s) ≡ true
+  pub opened_linked : (step w (LinkAt p s sync Fail Opened)).said ≡ Done → is_linked (w.links p s) ≡ true
   opened_linked said =
       let n : Node = w.nodes p in
       let rest : Bool = is_empty n.log && (is_stale_mode (w.links p s).mode && (phase_takes (w.nodes s).phase && is_consistent (w.nodes s).mark)) in
-      let r1 = and_right (is_primary n.role) (follows w p s && (is_linked (w.links p s) && rest)) (opened_done w p s sync said).0 in
+      let r1 = and_right (is_primary n.role) (follows w p s && (is_linked (w.links p s) && rest)) (opened_done w p s sync Fail said).0 in
       and_left (is_linked (w.links p s)) rest (and_right (follows w p s) (is_linked (w.links p s) && rest) r1)
 
 -- a link of a site that is up is found
@@ -220,13 +220,13 @@ some_between w sites p s facts below alone up has linked none =
     (ap (λ (t : SiteState). find (leads_to s) (links_by t (links_of_site w p))) (sym up)
     ∙ ap (λ (o : Option SiteFacts). link_leading o s) (sym (site_apart w p below alone)) ∙ ap (λ (fs : List SiteFacts). fact_between fs p s) (sym facts) ∙ none)
 
-pub set_found : (w : World) (p s : ℕ) (sync : SyncMode) (sites : List SiteFacts) → sites ≡ facts_over w → is_over_group (w.nodes p) ≡ false → HasPlaces w.sites (w.links p) → (step w (SetAt p s sync)).said ≡ Done
+pub set_found : (w : World) (p s : ℕ) (sync : SyncMode) (sites : List SiteFacts) → sites ≡ facts_over w → is_over_group (w.nodes p) ≡ false → HasPlaces w.sites (w.links p) → (step w (SetAt p s sync Fail)).said ≡ Done
     → fact_between sites p s ≡ None → ⊥
 set_found w p s sync sites facts alone has said none =
     let d = set_done w p s sync said in
     some_between w sites p s facts (site_below said) alone d.0 has d.1 none
   where
-    site_below : (step w (SetAt p s sync)).said ≡ Done → p < w.sites
+    site_below : (step w (SetAt p s sync Fail)).said ≡ Done → p < w.sites
     site_below e =
         let o : Outcome = at_site w s (at_work w p (unless (not (is_origin (w.nodes p).role)) WrongRole w (unless (not (is_linked (w.links p s))) (Unknown (ByNumber s)) w (done (with_link w p s (sets w p s sync)))))) in
         Tests.site_ends (λ (r : Outcome). r.said ≡ Done → p < w.sites) w (λ why f. absurd (let g : Refused why ≡ Done = f in cc)) p o (λ below _. below) e

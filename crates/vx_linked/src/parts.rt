@@ -1,6 +1,7 @@
 // The sites in memory behind each part of a line that makes a link, and behind one that sets it.
 ghost use Rattle.std.specs.Prelude.{◌≡◌, ◌≤◌, ◌<◌, [], Some, ℕ, false, length, slice_get};
 ghost use Rattle.vx_model.specs.declared.limits.TheConstants.{LINK_PLACES};
+ghost use Rattle.vx_model.specs.declared.link.Prot.TheVariants.{Fail as FailsWhenFull};
 ghost use Rattle.vx_model.specs.declared.link.SyncMode.{SyncMode as SyncValue};
 ghost use Rattle.vx_history.specs.Listed.{HasPlaces};
 ghost use Rattle.vx_history.specs.Step.{step};
@@ -47,8 +48,8 @@ pub fn keep_joined(sites: &mut [SiteFacts], here: usize, there: usize)
     requires first { here < length sites.old }
     requires second { there < length sites.old }
     ensures world { (w : World) (sync : SyncValue) → sites.old ≡ facts_over w → is_over_group (w.nodes here) ≡ false → is_over_group (w.nodes there) ≡ false
-        → (step w (LinkAt here there sync Joins)).said ≡ Done
-        → sites.new ≡ facts_over (step w (LinkAt here there sync Joins)).world }
+        → (step w (LinkAt here there sync FailsWhenFull Joins)).said ≡ Done
+        → sites.new ≡ facts_over (step w (LinkAt here there sync FailsWhenFull Joins)).world }
     ensures links { (k : ℕ) (site : SiteValue) → slice_get sites.new k ≡ Some site → HasLinksOf sites.old k site }
 {
     if let Some(first) = group_of(&sites[here]) {
@@ -83,7 +84,7 @@ pub fn keep_made(
     requires first { here < length sites.old }
     requires few { (site : SiteValue) → slice_get sites.old here ≡ Some site → length site.links < LINK_PLACES }
     ensures world { (w : World) → sites.old ≡ facts_over w → is_over_group (w.nodes here) ≡ false → HasPlaces w.sites (w.links here) → (w.nodes there).session ≡ session
-        → (step w (LinkAt here there sync Made)).said ≡ Done → sites.new ≡ facts_over (step w (LinkAt here there sync Made)).world }
+        → (step w (LinkAt here there sync FailsWhenFull Made)).said ≡ Done → sites.new ≡ facts_over (step w (LinkAt here there sync FailsWhenFull Made)).world }
 {
     let link = new_link(there, sync, session);
     add_link(&mut sites[here], room, LinkFacts { link, used: 0 });
@@ -100,8 +101,8 @@ fn mark_site(site: &mut SiteFacts, mark: Mark)
 /// Keeps the second site as it is consistent.
 pub fn keep_marked(sites: &mut [SiteFacts], there: usize)
     requires second { there < length sites.old }
-    ensures world { (w : World) (here : ℕ) (sync : SyncValue) → sites.old ≡ facts_over w → is_over_group (w.nodes there) ≡ false → (step w (LinkAt here there sync Marked)).said ≡ Done
-        → sites.new ≡ facts_over (step w (LinkAt here there sync Marked)).world }
+    ensures world { (w : World) (here : ℕ) (sync : SyncValue) → sites.old ≡ facts_over w → is_over_group (w.nodes there) ≡ false → (step w (LinkAt here there sync FailsWhenFull Marked)).said ≡ Done
+        → sites.new ≡ facts_over (step w (LinkAt here there sync FailsWhenFull Marked)).world }
 {
     mark_site(&mut sites[there], Mark::Consistent);
 }
@@ -109,7 +110,7 @@ pub fn keep_marked(sites: &mut [SiteFacts], there: usize)
 /// Keeps the link of the first site to the second one as it goes by the log, behind the last number of its site.
 pub fn keep_opened(sites: &mut [SiteFacts], here: usize, there: u32, last: u64)
     ensures world { (w : World) (sync : SyncValue) → sites.old ≡ facts_over w → is_over_group (w.nodes here) ≡ false → HasPlaces w.sites (w.links here) → (w.nodes here).safe ≡ last
-        → (step w (LinkAt here there sync Opened)).said ≡ Done → sites.new ≡ facts_over (step w (LinkAt here there sync Opened)).world }
+        → (step w (LinkAt here there sync FailsWhenFull Opened)).said ≡ Done → sites.new ≡ facts_over (step w (LinkAt here there sync FailsWhenFull Opened)).world }
 {
     if let Some(l) = link_between(sites, here, there) {
         let link = opened(&l.link, last);
@@ -119,8 +120,8 @@ pub fn keep_opened(sites: &mut [SiteFacts], here: usize, there: u32, last: u64)
 
 /// Keeps the link of one site to another with this setting.
 pub fn keep_set(sites: &mut [SiteFacts], here: usize, there: u32, sync: SyncMode)
-    ensures world { (w : World) → sites.old ≡ facts_over w → is_over_group (w.nodes here) ≡ false → HasPlaces w.sites (w.links here) → (step w (SetAt here there sync)).said ≡ Done
-        → sites.new ≡ facts_over (step w (SetAt here there sync)).world }
+    ensures world { (w : World) → sites.old ≡ facts_over w → is_over_group (w.nodes here) ≡ false → HasPlaces w.sites (w.links here) → (step w (SetAt here there sync FailsWhenFull)).said ≡ Done
+        → sites.new ≡ facts_over (step w (SetAt here there sync FailsWhenFull)).world }
 {
     if let Some(l) = link_between(sites, here, there) {
         let link = with_setting(&l.link, sync);

@@ -1,11 +1,11 @@
 // Worked runs of two sites, event by event: what is said, and which packets are sent.
 use std::test::Fail;
 use vx_history::{DataVolume, DataVolumes, Event, LinkPart, Said};
-use vx_model::{Blocks, Counted, Name, Named, No, OutOfMemory, SiteName, SyncMode};
+use vx_model::{Blocks, Counted, Name, Named, No, OutOfMemory, Prot, SiteName, SyncMode};
 use vx_world::{World, step};
 
 // An event, what is said of it with its number, and the packets that it sends.
-type Row = (Event, &'static str, u64, Option<(u64, u64)>);
+pub(crate) type Row = (Event, &'static str, u64, Option<(u64, u64)>);
 
 // What is said, and the number in it: of a site, a packet or a write, or the first byte of blocks.
 fn say(said: &Said) -> (&'static str, u64) {
@@ -63,7 +63,7 @@ fn is_answered(world: &mut World, row: &Row) -> Result<bool, OutOfMemory> {
 }
 
 // The place of the first row that is answered otherwise.
-fn first_wrong(world: &mut World, rows: &[Row]) -> Result<Option<usize>, OutOfMemory> {
+pub(crate) fn first_wrong(world: &mut World, rows: &[Row]) -> Result<Option<usize>, OutOfMemory> {
     for at in 0..rows.len() {
         if !is_answered(world, &rows[at])? {
             return Ok(Some(at));
@@ -90,13 +90,14 @@ fn link(to: u32, sync: SyncMode, part: LinkPart) -> Row {
         site: 0,
         to,
         sync,
+        prot: Prot::Fail,
         part,
     };
     (event, "done", 0, None)
 }
 
 // Sites a and b, with a link from a to b that is connected.
-fn two_sites(blocks: u64, sync: SyncMode) -> [Row; 9] {
+pub(crate) fn two_sites(blocks: u64, sync: SyncMode) -> [Row; 9] {
     [
         site(b"a", blocks),
         raw(0),
@@ -110,7 +111,7 @@ fn two_sites(blocks: u64, sync: SyncMode) -> [Row; 9] {
     ]
 }
 
-fn put(start: u64, bytes: Blocks) -> Event {
+pub(crate) fn put(start: u64, bytes: Blocks) -> Event {
     Event::Write {
         site: 0,
         vol: 0,
@@ -120,7 +121,7 @@ fn put(start: u64, bytes: Blocks) -> Event {
     }
 }
 
-fn read(site: u32, start: u64) -> Event {
+pub(crate) fn read(site: u32, start: u64) -> Event {
     Event::Read {
         site,
         vol: 0,
@@ -133,7 +134,7 @@ fn wait(number: u64) -> Event {
     Event::Wait { site: 0, number }
 }
 
-fn recover(site: u32) -> Event {
+pub(crate) fn recover(site: u32) -> Event {
     Event::Recover { site, fails: None }
 }
 
@@ -147,7 +148,7 @@ const APPLY: Event = Event::Apply {
     reached: 0,
 };
 
-const PUMP: Event = Event::Pump { site: 0, to: 1 };
+pub(crate) const PUMP: Event = Event::Pump { site: 0, to: 1 };
 
 const TICK: Event = Event::Tick { site: 0, to: 1 };
 
@@ -206,7 +207,7 @@ fn a_receiver_that_crashes_forgets_what_it_acknowledged_from_memory(
 }
 
 // Writes of one, one and two blocks fill the log of ten.
-fn filling() -> [Row; 3] {
+pub(crate) fn filling() -> [Row; 3] {
     [
         (put(0, Blocks::filled(1, 1)), "done", 1, None),
         (put(1, Blocks::filled(1, 2)), "done", 2, None),

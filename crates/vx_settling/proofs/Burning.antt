@@ -7,7 +7,7 @@ use Rattle.vx_model.specs.declared.history.Line.{Line}
 use Rattle.vx_history.proofs.Fuses.{burned_twice}
 use Rattle.vx_history.proofs.Updates.{at_place, eqb_apart, eqb_equal}
 use Rattle.vx_history.specs.Doubts.{After, Doubted, crashed_as, halved, resolved, resolved_at, taken_up}
-use Rattle.vx_history.specs.Events.{crash_at, kept_of, lost_touch, packet_at}
+use Rattle.vx_history.specs.Events.{crash_at, kept_of, link_left, packet_at}
 use Rattle.vx_history.specs.Groups.{GroupNode}
 use Rattle.vx_history.specs.Gatherings.{emptied}
 use Rattle.vx_history.specs.Headers.{count_at, heard_headers}
@@ -18,7 +18,8 @@ use Rattle.vx_history.specs.Stops.{IsFused}
 use Rattle.vx_history.specs.Steps.{burned, crash_left, crashed, stopped_by, worked_on}
 use Rattle.vx_history.specs.World.{Fuse, FuseLit, FuseSet, Gathering, History, Link, NoFuse, Node, Packet, Promise, World, no_link, updated, with_node}
 use Rattle.vx_history.specs.declared.event.Event.{Event}
-use Rattle.vx_history.specs.declared.event.Event.TheVariants.{Site, Raw, Group, Volumes, Write as WriteAt, Read, Apply, Pump, Tick, Deliver, Connect, Cut, Pause, Resume, Wait, Link as LinkSites, Set, Crash, Deport, Fall, Recover, Fault}
+use Rattle.vx_history.specs.declared.event.Event.TheVariants.{Site, Raw, Group, Volumes, Write as WriteAt, Read, Apply, Pump, Tick, Deliver, Connect, Cut, Pause, Resume, Wait, Link as LinkSites, Set, Attach, Detach, Crash, Deport, Fall, Recover, Fault}
+use Rattle.vx_effects.specs.Settings.{SetsFail}
 use Rattle.vx_effects.proofs.Fitting.{fit_happened}
 use Rattle.vx_events.specs.LinkFinds.{pumped_with, target_with}
 use Rattle.vx_events.specs.LinksFit.{LinksFit}
@@ -90,6 +91,12 @@ heard_same : (w : World) (u v : World) (i : ℕ) (o : Option Packet) → v.links
 heard_same w u v i None links = refl
 heard_same w u v i (Some p) links = ap (λ (ls : ℕ → ℕ → Link). count_at p.target i (if ltb (w.links p.target p.source).stored (ls p.target p.source).stored then 1 else 0)) links
 
+-- they set no link
+sets_none : (e : Event) → is_settling e ≡ true → SetsFail e
+sets_none (LinkSites p s sync prot part) is = absurd (cc)
+sets_none (Set p s sync prot) is = absurd (cc)
+sets_none other is = tt
+
 module _ (fuses : ℕ → Fuse) (d : Doubted) (fit : LinksFit (noted_as fuses d)) where
   abbrev w : World
   w = d.world
@@ -108,10 +115,10 @@ module _ (fuses : ℕ → Fuse) (d : Doubted) (fit : LinksFit (noted_as fuses d)
     like = step_like d.world (burnt_world fuses d.world) e (like_burnt fuses d.world) (looks_same d.world (burnt_world fuses d.world) (λ i. refl) e)
 
     fit_U : LinksFit (record d { world = U })
-    fit_U = subst LinksFit (happens d e false is) (fit_happened d e false (fit_pure fuses d fit))
+    fit_U = subst LinksFit (happens d e false is) (fit_happened d e false (sets_none e is) (fit_pure fuses d fit))
 
     fit_V : LinksFit (record d { world = V })
-    fit_V = subst LinksFit (happens (noted_as fuses d) e false is) (fit_happened (noted_as fuses d) e false fit)
+    fit_V = subst LinksFit (happens (noted_as fuses d) e false is) (fit_happened (noted_as fuses d) e false (sets_none e is) fit)
 
     links : V.links ≡ U.links
     links = rows_is U.links V.links (λ i k. link_equal (U.links i k) (V.links i k) (like.links i k) ((fit_U.rows i).none k) ((fit_V.rows i).none k))
@@ -146,8 +153,10 @@ module _ (fuses : ℕ → Fuse) (d : Doubted) (fit : LinksFit (noted_as fuses d)
   headers (Pause p s) is i = absurd (cc)
   headers (Resume p s) is i = absurd (cc)
   headers (Wait p number) is i = absurd (cc)
-  headers (LinkSites p s sync part) is i = absurd (cc)
-  headers (Set p s sync) is i = absurd (cc)
+  headers (LinkSites p s sync prot part) is i = absurd (cc)
+  headers (Set p s sync prot) is i = absurd (cc)
+  headers (Attach p s) is i = absurd (cc)
+  headers (Detach p s) is i = absurd (cc)
   headers (Crash s kept) is i = absurd (cc)
   headers (Deport s) is i = absurd (cc)
   headers (Fall s) is i = absurd (cc)
@@ -287,7 +296,7 @@ crash_by fuses w s k false =
     ap (λ (ns : ℕ → Node). let x : World = record w { nodes = ns } in x) (nodes_at fuses w.nodes s (crashed (w.nodes s) k) (crashed (record (w.nodes s) { fuse = fuses s }) k) NoFuse refl)
 
 pub crash_burnt : (fuses : ℕ → Fuse) (w : World) (s k : ℕ) → crash_at (burnt_world fuses w) s k ≡ burnt_world (updated fuses s NoFuse) (crash_at w s k)
-crash_burnt fuses w s k = ap (λ (x : World). emptied (with_links x s (λ to. lost_touch (w.links s to))) s) (crash_by fuses w s k (is_origin (w.nodes s).role))
+crash_burnt fuses w s k = ap (λ (x : World). emptied (with_links x s (λ to. link_left (w.nodes s) k (w.links s to))) s) (crash_by fuses w s k (is_origin (w.nodes s).role))
 
 twice_at : (fuses : ℕ → Fuse) (s : ℕ) (f g : Fuse) → updated (updated fuses s f) s g ≡ updated fuses s g
 twice_at fuses s f g = fun_ext (λ i. by i (eqb i s))

@@ -13,7 +13,7 @@ use Rattle.vx_history.specs.Step.{run, step}
 use Rattle.vx_history.specs.Stops.{IsFused, all_fails}
 use Rattle.vx_history.specs.World.{DataAck, Hello, Link, Message, NetAck, Node, Packet, Update, World}
 use Rattle.vx_history.specs.declared.event.Event.{Event}
-use Rattle.vx_history.specs.declared.event.Event.TheVariants.{Site, Raw, Group, Volumes, Write, Read, Apply, Pump, Tick, Deliver, Connect, Cut, Pause, Resume, Wait, Link as LinkSites, Set, Crash, Deport, Fall, Recover, Fault}
+use Rattle.vx_history.specs.declared.event.Event.TheVariants.{Site, Raw, Group, Volumes, Write, Read, Apply, Pump, Tick, Deliver, Connect, Cut, Pause, Resume, Wait, Link as LinkSites, Set, Attach, Detach, Crash, Deport, Fall, Recover, Fault}
 use Rattle.vx_history.specs.declared.sender.SEvent.TheVariants.{Pump as PumpLink}
 use Rattle.vx_events.specs.Doubts.{run_as}
 use Rattle.vx_world.proofs.Lists.{each_append}
@@ -100,8 +100,10 @@ event_stays w (Cut p s) is = absurd (cc)
 event_stays w (Pause p s) is = absurd (cc)
 event_stays w (Resume p s) is = absurd (cc)
 event_stays w (Wait p number) is = absurd (cc)
-event_stays w (LinkSites p s sync part) is = absurd (cc)
-event_stays w (Set p s sync) is = absurd (cc)
+event_stays w (LinkSites p s sync prot part) is = absurd (cc)
+event_stays w (Set p s sync prot) is = absurd (cc)
+event_stays w (Attach p s) is = absurd (cc)
+event_stays w (Detach p s) is = absurd (cc)
 event_stays w (Crash s kept) is = absurd (cc)
 event_stays w (Deport s) is = absurd (cc)
 event_stays w (Fall s) is = absurd (cc)
@@ -235,8 +237,10 @@ no_fails (e ∷ es) (is, are) = one e is ∙ no_fails es are
     one (Pause p s) is = absurd (cc)
     one (Resume p s) is = absurd (cc)
     one (Wait p number) is = absurd (cc)
-    one (LinkSites p s sync part) is = absurd (cc)
-    one (Set p s sync) is = absurd (cc)
+    one (LinkSites p s sync prot part) is = absurd (cc)
+    one (Set p s sync prot) is = absurd (cc)
+    one (Attach p s) is = absurd (cc)
+    one (Detach p s) is = absurd (cc)
     one (Crash s kept) is = absurd (cc)
     one (Deport s) is = absurd (cc)
     one (Fall s) is = absurd (cc)
@@ -260,8 +264,10 @@ happens d (Cut p s) taken is = absurd (cc)
 happens d (Pause p s) taken is = absurd (cc)
 happens d (Resume p s) taken is = absurd (cc)
 happens d (Wait p number) taken is = absurd (cc)
-happens d (LinkSites p s sync part) taken is = absurd (cc)
-happens d (Set p s sync) taken is = absurd (cc)
+happens d (LinkSites p s sync prot part) taken is = absurd (cc)
+happens d (Set p s sync prot) taken is = absurd (cc)
+happens d (Attach p s) taken is = absurd (cc)
+happens d (Detach p s) taken is = absurd (cc)
 happens d (Crash s kept) taken is = absurd (cc)
 happens d (Deport s) taken is = absurd (cc)
 happens d (Fall s) taken is = absurd (cc)

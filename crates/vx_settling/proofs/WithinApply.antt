@@ -9,7 +9,7 @@ use Rattle.vx_model.specs.declared.no.No.TheVariants.{Device, Limit, Down as IsO
 use Rattle.vx_model.specs.declared.site.SiteState.TheVariants.{Up}
 use Rattle.vx_history.proofs.Updates.{at_place}
 use Rattle.vx_history.specs.Doubts.{After, Doubted, crashed_as, halved, happened}
-use Rattle.vx_history.specs.Events.{apply_at, applied_by, crash_at, kept_of, lost_touch, reached_at}
+use Rattle.vx_history.specs.Events.{apply_at, applied_by, crash_at, kept_of, link_left, reached_at}
 use Rattle.vx_history.specs.Groups.{GroupNode}
 use Rattle.vx_history.specs.Gatherings.{emptied}
 use Rattle.vx_history.specs.Headers.{is_refused}
@@ -164,9 +164,9 @@ module _ (told : Type 0) (a b : ℕ) (d : Doubted) (may : MayMove a b d.world) (
       let m : Node = record n { halted = Some 0; fuse = burned n.fuse } in
       let w : World = record (stopped_by d.world b 0) { headers = h } in
       ap (λ (q : Node).
-      emptied (with_links (if is_origin q.role then with_history w b (crashed q (kept_of q kept)) (kept_by (w.lines q.line) q (kept_of q kept)) else with_node w b (crashed q (kept_of q kept))) b (λ to. lost_touch (d.world.links b to))) b)
+      emptied (with_links (if is_origin q.role then with_history w b (crashed q (kept_of q kept)) (kept_by (w.lines q.line) q (kept_of q kept)) else with_node w b (crashed q (kept_of q kept))) b (λ to. link_left q (kept_of q kept) (d.world.links b to))) b)
       (at_place d.world.nodes b m)
-      ∙ ap (λ (x : World). emptied (with_links x b (λ to. lost_touch (d.world.links b to))) b) (by (is_origin n.role))
+      ∙ ap (λ (x : World). emptied (with_links x b (λ to. link_left n (kept_of n kept) (d.world.links b to))) b) (by (is_origin n.role))
     where
       by : (c : Bool)
           → (let n : Node = d.world.nodes b in

@@ -104,7 +104,7 @@ abbrev raw_event : Doubted → ℕ → Doubted
 raw_event d s = record d { world = (headers_counted d.world (MakeRaw s) (is_done (raw_made d.world s))).world }
 
 raw_fits : (d : Doubted) (s : ℕ) → outcome_of d.world (MakeRaw s) ≡ is_done (raw_made d.world s) → LinksFit d → LinksFit (raw_event d s)
-raw_fits d s at fits = subst (λ (o : Outcome). LinksFit (record d { world = (headers_counted d.world (MakeRaw s) o).world })) at (fit_happened d (MakeRaw s) false fits)
+raw_fits d s at fits = subst (λ (o : Outcome). LinksFit (record d { world = (headers_counted d.world (MakeRaw s) o).world })) at (fit_happened d (MakeRaw s) false tt fits)
 
 raw_beside : (d : Doubted) (s : ℕ) → (d.world.nodes s).state ≡ IsBare → LinksFit d → beside_of (raw_event d s) s ≡ site_alone
 raw_beside d s bare fits =

@@ -325,7 +325,7 @@ module _ {R : Type 0} {g : Ghosts R} where
         begun_fits : LinksFit begun_next
         begun_fits =
             fit_disks taken s d.world begun_last
-            (fit_happened h (RecoverAt s (Some disk)) taken (fit_h lawful d h old s ring c taken from fit_d stands below down apart ring_is before after there same))
+            (fit_happened h (RecoverAt s (Some disk)) taken tt (fit_h lawful d h old s ring c taken from fit_d stands below down apart ring_is before after there same))
 
         links_same : (k : ℕ) → begun_next.world.links s k ≡ mid.world.links s k
         links_same k = eff.is.links k ∙ sym (own_links s d.world h taken k)

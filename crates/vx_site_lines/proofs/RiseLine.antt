@@ -195,7 +195,7 @@ module _ {R : Type 0} {g : Ghosts R} where
     fit_h = by_from from
       where
         by_from : RisesFrom d s c taken h → LinksFit h
-        by_from (WasUp up is) = subst (λ (x : Doubted). LinksFit x) (sym is) (fit_run taken d (CrashAt s (crash_count (d.world.nodes s) c.kept) ∷ []) fit_d)
+        by_from (WasUp up is) = subst (λ (x : Doubted). LinksFit x) (sym is) (fit_run taken d (CrashAt s (crash_count (d.world.nodes s) c.kept) ∷ []) (tt, tt) fit_d)
         by_from (WasDown was_down not_taken is) = subst (λ (x : Doubted). LinksFit x) (sym is) fit_d
 
     below_mid : s < mid.world.sites
@@ -278,7 +278,7 @@ module _ {R : Type 0} {g : Ghosts R} where
           (recover_effect h s taken below down_h free_h))
 
       told_fits : LinksFit (own_disks taken s d.world last)
-      told_fits = fit_disks taken s d.world last (fit_happened h (RecoverAt s None) taken fit_h)
+      told_fits = fit_disks taken s d.world last (fit_happened h (RecoverAt s None) taken tt fit_h)
 
       pub told_kept : row_links row mid.world.sites ≡ header_links mid.world s
       told_kept =

@@ -187,7 +187,7 @@ site_adds d name disks blocks = record {
 
 site_fits : (d : Doubted) (name : List ℕ) (disks blocks : ℕ) → outcome_of d.world (MakeSite name disks blocks) ≡ is_done (site_made d.world name disks blocks) → LinksFit d → LinksFit (site_event d name disks blocks)
 site_fits d name disks blocks at fits =
-    subst (λ (o : Outcome). LinksFit (record d { world = (headers_counted d.world (MakeSite name disks blocks) o).world })) at (fit_happened d (MakeSite name disks blocks) false fits)
+    subst (λ (o : Outcome). LinksFit (record d { world = (headers_counted d.world (MakeSite name disks blocks) o).world })) at (fit_happened d (MakeSite name disks blocks) false tt fits)
 
 -- no site has the name of a new one
 none_linked : (w : World) (name : List ℕ) (k n : ℕ) → is_some (site_named (values_from (λ i. fact_over w i) k n) name) ≡ false → (i : ℕ) → i < n → bytes_eq (w.nodes (k + i)).name name ≡ false

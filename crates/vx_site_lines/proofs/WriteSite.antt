@@ -46,7 +46,7 @@ cut_for d s x count = record (cut_events d s x count) { world = worked_on (cut_e
 
 written_fits : (d : Doubted) (s : ℕ) (x : Write) (fails : Option ℕ) → LinksFit d → LinksFit (written_for d s x fails)
 written_fits d s x fails fits =
-    fit_worked (happened d (WriteAt s x.volume x.start x.bytes fails) false) s (fit_happened d (WriteAt s x.volume x.start x.bytes fails) false fits)
+    fit_worked (happened d (WriteAt s x.volume x.start x.bytes fails) false) s (fit_happened d (WriteAt s x.volume x.start x.bytes fails) false tt fits)
 
 -- what the tests see of a site that an event at it left
 left_fact : (d e : Doubted) (s : ℕ) (n : Node) {many : ℕ} {doubt : Option After} {packets : List Packet} {gathered : Option Gathering} → EffectAt s d e n (d.world.links s) many doubt packets gathered
@@ -103,7 +103,7 @@ module _ {R : Type 0} {g : Ghosts R} where
       eff.is.headers eff.is.after in
       record {
         changes = eff.site;
-        links = fit_worked last s (fit_run false d (WriteAt s x.volume x.start x.bytes (Some 0) ∷ CrashAt s count ∷ []) fits);
+        links = fit_worked last s (fit_run false d (WriteAt s x.volume x.start x.bytes (Some 0) ∷ CrashAt s count ∷ []) (tt, (tt, tt)) fits);
         stands = subst (λ (m : Node). SiteStands (beside_of e s) m after) here (subst (λ (b : KeptBeside). SiteStands b n after) (sym there) stands);
         failing = subst (λ (m : Node). FailsAs m after) here (record { told = failing.told });
         fuse = subst (λ (m : Node). FusedAs m after) here (fused_none n after refl);

@@ -2,6 +2,7 @@ pub mod Dispatching
 pub mod Each
 pub mod Entries
 pub mod Folds
+pub mod Mapping
 pub mod Packets
 pub mod Placing
 pub mod Promising

@@ -1,10 +1,10 @@
 -- A world in memory with one part in place of another.
-use Rattle.std.proofs.Common.{◌≡◌, ℕ, ◌+◌, ◌-◌, ◌<◌, ◌≤◌, max, List, [], ◌∷◌, ◌++◌, length, map, get_or, take, drop, replicate, refl, sym, subst, ap, ◌∙◌, zero, suc}
+use Rattle.std.proofs.Common.{◌≡◌, ℕ, ◌+◌, ◌-◌, ◌<◌, ◌≤◌, max, List, [], ◌∷◌, ◌++◌, length, map, get_or, take, drop, replicate, refl, sym, ap, ◌∙◌, zero, suc}
 use Rattle.std.specs.Prelude.{Option, None, eqb, if◌then◌else◌}
 use Rattle.std.proofs.Math.ListN.{set}
 use Rattle.std.proofs.lemmas.List.{length-set, length-append}
 use Rattle.vx_model.specs.Content.{Write, Content, put, fold_writes, zeros}
-use Rattle.vx_history.specs.World.{Node as PlainNode, Link as PlainLink, History as PlainHistory, World as PlainWorld, NoFuse, Regions, bare_site, no_volumes, no_regions, no_link, no_history, updated, line_updated, with_node, with_history}
+use Rattle.vx_history.specs.World.{Node as PlainNode, Link as PlainLink, History as PlainHistory, World as PlainWorld, NoFuse, Regions, bare_site, no_volumes, no_link, no_history, updated, line_updated, with_node, with_history}
 use Rattle.vx_history.proofs.Updates.{at_place, by_test, eqb_equal}
 use Rattle.vx_history.specs.Sends.{with_links}
 use Rattle.vx_history.specs.Steps.{burned, logged, spent, write_calls, told_of, written, crashed, raw_content, raw_set, raw_made, group_set, group_made}
@@ -18,14 +18,13 @@ use Rattle.vx_model.specs.declared.site.Mark.TheVariants.{Consistent, Inconsiste
 use Rattle.vx_model.specs.declared.site.SPhase.TheVariants.{Quiet}
 use Rattle.vx_model.specs.declared.site.SiteState.TheVariants.{Up, Down}
 use Rattle.vx_sites.specs.declared.node.Node.{Node}
-use Rattle.vx_sites.specs.declared.link.Link.{Link}
 use Rattle.vx_sites.specs.declared.link.Row.{Row}
-use Rattle.vx_sites.specs.declared.maps.Marks.{Marks}
+use Rattle.vx_sites.specs.declared.maps.MapEntry.{MapEntry}
 use Rattle.vx_history.specs.Groups.{GroupNode}
 use Rattle.vx_history.specs.Volumes.{data_content, starting_with, volumes_made, volumes_set}
 use Rattle.vx_history.specs.declared.volumes.DataVolume.{DataVolume}
 use Rattle.vx_sites.proofs.Volumes.{called_data, called_none, data_of_none, named_raw, sizes_raw}
-use Rattle.vx_sites.specs.Shapes.{called_volumes, sizes, node_of, nodes_of, link_of, row_of, links_of, is_region_marked, mapped_links, with_map}
+use Rattle.vx_sites.specs.Shapes.{called_volumes, sizes, node_of, nodes_of, row_of, links_of, link_maps, mapped_links, with_map}
 use Rattle.vx_sites.proofs.Tables.{at_each, seen-at, seen-beyond, seen-push, seen-changed}
 
 -- a site changes
@@ -63,32 +62,19 @@ mapped_changed maps links p change keeps =
     elsewhere k apart = by_test (λ (row : ℕ → PlainLink). row ≡ links k) (eqb k p) (change (links p)) (links k) (λ e. absurd (apart (eqb_equal k p e))) (λ e. refl)
 
 -- the links of a site change, and not their maps; the rows may first have become more
-pub row_changed : (w : PlainWorld) (maps : List Marks) (rows : List Row) (p : ℕ) (v x : Row) (change : (ℕ → PlainLink) → ℕ → PlainLink) → KeepsMaps change (is_region_marked maps p) → mapped_links maps rows ≡ w.links
+pub row_changed : (w : PlainWorld) (maps : List MapEntry) (rows : List Row) (p : ℕ) (v x : Row) (change : (ℕ → PlainLink) → ℕ → PlainLink) → KeepsMaps change (link_maps maps p) → mapped_links maps rows ≡ w.links
     → p < length rows → v ≡ get_or rows p v → row_of x.links.items ≡ change (row_of v.links.items)
     → (let new : PlainWorld = record w { links = mapped_links maps (set rows p x) } in new ≡ with_links w p (change (w.links p)))
 row_changed w maps rows p v x change keeps same lt is changed =
     ap (λ (f : ℕ → ℕ → PlainLink). let new : PlainWorld = record w { links = f } in new)
-    (ap (λ (f : ℕ → ℕ → PlainLink). mapped (is_region_marked maps) f) (seen-changed (λ (r : Row). row_of r.links.items) (λ (s : ℕ). no_link) rows p v x (links_of rows) change lt is refl changed)
-    ∙ mapped_changed (is_region_marked maps) (links_of rows) p change keeps
+    (ap (λ (f : ℕ → ℕ → PlainLink). mapped (link_maps maps) f) (seen-changed (λ (r : Row). row_of r.links.items) (λ (s : ℕ). no_link) rows p v x (links_of rows) change lt is refl changed)
+    ∙ mapped_changed (link_maps maps) (links_of rows) p change keeps
     ∙ ap (λ (f : ℕ → ℕ → PlainLink). updated f p (change (f p))) same)
 
--- a link that is put into its place has no marks, as no map has
-pub keeps_set : (maps : List Marks) (p to : ℕ) (l : Link) → maps ≡ [] → KeepsMaps (λ (row : ℕ → PlainLink). updated row to (link_of l)) (is_region_marked maps p)
-keeps_set maps p to l none = subst (λ (ms : List Marks). KeepsMaps (λ (row : ℕ → PlainLink). updated row to (link_of l)) (is_region_marked ms p)) (sym none)
-    (λ row. at_each (λ s. with_map no_regions (row s)) to (link_of l) (λ s. with_map no_regions (updated row to (link_of l) s))
-    (ap (with_map no_regions) (at_place row to (link_of l)))
-    (λ k apart. ap (with_map no_regions) (by_test (λ (x : PlainLink). x ≡ row k) (eqb k to) (link_of l) (row k) (λ e. absurd (apart (eqb_equal k to e))) (λ e. refl))))
-
 -- a site without a row has no links
-pub no_row : (maps : List Marks) (rows : List Row) (p : ℕ) → maps ≡ [] → length rows ≤ p → row_of [] ≡ mapped_links maps rows p
-no_row maps rows p none past =
-    ap {B = ℕ → PlainLink} (λ (row : ℕ → PlainLink) (s : ℕ). with_map no_regions (row s)) (sym (seen-beyond (λ (r : Row). row_of r.links.items) (λ (s : ℕ). no_link) rows p past))
-    ∙ ap (λ (ms : List Marks). mapped_links ms rows p) (sym none)
-
--- a link that is read has no marks
-pub link_read : (maps : List Marks) (rows : List Row) (p s : ℕ) (l : Link) → maps ≡ [] → link_of l ≡ links_of rows p s → link_of l ≡ mapped_links maps rows p s
-link_read maps rows p s l none is =
-    ap (with_map no_regions) is ∙ ap (λ (ms : List Marks). with_map (is_region_marked ms p s) (links_of rows p s)) (sym none)
+pub no_row : (maps : List MapEntry) (rows : List Row) (p : ℕ) → length rows ≤ p → (λ s. with_map (link_maps maps p s) (row_of [] s)) ≡ mapped_links maps rows p
+no_row maps rows p past =
+    ap {B = ℕ → PlainLink} (λ (row : ℕ → PlainLink) (s : ℕ). with_map (link_maps maps p s) (row s)) (sym (seen-beyond (λ (r : Row). row_of r.links.items) (λ (s : ℕ). no_link) rows p past))
 
 -- the site of this number
 pub node_at : (nodes : List Node) (i : ℕ) (v : Node) → i < length nodes → v ≡ get_or nodes i v → nodes_of nodes i ≡ node_of v

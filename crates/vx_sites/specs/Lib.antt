@@ -1,3 +1,4 @@
 pub mod Messages
 pub mod Refusing
+pub mod Rows
 pub mod Shapes

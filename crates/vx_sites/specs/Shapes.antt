@@ -1,9 +1,11 @@
 -- What a world in memory is seen as. Headers are not counted in it.
-use Rattle.std.specs.Prelude.{◌≡◌, ℕ, ◌+◌, ◌<◌, Bool, true, false, eqb, ◌&&◌, ◌||◌, List, [], ◌∷◌, ◌++◌, length, map, get_or, Option, Some, None, if◌then◌else◌, codes}
+use Rattle.std.specs.Prelude.{◌≡◌, ℕ, ◌+◌, ◌*◌, ◌-◌, ◌/◌, ◌<◌, true, false, eqb, leb, ltb, ◌&&◌, List, [], ◌∷◌, ◌++◌, length, map, get_or, Option, Some, None, if◌then◌else◌, codes}
 use Rattle.std.specs.Fmt.{decimal}
 use Rattle.vx_model.specs.Content.{Content as PlainContent, zeros, fold_writes}
 use Rattle.vx_model.specs.Sites.{no_line, same_line}
-use Rattle.vx_history.specs.World.{Volume, Regions, no_regions, no_link, no_history, bare_site, NoFuse}
+use Rattle.vx_history.specs.World.{Volume, Regions, no_regions, no_link, no_replays, no_history, bare_site, updated, NoFuse}
+use Rattle.vx_model.specs.declared.limits.TheConstants.{REGION}
+use Rattle.vx_history.specs.Regions.{joined_maps}
 use Rattle.vx_history.specs.World.{Node as PlainNode, Link as PlainLink, History as PlainHistory, World as PlainWorld}
 use Rattle.vx_history.specs.World.{Packet as PlainPacket, Key as PlainKey, Gathering as PlainGathering, Surety as PlainSurety, Promise as PlainPromise}
 use Rattle.vx_history.specs.World.{Durable as PlainDurable, InSession as PlainInSession}
@@ -13,7 +15,9 @@ use Rattle.vx_sites.specs.declared.history.History.{History}
 use Rattle.vx_sites.specs.declared.history.Entry.{Entry}
 use Rattle.vx_sites.specs.declared.link.Link.{Link}
 use Rattle.vx_sites.specs.declared.link.Row.{Row}
-use Rattle.vx_sites.specs.declared.maps.Marks.{Marks}
+use Rattle.vx_sites.specs.declared.maps.MapChange.{MapChange}
+use Rattle.vx_sites.specs.declared.maps.MapChange.TheVariants.{Clear, Mark}
+use Rattle.vx_sites.specs.declared.maps.MapEntry.{MapEntry}
 use Rattle.vx_sites.specs.declared.node.Node.{Node}
 use Rattle.vx_sites.specs.declared.packet.Packet.{Packet}
 use Rattle.vx_sites.specs.declared.gathering.Key.{Key}
@@ -44,7 +48,7 @@ abbrev pub content_of : Content → PlainContent
 content_of c = fold_writes (zeros (sizes c.sizes.items)) c.writes.items
 
 abbrev pub history_of : History → PlainHistory
-history_of h = record { parent = no_line; fork = 0; start = content_of h.start; held = h.held.items; told = h.told }
+history_of h = record { parent = no_line; fork = 0; start = content_of h.start; held = h.held.items; told = h.told; replays = λ s. no_replays }
 
 abbrev pub node_of : Node → PlainNode
 node_of n = record {
@@ -95,7 +99,6 @@ link_of l = record {
   trimmed = l.state.trimmed;
   mode = l.state.mode;
   map = no_regions;
-  read_to = 0;
   since = no_regions;
 }
 
@@ -134,23 +137,35 @@ row_of links s = get_or (map link_of links) s no_link
 abbrev pub links_of : List Row → ℕ → ℕ → PlainLink
 links_of rows p = get_or (map (λ r. row_of r.links.items) rows) p (λ s. no_link)
 
--- the region is one of these
-abbrev pub has_region : ℕ → List ℕ → Bool
-has_region region [] = false
-has_region region (r ∷ rs) = eqb region r || has_region region rs
+-- the regions of a volume that so many bytes touch, from a block on
+abbrev pub marks_at : (volume start bytes : ℕ) → Regions
+marks_at volume start bytes v r = eqb v volume && (leb (start / REGION) r && ltb (512 * (REGION * r - start)) bytes)
 
--- whether a region of a volume is marked in the map of the link from one site to another
-abbrev pub is_region_marked : List Marks → (from to volume region : ℕ) → Bool
-is_region_marked [] from to volume region = false
-is_region_marked (m ∷ ms) from to volume region =
-    (eqb m.from from && (eqb m.to to && (eqb m.volume volume && has_region region m.regions.items))) || is_region_marked ms from to volume region
+abbrev pub map_made : MapChange → Regions → Regions
+map_made Clear map = no_regions
+map_made (Mark volume start bytes) map = joined_maps map (marks_at volume start bytes)
+
+-- the maps of all links with this one from one site to another
+abbrev pub with_link_map : (ℕ → ℕ → Regions) → (from to : ℕ) → Regions → ℕ → ℕ → Regions
+with_link_map maps from to map = updated maps from (updated (maps from) to map)
+
+abbrev pub maps_made : MapEntry → (ℕ → ℕ → Regions) → ℕ → ℕ → Regions
+maps_made e maps = with_link_map maps e.from e.to (map_made e.change (maps e.from e.to))
+
+-- what is made of the maps of all links, one after another
+abbrev pub maps_from : (ℕ → ℕ → Regions) → List MapEntry → ℕ → ℕ → Regions
+maps_from maps [] = maps
+maps_from maps (e ∷ es) = maps_from (maps_made e maps) es
+
+abbrev pub link_maps : List MapEntry → ℕ → ℕ → Regions
+link_maps es = maps_from (λ p s. no_regions) es
 
 abbrev pub with_map : Regions → PlainLink → PlainLink
 with_map map l = record l { map = map }
 
 -- the links of these rows, each with its map
-abbrev pub mapped_links : List Marks → List Row → ℕ → ℕ → PlainLink
-mapped_links maps rows p s = with_map (is_region_marked maps p s) (links_of rows p s)
+abbrev pub mapped_links : List MapEntry → List Row → ℕ → ℕ → PlainLink
+mapped_links entries rows p s = with_map (link_maps entries p s) (links_of rows p s)
 
 -- the first entry of the line
 abbrev pub lines_of : List Entry → Line → PlainHistory
@@ -171,7 +186,7 @@ abbrev pub world_of : World → PlainWorld
 world_of w = record {
   sites = length w.nodes.items;
   nodes = nodes_of w.nodes.items;
-  links = mapped_links w.maps.lists.items w.rows.items;
+  links = mapped_links w.maps.entries.items w.rows.items;
   lines = lines_of w.lines.items;
   packets = w.packets;
   promised = map plain_promise w.promised.items;

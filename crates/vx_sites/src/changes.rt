@@ -183,8 +183,8 @@ fn replay_on(node: &Node, line: &Line) -> u64
     }
 }
 
-// Those of the first `kept` writes that are behind the first `safe`.
-fn newly_kept(log: &[Write], safe: u64, kept: u64) -> &[Write]
+/// Those of the first `kept` writes that are behind the first `safe`.
+pub fn newly_kept(log: &[Write], safe: u64, kept: u64) -> &[Write]
     ensures { result.now ≡ drop safe (take kept log.now) }
 {
     let front = &log[..(kept as usize).min(log.len())];

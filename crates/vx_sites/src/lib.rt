@@ -27,7 +27,7 @@ pub use dispatches::Dispatches;
 pub use gathering::{Gathering, Key, Place};
 pub use history::{Entry, History};
 pub use link::{Link, Row};
-pub use maps::{ChangeMaps, Marks};
+pub use maps::{ChangeMaps, MapChange, MapEntry};
 pub use node::Node;
 pub use packet::{Dispatch, Message, Packet, Promise, Surety};
 pub use world::World;

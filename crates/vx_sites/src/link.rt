@@ -42,9 +42,9 @@ impl Link {
         }
     }
 
-    /// A link that is made in this place among those of its site, to a receiver in this session, with srlprot=fail.
-    pub fn new(place: usize, sync: SyncMode, session: u64) -> Link
-        ensures { (b : Node) → b.session ≡ session → link_of result ≡ new_link place sync b }
+    /// A link that is made in this place among those of its site, to a receiver in this session, with these settings.
+    pub fn new(place: usize, sync: SyncMode, prot: Prot, session: u64) -> Link
+        ensures { (b : Node) → b.session ≡ session → link_of result ≡ new_link place sync prot b }
     {
         Link {
             made: Some(place),
@@ -55,7 +55,7 @@ impl Link {
                 connected: false,
                 paused: false,
                 sync,
-                prot: Prot::Fail,
+                prot,
                 session,
                 net: 0,
                 stored: 0,

@@ -1,8 +1,8 @@
 // A world in memory.
 ghost use Rattle.std.specs.Prelude.{◌≡◌, ◌+◌, ◌<◌, length, IfOk, OnOk};
-ghost use Rattle.vx_history.specs.World.{empty_world, updated};
+ghost use Rattle.vx_history.specs.World.{empty_world, no_regions, updated};
 ghost use Rattle.vx_history.specs.Sends.{with_link, sending, packets_of};
-ghost use Rattle.vx_sites.specs.Shapes.{world_of, node_of, link_of};
+ghost use Rattle.vx_sites.specs.Shapes.{world_of, node_of, link_of, with_map};
 ghost use Rattle.vx_sites.specs.Messages.{message_of};
 
 use crate::link::lengthen_rows;
@@ -17,7 +17,7 @@ pub struct World {
     pub nodes: Vec<Node>,
     /// The links of each site. A site without a row has none.
     pub rows: Vec<Row>,
-    /// The regions that are marked in the maps of links.
+    /// The change maps of links.
     pub maps: ChangeMaps,
     pub lines: Vec<Entry>,
     /// All packets that were ever sent, number 1 first.
@@ -71,16 +71,16 @@ impl World {
         }
     }
 
-    /// The link from a site to another.
+    /// The link from a site to another, but for its map.
     pub fn link(&self, from: u32, to: u32) -> Link
-        ensures { link_of result ≡ (world_of self.now).links from to }
+        ensures { link_of result ≡ with_map no_regions ((world_of self.now).links from to) }
     {
         self.link_at(from, to as usize)
     }
 
-    /// The link from a site to the one in this place among the sites.
+    /// The link from a site to the one in this place among the sites, but for its map.
     pub fn link_at(&self, from: u32, place: usize) -> Link
-        ensures { link_of result ≡ (world_of self.now).links from place }
+        ensures { link_of result ≡ with_map no_regions ((world_of self.now).links from place) }
     {
         match self.rows.get(from as usize) {
             Some(row) => row.link(place),
@@ -88,12 +88,22 @@ impl World {
         }
     }
 
-    /// Puts this link into the place of the one from a site to another.
+    /// Puts this link into the place of the one from a site to another, of which the map stays.
     pub fn set_link(&mut self, from: u32, to: u32, link: Link) -> Result<(), OutOfMemory>
+        ensures { OnOk result (let w = world_of self.old in world_of self.new ≡ with_link w from to (with_map (w.links from to).map (link_of link))) }
+    {
+        lengthen_rows(self.alloc, &mut self.rows, from as usize)?;
+        self.rows[from as usize].set(to, link)?;
+        Ok(())
+    }
+
+    /// Puts this link into the place of the one from a site to another. No region is marked in its map.
+    pub fn renew_link(&mut self, from: u32, to: u32, link: Link) -> Result<(), OutOfMemory>
         ensures { OnOk result (world_of self.new ≡ with_link (world_of self.old) from to (link_of link)) }
     {
         lengthen_rows(self.alloc, &mut self.rows, from as usize)?;
         self.rows[from as usize].set(to, link)?;
+        self.maps.clear(from, to as usize)?;
         Ok(())
     }
 

@@ -7,16 +7,16 @@ use Rattle.vx_history.proofs.Updates.{at_place, by_test}
 use Rattle.vx_model.specs.Content.{Write}
 use Rattle.vx_history.specs.Events.{delivered, gathers, gathered_if, is_taken, handed, heard, link_heard, packet_at, said_of_link, receiver_facts, joined, new_link}
 use Rattle.vx_history.specs.LinkForms.{plain_link, with_plain}
-use Rattle.vx_history.specs.Refusals.{Outcome, says, unless, unless_halted, at_site, both_at_work, may_link, follows, count_links_of, sizes_meet, rings_fit, is_primary, is_running, keeps_links}
+use Rattle.vx_history.specs.Refusals.{Outcome, says, unless, unless_halted, at_site, both_at_work, on_link_if, may_link, follows, count_links_of, sizes_meet, rings_fit, is_primary, is_running, keeps_links}
 use Rattle.vx_history.specs.Sending.{Sent, sent_step}
 use Rattle.vx_history.specs.Sends.{is_linked, with_link}
 use Rattle.vx_history.specs.Step.{outcome_of, step, done, link_part}
 use Rattle.vx_history.specs.World.{Node, Link, Packet, Gathering, World, Message, Hello, Update, NetAck, DataAck, with_node, updated}
 use Rattle.vx_history.specs.declared.event.Event.{Event}
-use Rattle.vx_history.specs.declared.event.Event.TheVariants.{Deliver, Set, Link as LinkAt}
+use Rattle.vx_history.specs.declared.event.Event.TheVariants.{Deliver, Link as LinkAt}
 use Rattle.vx_history.specs.declared.event.LinkPart.TheVariants.{Joins, Made, Marked, Opened}
 use Rattle.vx_history.specs.declared.event.Said.TheVariants.{Ignored as IsIgnored}
-use Rattle.vx_model.specs.declared.link.Prot.TheVariants.{Fail as FailsWhenFull}
+use Rattle.vx_model.specs.declared.link.Prot.{Prot}
 use Rattle.vx_model.specs.declared.link.SyncMode.{SyncMode}
 use Rattle.vx_model.specs.declared.no.No.{No}
 use Rattle.vx_model.specs.declared.no.No.TheVariants.{Exists, Size, Role as WrongRole, Limit}
@@ -68,11 +68,12 @@ module _ (w : World) (s : ℕ) (up : (w.nodes s).state ≡ Up) where
     up = ap (λ (m : Node). m.state) (at_place w.nodes s n) ∙ state;
   }
 
-  pub set_alone : (q : ℕ) (sync : SyncMode) → IsAlone s w (outcome_of w (Set s q sync)).world
-  set_alone q sync =
+  -- a link of an origin is set, attached or detached
+  pub set_alone : (q : ℕ) (change : Link → Link) → IsAlone s w (on_link_if is_origin w s q (done (with_link w s q (change (w.links s q))))).world
+  set_alone q change =
       tested (leb w.sites s) _ _ (tested (leb w.sites q) _ _ (tested (not (is_up (w.nodes s).state)) _ _ (runs (w.nodes s).halted _
       (tested (not (is_origin (w.nodes s).role)) _ _
-      (tested (not (is_linked (w.links s q))) _ _ (one_link q (record (w.links s q) { sync = sync; prot = FailsWhenFull })))))))
+      (tested (not (is_linked (w.links s q))) _ _ (one_link q (change (w.links s q))))))))
 
   heard_link : (p : Packet) (e : SEvent) → p.target ≡ s → IsAlone s w (link_heard w p e).world
   heard_link p e target =
@@ -119,8 +120,8 @@ module _ (w : World) (s : ℕ) (up : (w.nodes s).state ≡ Up) where
       tested (leb w.sites p) _ _ (tested (leb w.sites q) _ _
       (tested (not (is_up (w.nodes p).state && is_up (w.nodes q).state)) _ _ (runs (w.nodes p).halted _ (runs (w.nodes q).halted o is))))
 
-  pub joins_alone : (p : ℕ) (sync : SyncMode) → IsAlone s w (outcome_of w (LinkAt p s sync Joins)).world
-  joins_alone p sync =
+  pub joins_alone : (p : ℕ) (sync : SyncMode) (prot : Prot) → IsAlone s w (outcome_of w (LinkAt p s sync prot Joins)).world
+  joins_alone p sync prot =
       let o : Outcome = done (emptied (with_node w s (joined (w.nodes p) p (w.nodes s))) s) in
       let sized : Outcome = unless (not (sizes_meet (w.nodes p).volumes (w.nodes s).volumes && rings_fit (w.nodes p) (w.nodes s))) Size w o in
       let few : Outcome = unless (leb MOST_LINKS (count_links_of w p)) (Limit Links MOST_LINKS) w sized in
@@ -132,19 +133,19 @@ module _ (w : World) (s : ℕ) (up : (w.nodes s).state ≡ Up) where
       (other_gathering (with_node w s (joined (w.nodes p) p (w.nodes s))) _ (one_node (joined (w.nodes p) p (w.nodes s)) refl up)
       (λ i apart. aside w.gathering s None i apart))))))
 
-  pub marked_alone : (p : ℕ) (sync : SyncMode) → IsAlone s w (outcome_of w (LinkAt p s sync Marked)).world
-  marked_alone p sync = both_up p s (link_part Marked w p s sync) (tested _ _ _ (one_node (record (w.nodes s) { mark = Consistent }) refl up))
+  pub marked_alone : (p : ℕ) (sync : SyncMode) (prot : Prot) → IsAlone s w (outcome_of w (LinkAt p s sync prot Marked)).world
+  marked_alone p sync prot = both_up p s (link_part Marked w p s sync prot) (tested _ _ _ (one_node (record (w.nodes s) { mark = Consistent }) refl up))
 
-  pub made_alone : (q : ℕ) (sync : SyncMode) → IsAlone s w (outcome_of w (LinkAt s q sync Made)).world
-  made_alone q sync =
-      let o : Outcome = done (with_link w s q (new_link (count_links_of w s) sync (w.nodes q))) in
+  pub made_alone : (q : ℕ) (sync : SyncMode) (prot : Prot) → IsAlone s w (outcome_of w (LinkAt s q sync prot Made)).world
+  made_alone q sync prot =
+      let o : Outcome = done (with_link w s q (new_link (count_links_of w s) sync prot (w.nodes q))) in
       let new : Outcome = unless (is_linked (w.links s q)) (Exists (w.nodes q).name) w o in
-      both_up s q (link_part Made w s q sync)
+      both_up s q (link_part Made w s q sync prot)
       (tested (not (is_primary (w.nodes s).role && follows w s q)) WrongRole new
-      (tested (is_linked (w.links s q)) (Exists (w.nodes q).name) o (one_link q (new_link (count_links_of w s) sync (w.nodes q)))))
+      (tested (is_linked (w.links s q)) (Exists (w.nodes q).name) o (one_link q (new_link (count_links_of w s) sync prot (w.nodes q)))))
 
-  pub opened_alone : (q : ℕ) (sync : SyncMode) → IsAlone s w (outcome_of w (LinkAt s q sync Opened)).world
-  opened_alone q sync = both_up s q (link_part Opened w s q sync) (tested _ _ _ (one_link q _))
+  pub opened_alone : (q : ℕ) (sync : SyncMode) (prot : Prot) → IsAlone s w (outcome_of w (LinkAt s q sync prot Opened)).world
+  opened_alone q sync prot = both_up s q (link_part Opened w s q sync prot) (tested _ _ _ (one_link q _))
 
 -- whatever headers are counted
 pub counted_alone : (w : World) (s : ℕ) (e : Event) → IsAlone s w (outcome_of w e).world → IsAlone s w (step w e).world

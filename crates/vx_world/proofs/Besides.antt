@@ -1,13 +1,13 @@
 -- Writes, applies, waits, crashes and recoveries beside a halted site.
 use Rattle.vx_model.specs.Sites.{is_bare, is_origin, is_up}
 use Rattle.vx_model.specs.declared.limits.TheConstants.{MOST_NUMBER}
-use Rattle.std.proofs.Common.{◌≡◌, ◌∙◌, inl, inr, ℕ, zero, suc, ◌+◌, [], ◌∷◌, ◌++◌, length, ap, sym, subst, refl, Bool, true, false}
+use Rattle.std.proofs.Common.{◌≡◌, ◌∙◌, inl, inr, ℕ, zero, suc, ◌+◌, List, [], ◌∷◌, ◌++◌, length, ap, sym, subst, refl, Bool, true, false}
 use Rattle.std.specs.Prelude.{Option, Some, None, not, ◌||◌, eqb, ltb, leb, if◌then◌else◌}
 use Rattle.std.proofs.lemmas.Bool.{cases_eq}
 use Rattle.vx_history.specs.Admission.{admit, Admitted, Held_by, Goes}
 use Rattle.vx_model.specs.Answer.{is_wrong_count, is_past, is_too_large}
 use Rattle.vx_model.specs.Content.{Write, blocks_in, blocks_from}
-use Rattle.vx_history.specs.Events.{linked_sites, plain_links, log_uses, admitted, written_if, put_in, links_changed, link_after, apply_at, applied_by, acknowledged, applied, reached_at, crash_at, deport_at, crash_world, lost_touch, kept_of, recover_from, recovery, come_back, restarted_link, recovery_greeting, waited, promises_of}
+use Rattle.vx_history.specs.Events.{linked_sites, plain_links, log_uses, admitted, written_if, put_in, links_changed, links_marked, link_after, link_marked, apply_at, applied_by, acknowledged, applied, reached_at, crash_at, deport_at, crash_world, link_left, kept_of, recover_from, recovery, come_back, restarted_link, recovery_greeting, waited, promises_of}
 use Rattle.vx_history.specs.LinkForms.{plain_receiver}
 use Rattle.vx_history.specs.Receiving.{received_step, Received}
 use Rattle.vx_history.specs.Refusals.{Outcome, says, unless, at_work, on_volume, is_primary, some_below, holds_back, is_unconfirmed, unless_at_most}
@@ -173,10 +173,15 @@ module _ (s : ℕ) (w v : World) (twin : Twin s w v) where
       (ap (λ (n : Node). (λ (k : ℕ). link_after n x k (v.links p k))) (twin.nodes p apart) ∙ ap
       (λ (r : ℕ → Link). (λ (k : ℕ). link_after (w.nodes p) x k (r k))) (twin.rows p apart))
 
+  marked_both : (w' v' : World) → Twin s w' v' → (p : ℕ) (xs : List Write) → (p ≡ s → ⊥) → Twin s (links_marked w' p xs) (links_marked v' p xs)
+  marked_both w' v' t p xs apart =
+      twin_row s w' v' t p (λ k. link_marked xs (w'.links p k)) (λ k. link_marked xs (v'.links p k)) apart
+      (ap (λ (r : ℕ → Link). (λ (k : ℕ). link_marked xs (r k))) (t.rows p apart))
+
   pub put_both : (w' v' : World) → Twin s w' v' → (p : ℕ) (x : Write) (fails : Option ℕ) → (p ≡ s → ⊥)
       → Twin s (put_in w' p x fails).world (put_in v' p x fails).world
   put_both w' v' t p x None apart =
-      twin_history s w' v' t p (logged (w'.nodes p) x) (logged (v'.nodes p) x) (told_of (w'.lines (w'.nodes p).line) x)
+      twin_history s (links_marked w' p (x ∷ [])) (links_marked v' p (x ∷ [])) (marked_both w' v' t p (x ∷ []) apart) p (logged (w'.nodes p) x) (logged (v'.nodes p) x) (told_of (w'.lines (w'.nodes p).line) x)
       (told_of (v'.lines (v'.nodes p).line) x) apart (ap (λ (n : Node). logged n x) (t.nodes p apart))
       (ap (λ (n : Node). told_of (v'.lines n.line) x) (t.nodes p apart) ∙ ap (λ (ls : Line → History). told_of (ls (w'.nodes p).line) x) t.lines)
   put_both w' v' t p x (Some disk) apart =
@@ -255,13 +260,15 @@ module _ (s : ℕ) (w v : World) (twin : Twin s w v) where
       (λ (ls : Line → History). kept_by (ls (w.nodes p).line) (w.nodes p) k) twin.lines) in
       let receiver : Twin s (with_node w p (crashed (w.nodes p) k)) (with_node v p (crashed (v.nodes p) j)) = twin_node s w v twin p (crashed (w.nodes p) k)
       (crashed (v.nodes p) j) apart (fallen node) in
-      twin_empty s (with_links (crash_world w p k) p (λ to. lost_touch (w.links p to)))
-      (with_links (crash_world v p j) p (λ to. lost_touch (v.links p to))) p
+      twin_empty s (with_links (crash_world w p k) p (λ to. link_left (w.nodes p) k (w.links p to)))
+      (with_links (crash_world v p j) p (λ to. link_left (v.nodes p) j (v.links p to))) p
       (twin_row s (crash_world w p k) (crash_world v p j)
       (one_world s (is_origin (w.nodes p).role) (is_origin (v.nodes p).role) (crash_left w p k) (crash_left v p j) (with_node w p (crashed (w.nodes p) k))
       (with_node v p (crashed (v.nodes p) j)) (ap (λ (n : Node). is_origin n.role) node) origin receiver)
-      p (λ to. lost_touch (w.links p to)) (λ to. lost_touch (v.links p to)) apart
-      (ap (λ (r : ℕ → Link). (λ (to : ℕ). lost_touch (r to))) (twin.rows p apart)))
+      p (λ to. link_left (w.nodes p) k (w.links p to)) (λ to. link_left (v.nodes p) j (v.links p to)) apart
+      (ap (λ (n : Node). (λ (to : ℕ). link_left n j (v.links p to))) node
+      ∙ ap (λ (i : ℕ). (λ (to : ℕ). link_left (w.nodes p) i (v.links p to))) same
+      ∙ ap (λ (r : ℕ → Link). (λ (to : ℕ). link_left (w.nodes p) k (r to))) (twin.rows p apart)))
 
   pub twin_crash : (p kept : ℕ) → (p ≡ s → ⊥) → Twin s (outcome_of w (Crash p kept)).world (outcome_of v (Crash p kept)).world
   twin_crash p kept apart =

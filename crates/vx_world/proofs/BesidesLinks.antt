@@ -18,6 +18,7 @@ use Rattle.vx_history.specs.World.{History, Node, Link, World, bare_site, no_vol
 use Rattle.vx_history.specs.declared.event.Event.TheVariants.{Site, Raw, Group, Volumes, Fall, Link as LinkAt}
 use Rattle.vx_history.specs.declared.event.LinkPart.{LinkPart}
 use Rattle.vx_history.specs.declared.event.LinkPart.TheVariants.{Joins, Made, Marked, Opened}
+use Rattle.vx_model.specs.declared.link.Prot.{Prot}
 use Rattle.vx_model.specs.declared.link.SyncMode.{SyncMode}
 use Rattle.vx_model.specs.declared.no.No.TheVariants.{Exists, Size, Role as WrongRole, Down as NotUp, Limit}
 use Rattle.vx_model.specs.declared.no.Counted.TheVariants.{Sites, Disks, Links}
@@ -239,8 +240,8 @@ module _ (s : ℕ) (w v : World) (twin : Twin s w v) where
     same_linked : is_linked (v.links p q) ≡ is_linked (w.links p q)
     same_linked = ap (λ (r : ℕ → Link). is_linked (r q)) row_is
 
-    part_both : (sync : SyncMode) (part : LinkPart) → Twin s (link_part part w p q sync).world (link_part part v p q sync).world
-    part_both sync Joins =
+    part_both : (sync : SyncMode) (prot : Prot) (part : LinkPart) → Twin s (link_part part w p q sync prot).world (link_part part v p q sync prot).world
+    part_both sync prot Joins =
         let o : Outcome = done (emptied (with_node w q (joined (w.nodes p) p (w.nodes q))) q) in
         let r : Outcome = done (emptied (with_node v q (joined (v.nodes p) p (v.nodes q))) q) in
         let fit_w : Outcome = unless (not (sizes_meet (w.nodes p).volumes (w.nodes q).volumes && rings_fit (w.nodes p) (w.nodes q))) Size w o in
@@ -259,9 +260,9 @@ module _ (s : ℕ) (w v : World) (twin : Twin s w v) where
         (λ _. twin_empty s (with_node w q (joined (w.nodes p) p (w.nodes q))) (with_node v q (joined (v.nodes p) p (v.nodes q))) q
         (twin_node s w v twin q (joined (w.nodes p) p (w.nodes q)) (joined (v.nodes p) p (v.nodes q)) other
         (ap (λ (n : Node). joined n p (v.nodes q)) here_is ∙ ap (λ (n : Node). joined (w.nodes p) p n) there_is))))))
-    part_both sync Made =
-        let l : Link = new_link (count_links_of w p) sync (w.nodes q) in
-        let m : Link = new_link (count_links_of v p) sync (v.nodes q) in
+    part_both sync prot Made =
+        let l : Link = new_link (count_links_of w p) sync prot (w.nodes q) in
+        let m : Link = new_link (count_links_of v p) sync prot (v.nodes q) in
         both s (not (is_primary (w.nodes p).role && follows w p q)) (not (is_primary (v.nodes p).role && follows v p q)) WrongRole WrongRole w v
         (unless (is_linked (w.links p q)) (Exists (w.nodes q).name) w (done (with_link w p q l)))
         (unless (is_linked (v.links p q)) (Exists (v.nodes q).name) v (done (with_link v p q m)))
@@ -269,8 +270,8 @@ module _ (s : ℕ) (w v : World) (twin : Twin s w v) where
         (λ _. both s (is_linked (w.links p q)) (is_linked (v.links p q)) (Exists (w.nodes q).name) (Exists (v.nodes q).name) w v (done (with_link w p q l))
         (done (with_link v p q m)) same_linked twin
         (λ _. twin_link s w v twin p q l m apart
-        (ap (λ (n : ℕ). new_link n sync (v.nodes q)) same_links ∙ ap (λ (n : Node). new_link (count_links_of w p) sync n) there_is)))
-    part_both sync Marked =
+        (ap (λ (n : ℕ). new_link n sync prot (v.nodes q)) same_links ∙ ap (λ (n : Node). new_link (count_links_of w p) sync prot n) there_is)))
+    part_both sync prot Marked =
         let marks : Node → Node = λ n. record n { mark = Consistent } in
         both s (not (is_primary (w.nodes p).role && (follows w p q && (is_linked (w.links p q) && is_empty (w.nodes p).log))))
         (not (is_primary (v.nodes p).role && (follows v p q && (is_linked (v.links p q) && is_empty (v.nodes p).log)))) WrongRole WrongRole w v
@@ -279,7 +280,7 @@ module _ (s : ℕ) (w v : World) (twin : Twin s w v) where
         ∙ ap (λ (b : Bool). not (is_primary (w.nodes p).role && (b && (is_linked (v.links p q) && is_empty (w.nodes p).log)))) same_follows
         ∙ ap (λ (b : Bool). not (is_primary (w.nodes p).role && (follows w p q && (b && is_empty (w.nodes p).log)))) same_linked) twin
         (λ _. twin_node s w v twin q (marks (w.nodes q)) (marks (v.nodes q)) other (ap marks there_is))
-    part_both sync Opened =
+    part_both sync prot Opened =
         let rest : Node → Node → Link → Bool = λ n k l. is_linked l && (is_empty n.log && (is_stale_mode l.mode && (phase_takes k.phase && is_consistent k.mark))) in
         both s (not (is_primary (w.nodes p).role && (follows w p q && rest (w.nodes p) (w.nodes q) (w.links p q))))
         (not (is_primary (v.nodes p).role && (follows v p q && rest (v.nodes p) (v.nodes q) (v.links p q)))) WrongRole WrongRole w v
@@ -291,8 +292,8 @@ module _ (s : ℕ) (w v : World) (twin : Twin s w v) where
         (λ _. twin_link s w v twin p q (opened (w.links p q) (w.nodes p).safe) (opened (v.links p q) (v.nodes p).safe) apart
         (ap (λ (n : Node). opened (v.links p q) n.safe) here_is ∙ ap (λ (r : ℕ → Link). opened (r q) (w.nodes p).safe) row_is))
 
-  pub twin_join : (p q : ℕ) (sync : SyncMode) (part : LinkPart) → Twin s (outcome_of w (LinkAt p q sync part)).world (outcome_of v (LinkAt p q sync part)).world
-  twin_join p q sync part =
-      there s w v p (at_site w q (both_at_work w p q (link_part part w p q sync))) (at_site v q (both_at_work v p q (link_part part v p q sync))) twin
-      (there s w v q (both_at_work w p q (link_part part w p q sync)) (both_at_work v p q (link_part part v p q sync)) twin
-      (both_work p q (link_part part w p q sync) (link_part part v p q sync) (λ apart other. part_both p q apart other sync part)))
+  pub twin_join : (p q : ℕ) (sync : SyncMode) (prot : Prot) (part : LinkPart) → Twin s (outcome_of w (LinkAt p q sync prot part)).world (outcome_of v (LinkAt p q sync prot part)).world
+  twin_join p q sync prot part =
+      there s w v p (at_site w q (both_at_work w p q (link_part part w p q sync prot))) (at_site v q (both_at_work v p q (link_part part v p q sync prot))) twin
+      (there s w v q (both_at_work w p q (link_part part w p q sync prot)) (both_at_work v p q (link_part part v p q sync prot)) twin
+      (both_work p q (link_part part w p q sync prot) (link_part part v p q sync prot) (λ apart other. part_both p q apart other sync prot part)))

@@ -6,16 +6,14 @@ use Rattle.vx_model.specs.Content.{Write, IsPrefixOf}
 use Rattle.vx_history.specs.World.{Node, Link, History, Packet, Promise, Message, Surety, Hello, Update, NetAck, DataAck, Durable, InSession}
 use Rattle.vx_model.specs.Sites.{is_origin}
 use Rattle.vx_history.specs.Good.{IsMade}
-use Rattle.vx_history.specs.Receiving.{phase_takes}
+use Rattle.vx_history.specs.GoodCopies.{GoodMode}
 use Rattle.vx_model.specs.declared.history.Line.{Line}
 use Rattle.vx_model.specs.declared.site.Mark.TheVariants.{Consistent}
 use Rattle.vx_model.specs.declared.site.Role.{Role}
 use Rattle.vx_model.specs.declared.site.Role.TheVariants.{Primary, Secondary, Handing, Bunker}
-use Rattle.vx_model.specs.declared.link.Mode.{Mode}
-use Rattle.vx_model.specs.declared.link.Mode.TheVariants.{Log, Dcm, Replay, Fork, Stale}
 use Rattle.vx_history.specs.Refusals.{keeps_links, is_bunker}
 use Rattle.vx_model.specs.declared.site.SiteState.TheVariants.{Up}
-use Rattle.vx_history.specs.Sound.{IsPresent, IsFollowed, HasStored, ModeSays, has_line, HasCome, GoodLink, GoodMessage, GoodPacket, IsKept, GoodPromise, IsStranger, StrangerSays}
+use Rattle.vx_history.specs.Sound.{IsPresent, IsFollowed, HasStored, has_line, HasCome, GoodLink, GoodMessage, GoodPacket, IsKept, GoodPromise, IsStranger, StrangerSays}
 use Rattle.vx_world.proofs.Lists.{prefix_number, each_weaker}
 
 -- b may come of a on the same line: no number that a answered for is lost, but those of a session that is over. Its mark, its phase and its
@@ -70,15 +68,6 @@ sender_later a b later e =
 pub origin_sends : (r : Role) → is_origin r ≡ true → keeps_links r ≡ true
 origin_sends r o = sender_is r ∙ ap (λ (x : Bool). x || is_bunker r) o
 
--- what a mode says of a site it says of one that is no less consistent and takes updates still, whatever more the line holds
-pub mode_later : (f g : List Write) (b d : Node) (m : Mode) → (b.mark ≡ Consistent → d.mark ≡ Consistent)
-    → (phase_takes b.phase ≡ true → phase_takes d.phase ≡ true) → ModeSays f b m → ModeSays g d m
-mode_later f g b d Log mark takes (marked, taken) = (mark marked, takes taken)
-mode_later f g b d Dcm mark takes says = tt
-mode_later f g b d (Replay id phase left start end) mark takes says = tt
-mode_later f g b d (Fork maps) mark takes says = tt
-mode_later f g b d Stale mark takes says = tt
-
 -- a site that is up is an origin, and stands on the line
 abbrev pub OriginHere : Node → Line → Type 0
 OriginHere b line = (b.state ≡ Up) × (b.line ≡ line) × (is_origin b.role ≡ true)
@@ -110,8 +99,12 @@ module _ (a b : Node) (later : IsLater a b) where
   kept_later line number (InSession session) none (old, h) =
       (omega (arith, old, later.session), present_later line session number old (λ o. absurd (none o)) h)
 
-pub link_later : (f g : List Write) (p s : ℕ) (a b c d : Node) (l : Link) → IsLater a c → IsLater b d
-    → (is_origin c.role ≡ true → IsFollowed c d l → ModeSays f b l.mode → ModeSays g d l.mode) → GoodLink f p s a b l → GoodLink g p s c d l
+-- what the mode of a link to site s says of it, by the record of the line
+abbrev pub LinkSays : History → ℕ → Node → Link → Type 0
+LinkSays h s b l = GoodMode h.held (h.replays s) b l.map l.stored l.mode
+
+pub link_later : (f g : History) (p s : ℕ) (a b c d : Node) (l : Link) → IsLater a c → IsLater b d
+    → (is_origin c.role ≡ true → IsFollowed c d l → LinkSays f s b l → LinkSays g s d l) → GoodLink f p s a b l → GoodLink g p s c d l
 link_later f g p s a b c d l later_a later_b modes good =
     let was : IsFollowed c d l → IsFollowed a b l = λ (is, r, e). (is, sym later_b.origin ∙ r, sym later_b.line ∙ e ∙ later_a.line) in
     record {

@@ -1,12 +1,17 @@
 -- Each event keeps what holds of the world.
-use Rattle.std.proofs.Common.{◌≡◌, ℕ, ◌-◌, ◌≤◌, ◌++◌, [], ◌∷◌, length, refl, subst, arith, true, false}
+use Rattle.std.proofs.Common.{◌≡◌, ℕ, ◌+◌, ◌-◌, ◌≤◌, ◌++◌, List, [], ◌∷◌, length, refl, sym, subst, arith, true, false}
 use Rattle.std.specs.Prelude.{eqb, min, Some, None, Option}
 use Rattle.std.specs.List.{AllByRecursion}
 use Rattle.vx_model.specs.Content.{Write}
-use Rattle.vx_history.specs.World.{World, Node, Hello, NetAck, DataAck, updated, with_node}
+use Rattle.vx_history.specs.World.{World, Node, Link, History, Hello, NetAck, DataAck, updated, with_node}
 use Rattle.vx_model.specs.Sites.{is_origin}
 use Rattle.vx_history.specs.Steps.{burned, logged, told_of, written, half_written}
 use Rattle.vx_history.specs.Good.{IsMade, IsWorking}
+use Rattle.vx_history.specs.GoodCopies.{GoodReplays}
+use Rattle.vx_history.specs.Regions.{CoversWrite}
+use Rattle.vx_model.specs.declared.link.Mode.TheVariants.{Dcm}
+use Rattle.vx_history.proofs.Converting.{covers_after}
+use Rattle.vx_history.proofs.Copies.{mode_more}
 use Rattle.vx_history.specs.Admission.{Admitted, Held_by, Goes}
 use Rattle.vx_history.specs.Receiving.{Received, with_applied, applied_to}
 use Rattle.vx_history.specs.LinkForms.{plain_receiver}
@@ -22,7 +27,8 @@ use Rattle.vx_history.specs.Sends.{packets_of, greeting}
 use Rattle.vx_history.specs.Events
 use Rattle.vx_history.specs.Sound.{LosesNothing, GoodPacket, CameTo, KnownNode, Sound}
 use Rattle.vx_world.proofs.Lists.{prefix_refl, not_both}
-use Rattle.vx_world.proofs.Moves.{sound_sending, sound_with_links, sound_with_node, sound_with_history, good_later, at_changed, stays_fed}
+use Rattle.vx_world.proofs.Moves.{sound_sending, sound_with_links, sound_with_node, sound_with_history, good_later, at_changed}
+use Rattle.vx_world.proofs.Carry.{LinkSays}
 use Rattle.vx_world.proofs.Tests.{Keeps, unless_keeps}
 use Rattle.vx_world.proofs.Guards.{rest_up}
 use Rattle.vx_world.proofs.Nodes
@@ -40,25 +46,51 @@ up_whole n up rest = absurd (rest_up n.state rest up)
 pub links_changed_keeps : (w : World) (p : ℕ) (x : Write) → Sound w → Sound (Events.links_changed w p x)
 links_changed_keeps w p x s =
     sound_with_links w p (λ k. Events.link_after (w.nodes p) x k (w.links p k)) s
-    (λ k. Links.link_changed (w.lines (w.nodes p).line).held p k (w.nodes p) (w.nodes k) (w.nodes p) x (w.links p k) (s.links p k))
+    (λ k. Links.link_changed w.lines p k (w.nodes p) (w.nodes k) x (w.links p k) (s.good.nodes p) (s.good.nodes k) (s.good.replays (w.nodes p).line k) (s.links p k))
     (λ k is. is)
     (λ _ k is. is)
 
-written_keeps : (w : World) (p : ℕ) (x : Write) → Sound w → IsWorking (w.nodes p) → Sound (written w p x)
-written_keeps w p x s works =
+-- the maps that links keep get the regions of writes
+pub links_marked_keeps : (w : World) (p : ℕ) (xs : List Write) → Sound w → Sound (Events.links_marked w p xs)
+links_marked_keeps w p xs s =
+    sound_with_links w p (λ k. Events.link_marked xs (w.links p k)) s
+    (λ k. Links.link_with_marks (w.lines (w.nodes p).line) p k (w.nodes p) (w.nodes k) xs (w.links p k) (s.links p k))
+    (λ k is. is)
+    (λ _ k is. is)
+
+-- a link whose map covers what its line holds more says of that line what it said
+pub feeds_more : (h : History) (ys : List Write) (told q : ℕ) (b : Node) (l : Link) → GoodReplays h.held (h.replays q)
+    → (l.mode ≡ Dcm → AllByRecursion (CoversWrite l.map) ys) → LinkSays h q b l → LinkSays (record h { held = h.held ++ ys; told = told }) q b l
+feeds_more h ys told q b l table covers says = mode_more h.held ys (h.replays q) table b l.map l.stored l.mode covers says
+
+-- the maps of a site's links cover these writes
+abbrev pub AreMarked : World → ℕ → List Write → Type 0
+AreMarked w p xs = (q : ℕ) → (w.links p q).mode ≡ Dcm → AllByRecursion (CoversWrite (w.links p q).map) xs
+
+pub are_marked : (w : World) (p : ℕ) (xs : List Write) → AreMarked (Events.links_marked w p xs) p xs
+are_marked w p xs q =
+    subst (λ (row : ℕ → Link). (row q).mode ≡ Dcm → AllByRecursion (CoversWrite (row q).map) xs) (sym (at_place w.links p (λ k. Events.link_marked xs (w.links p k))))
+    (covers_after (w.links p q).map xs (w.links p q).mode)
+
+written_keeps : (w : World) (p : ℕ) (x : Write) → Sound w → IsWorking (w.nodes p) → AreMarked w p (x ∷ []) → Sound (written w p x)
+written_keeps w p x s works marks =
     let n : Node = w.nodes p in
-    sound_with_history w p (logged n x) (told_of (w.lines n.line) x) s
+    let h : History = w.lines n.line in
+    sound_with_history w p (logged n x) (told_of h x) s
     (good_written w p x s.good works)
     (Nodes.later_logged n x)
-    (prefix_push (w.lines n.line).held (w.lines n.line).held (x ∷ []) (prefix_refl (w.lines n.line).held))
+    (up_is_made n works.up)
+    works.origin
+    (prefix_push h.held h.held (x ∷ []) (prefix_refl h.held))
     (up_whole (logged n x) works.up)
     (s.fed p)
     (s.takes p)
     (λ _ _ _ _. (s.good.nodes p).origin_mark works.origin)
     (s.newest p)
     (s.stands p)
-    (stays_fed w p (logged n x) (λ m. m) (λ t. t))
+    (λ q _ says. feeds_more h (x ∷ []) (length h.held + 1) q (w.nodes q) (w.links p q) (s.good.replays n.line q) (marks q) says)
     (origin_known w p (logged n x) works.origin)
+    (λ k. s.unbegun n.line k)
 
 half_written_keeps : (w : World) (p : ℕ) (x : Write) (disk : ℕ) → Sound w → IsWorking (w.nodes p) → Sound (half_written w p x disk)
 half_written_keeps w p x disk s works =
@@ -72,11 +104,11 @@ half_written_keeps w p x disk s works =
     (λ _ none. absurd (cc))
     (s.newest p)
     (s.stands p)
-    (stays_fed w p m (λ m. m) (λ t. t))
+    (λ r l. not_both (is_origin m.role) works.origin r)
     (origin_known w p m works.origin)
 
 put_in_keeps : (w : World) (p : ℕ) (x : Write) (fails : Option ℕ) → Sound w → IsWorking (w.nodes p) → Keeps (Events.put_in w p x fails)
-put_in_keeps w p x None s works = written_keeps w p x s works
+put_in_keeps w p x None s works = written_keeps (Events.links_marked w p (x ∷ [])) p x (links_marked_keeps w p (x ∷ []) s) works (are_marked w p (x ∷ []))
 put_in_keeps w p x (Some disk) s works = half_written_keeps w p x disk s works
 
 pub written_if_keeps : (admitted : Admitted) (w : World) (p : ℕ) (x : Write) (fails : Option ℕ) → Sound w → IsWorking (w.nodes p)
@@ -144,22 +176,23 @@ apply_keeps w q count s up runs r =
     (λ _. s)
     (λ _. Nodes.mark_rises (record p { waiting = left }) (applied_to p.last left)
     (λ (x : RState). Sound (Events.acknowledged w q (Events.applied n (applied_to p.last left) x.mark)))
-    (λ mark marks ends. each mark marks ends (omega (arith, (s.good.nodes q).safe_fits)) (omega arith)))
+    (λ mark marks ends only. each mark marks ends only (omega (arith, (s.good.nodes q).safe_fits)) (omega arith)))
   where
     each : (mark : Mark) → ((w.nodes q).mark ≡ Consistent → mark ≡ Consistent)
         → ((w.nodes q).phase ≡ ByLog → (w.nodes q).end ≤ applied_to (length (w.nodes q).log) (length (w.nodes q).log - (w.nodes q).safe - count)
         → mark ≡ Consistent)
+        → Nodes.MayMark (w.nodes q) (applied_to (length (w.nodes q).log) (length (w.nodes q).log - (w.nodes q).safe - count)) mark
         → (w.nodes q).safe ≤ applied_to (length (w.nodes q).log) (length (w.nodes q).log - (w.nodes q).safe - count)
         → applied_to (length (w.nodes q).log) (length (w.nodes q).log - (w.nodes q).safe - count) ≤ length (w.nodes q).log
         → Sound (Events.acknowledged w q (Events.applied (w.nodes q) (applied_to (length (w.nodes q).log) (length (w.nodes q).log - (w.nodes q).safe - count)) mark))
-    each mark marks ends least most =
+    each mark marks ends only least most =
         let n : Node = w.nodes q in
         let k : ℕ = applied_to (length n.log) (length n.log - n.safe - count) in
         let made : IsMade n = up_is_made n up in
         let m : Node = Events.applied n k mark in
         acknowledged_keeps w q m s
         (sound_with_node w q m s
-        (good_later w q m s.good made refl (λ is. is) (Nodes.good_applied (w.lines n.line) q k mark n (s.takes q) r least most (s.good.nodes q)))
+        (good_later w q m s.good made refl (λ is. is) (Nodes.good_applied (w.lines n.line) q k mark n (s.good.replays n.line q) made r least most marks only (s.good.nodes q)))
         (Nodes.later_applied n k mark least marks)
         (up_whole m up)
         (s.fed q)
@@ -167,6 +200,6 @@ apply_keeps w q count s up runs r =
         (λ _ _. ends)
         (s.newest q)
         (s.stands q)
-        (stays_fed w q m marks (λ t. t))
+        (λ _. Nodes.fed_applied (w.lines n.line) q k mark n (s.good.replays n.line q) made r least most marks only (s.good.nodes q))
         (λ is not g. s.known q made not g))
         made r up runs

@@ -3,7 +3,7 @@ use Rattle.std.proofs.Common.{◌≡◌, ℕ, ◌≤◌, List, [], ◌∷◌, le
 use Rattle.std.specs.Prelude.{eqb}
 use Rattle.std.specs.List.{AllByRecursion}
 use Rattle.vx_model.specs.Content.{Write}
-use Rattle.vx_history.specs.World.{World, Node, Link, History, Packet, Promise, Message, Surety, Hello, Update, NetAck, DataAck, Durable, InSession, with_node, updated}
+use Rattle.vx_history.specs.World.{World, Node, History, Packet, Promise, Message, Surety, Hello, Update, NetAck, DataAck, Durable, InSession, with_node, updated}
 use Rattle.vx_model.specs.Sites.{is_origin}
 use Rattle.vx_history.specs.Good.{Good, IsMade}
 use Rattle.vx_model.specs.declared.history.Line.{Line}
@@ -17,12 +17,8 @@ use Rattle.vx_history.specs.Sound.{LosesNothing, IsFed, TakesUpdates, IsMarked, 
 use Rattle.vx_world.specs.Comings.{MayCome, MayComeFirst}
 use Rattle.vx_world.proofs.Lists.{each_append, each_weaker, not_both}
 use Rattle.vx_world.proofs.Stood.{more_lines, last_line, who_came}
-use Rattle.vx_world.proofs.Carry.{later_same, mode_later, link_later, says_later}
+use Rattle.vx_world.proofs.Carry.{says_later}
 use Rattle.vx_world.proofs.Moves.{at_changed, unlinked_good, given}
-
--- what is said of a link, whatever its line holds
-held_good : (f g : List Write) (p q : ℕ) (a b : Node) (l : Link) → GoodLink f p q a b l → GoodLink g p q a b l
-held_good f g p q a b l good = link_later f g p q a b a b l (later_same a) (later_same b) (λ _ _. mode_later f g b b l.mode (λ x. x) (λ x. x)) good
 
 -- ## A site comes to a line
 
@@ -92,7 +88,7 @@ module _ (w : World) (i : ℕ) (n : Node) (s : Sound w) (apart : n.line.origin �
   still_came : (line : Line) (k : ℕ) → CameTo w.nodes line k → CameTo joined_nodes line k
   still_came line = all_updated (λ k (m : Node). CameTo w.nodes line k → has_line m.stood line ≡ true) w.nodes i n (stood_more line) (λ k _ c. c)
 
-  pub sound_coming : ((p : ℕ) → GoodLink (w.lines (w.nodes p).line).held p i (w.nodes p) n (w.links p i))
+  pub sound_coming : ((p : ℕ) → GoodLink (w.lines (w.nodes p).line) p i (w.nodes p) n (w.links p i))
       → ((p : Packet) → p.source ≡ i → n.line ≡ p.line → GoodPacket w.nodes w.links w.lines p → GoodMessage (w.lines p.line).held n p.line p.message)
       → ((e : Promise) → e.site ≡ i → n.line ≡ e.line → GoodPromise w.nodes w.links e → IsKept n e.line e.number e.surety)
       → KnownNode joined_nodes w.links i n → Good (with_node w i n) → LosesNothing n → IsFed n → TakesUpdates n → IsMarked n → IsNewest n
@@ -109,9 +105,9 @@ module _ (w : World) (i : ℕ) (n : Node) (s : Sound w) (apart : n.line.origin �
     come = all_updated (λ k (m : Node). AllByRecursion (HasCome joined_nodes k) m.stood) w.nodes i n all_come
         (λ k _. each_weaker (HasCome w.nodes k) (HasCome joined_nodes k) (still_come k) (w.nodes k).stood (s.come k));
     links =
-        all_updated (λ p (a : Node). (q : ℕ) → GoodLink (w.lines a.line).held p q a (joined_nodes q) (w.links p q)) w.nodes i n
-        (λ q. unlinked_good (w.lines n.line).held i q n (joined_nodes q) (w.links i q) (alone q))
-        (λ p _. all_updated (λ q (b : Node). GoodLink (w.lines (w.nodes p).line).held p q (w.nodes p) b (w.links p q)) w.nodes i n (comes p)
+        all_updated (λ p (a : Node). (q : ℕ) → GoodLink (w.lines a.line) p q a (joined_nodes q) (w.links p q)) w.nodes i n
+        (λ q. unlinked_good (w.lines n.line) i q n (joined_nodes q) (w.links i q) (alone q))
+        (λ p _. all_updated (λ q (b : Node). GoodLink (w.lines (w.nodes p).line) p q (w.nodes p) b (w.links p q)) w.nodes i n (comes p)
         (λ q _. s.links p q));
     bunkers = λ p q is. all_updated (λ j (a : Node). is_linked (w.links j q) ≡ true → is_origin a.role ≡ false
         → IsStranger joined_nodes w.links a.line q → ⊥) w.nodes i n
@@ -139,6 +135,7 @@ module _ (w : World) (i : ℕ) (n : Node) (s : Sound w) (apart : n.line.origin �
         })
         w.promised s.promised;
     known = all_updated (λ k (m : Node). KnownNode joined_nodes w.links k m) w.nodes i n known (λ k _ is o q. s.known k is o (before (w.nodes k).line k q));
+    unbegun = s.unbegun;
   }
 
 -- ## A stranger comes to a line
@@ -169,7 +166,7 @@ module _ (w : World) (i : ℕ) (n : Node) (s : Sound w) (stranger : IsStranger w
           not_both (is_linked (w.links p i)) is (ap (λ (j : ℕ). is_linked (w.links j i)) (sym g) ∙ stranger.1)
       by_origin false r = s.bunkers p i is r (subst (λ (l : Line). IsStranger w.nodes w.links l i) e stranger)
 
-  comes : (p : ℕ) → GoodLink (w.lines (w.nodes p).line).held p i (w.nodes p) n (w.links p i)
+  comes : (p : ℕ) → GoodLink (w.lines (w.nodes p).line) p i (w.nodes p) n (w.links p i)
   comes p = record {
     ends = λ e. (((s.links p i).ends e).0, stays);
     starts = (s.links p i).starts;
@@ -199,7 +196,7 @@ module _ (w : World) (i : ℕ) (n : Node) (s : Sound w) (may : MayComeFirst w i 
   never line e came =
       not_both (has_line (w.nodes i).stood n.line) (ap (λ (l : Line). has_line (w.nodes i).stood l) e ∙ came) may.new
 
-  first_link : (p : ℕ) → GoodLink (w.lines (w.nodes p).line).held p i (w.nodes p) n (w.links p i)
+  first_link : (p : ℕ) → GoodLink (w.lines (w.nodes p).line) p i (w.nodes p) n (w.links p i)
   first_link p = record {
     ends = λ e. (((s.links p i).ends e).0, may.stays);
     starts = (s.links p i).starts;
@@ -258,10 +255,20 @@ module _ (w : World) (i sites : ℕ) (n : Node) (h : Line → History) (s : Soun
         (λ _ _ e. e) k q.2,
   )
 
+  -- a link of another site goes by a line that is as it was
+  still_good : (p q : ℕ) → GoodLink (h (w.nodes p).line) p q (w.nodes p) (w.nodes q) (w.links p q)
+  still_good p q = by_link (is_linked (w.links p q)) refl
+    where
+      by_link : (b : Bool) → is_linked (w.links p q) ≡ b → GoodLink (h (w.nodes p).line) p q (w.nodes p) (w.nodes q) (w.links p q)
+      by_link true is =
+          subst (λ (r : History). GoodLink r p q (w.nodes p) (w.nodes q) (w.links p q))
+          (other (w.nodes p).line (made_elsewhere (w.nodes p).line.origin (s.good.begun p ((s.links p q).ends is).0))) (s.links p q)
+      by_link false none = unlinked_good (h (w.nodes p).line) p q (w.nodes p) (w.nodes q) (w.links p q) (λ is. not_both (is_linked (w.links p q)) is none)
+
   pub sound_founding : Good (record w { sites = sites; nodes = founded_nodes; lines = h }) → LosesNothing n → is_origin n.role ≡ true → TakesUpdates n
-      → IsMarked n → IsNewest n → StoodHere n → AllByRecursion (HasCome founded_nodes i) n.stood
+      → IsMarked n → IsNewest n → StoodHere n → AllByRecursion (HasCome founded_nodes i) n.stood → ((l : Line) (k : ℕ) → ((h l).replays k).begun ≡ 0)
       → Sound (record w { sites = sites; nodes = founded_nodes; lines = h })
-  sound_founding good whole origin takes marked newest stands come = record {
+  sound_founding good whole origin takes marked newest stands come unbegun = record {
     good = good;
     whole = all_updated (λ k (m : Node). LosesNothing m) w.nodes i n whole (λ k _. s.whole k);
     fed = all_updated (λ k (m : Node). IsFed m) w.nodes i n (λ r. not_both (is_origin n.role) origin r) (λ k _. s.fed k);
@@ -272,11 +279,11 @@ module _ (w : World) (i sites : ℕ) (n : Node) (h : Line → History) (s : Soun
     come = all_updated (λ k (m : Node). AllByRecursion (HasCome founded_nodes k) m.stood) w.nodes i n come
         (λ k _. each_weaker (HasCome w.nodes k) (HasCome founded_nodes k) (come_still k) (w.nodes k).stood (s.come k));
     links =
-        all_updated (λ p (a : Node). (q : ℕ) → GoodLink (h a.line).held p q a (founded_nodes q) (w.links p q)) w.nodes i n
-        (λ q. unlinked_good (h n.line).held i q n (founded_nodes q) (w.links i q) (λ e. made_elsewhere i ((s.links i q).ends e).0 refl))
-        (λ p _. all_updated (λ q (b : Node). GoodLink (h (w.nodes p).line).held p q (w.nodes p) b (w.links p q)) w.nodes i n
-        (unlinked_good (h (w.nodes p).line).held p i (w.nodes p) n (w.links p i) (λ e. made_elsewhere i ((s.links p i).ends e).1 refl))
-        (λ q _. held_good (w.lines (w.nodes p).line).held (h (w.nodes p).line).held p q (w.nodes p) (w.nodes q) (w.links p q) (s.links p q)));
+        all_updated (λ p (a : Node). (q : ℕ) → GoodLink (h a.line) p q a (founded_nodes q) (w.links p q)) w.nodes i n
+        (λ q. unlinked_good (h n.line) i q n (founded_nodes q) (w.links i q) (λ e. made_elsewhere i ((s.links i q).ends e).0 refl))
+        (λ p _. all_updated (λ q (b : Node). GoodLink (h (w.nodes p).line) p q (w.nodes p) b (w.links p q)) w.nodes i n
+        (unlinked_good (h (w.nodes p).line) p i (w.nodes p) n (w.links p i) (λ e. made_elsewhere i ((s.links p i).ends e).1 refl))
+        (λ q _. still_good p q));
     bunkers = λ p q is. all_updated (λ j (a : Node). is_linked (w.links j q) ≡ true → is_origin a.role ≡ false
         → IsStranger founded_nodes w.links a.line q → ⊥) w.nodes i n
         (λ there _ _. made_elsewhere i ((s.links i q).ends there).0 refl)
@@ -301,4 +308,5 @@ module _ (w : World) (i sites : ℕ) (n : Node) (h : Line → History) (s : Soun
     known = all_updated (λ k (m : Node). KnownNode founded_nodes w.links k m) w.nodes i n
         (λ made r. not_both (is_origin n.role) origin r)
         (λ k _ made r q. s.known k made r (stranger_was (w.nodes k).line k (s.good.begun k made) q));
+    unbegun = unbegun;
   }

@@ -19,7 +19,7 @@ use Rattle.vx_history.specs.Steps.{stopped_by}
 use Rattle.vx_history.specs.Stops.{IsLikeDoubted}
 use Rattle.vx_history.specs.World.{World, Node, Link as LinkState, updated}
 use Rattle.vx_history.specs.declared.event.Event.{Event}
-use Rattle.vx_history.specs.declared.event.Event.TheVariants.{Site, Raw, Group, Volumes, Write, Read, Apply, Pump, Tick, Deliver, Connect, Cut, Pause, Resume, Wait, Link, Set, Crash, Deport, Fall, Recover, Fault}
+use Rattle.vx_history.specs.declared.event.Event.TheVariants.{Site, Raw, Group, Volumes, Write, Read, Apply, Pump, Tick, Deliver, Connect, Cut, Pause, Resume, Wait, Link, Set, Attach, Detach, Crash, Deport, Fall, Recover, Fault}
 use Rattle.vx_world.specs.Lines.{NoDoubts, IsDoubt, GoodDoubted, node_as, row_as, resolved_as}
 use Rattle.vx_world.specs.Twins.{Twin, GoodTwin, IsElsewhere}
 use Rattle.vx_world.proofs.Halted.{like_counted}
@@ -268,8 +268,10 @@ step_good_as d (Cut p q) g calm = calm_good d (Cut p q) g (λ _ _ _. tt)
 step_good_as d (Pause p q) g calm = calm_good d (Pause p q) g (λ _ _ _. tt)
 step_good_as d (Resume p q) g calm = calm_good d (Resume p q) g (λ _ _ _. tt)
 step_good_as d (Wait p number) g calm = calm_good d (Wait p number) g (λ _ _ _. tt)
-step_good_as d (Link p q sync part) g calm = calm_good d (Link p q sync part) g (λ _ _ _. tt)
-step_good_as d (Set p q sync) g calm = calm_good d (Set p q sync) g (λ _ _ _. tt)
+step_good_as d (Link p q sync prot part) g calm = calm_good d (Link p q sync prot part) g (λ _ _ _. tt)
+step_good_as d (Set p q sync prot) g calm = calm_good d (Set p q sync prot) g (λ _ _ _. tt)
+step_good_as d (Attach p q) g calm = calm_good d (Attach p q) g (λ _ _ _. tt)
+step_good_as d (Detach p q) g calm = calm_good d (Detach p q) g (λ _ _ _. tt)
 step_good_as d (Crash p kept) g calm = calm_good d (Crash p kept) g (λ s a is here. calm s a is (ap (λ (i : ℕ). Some i) here))
 step_good_as d (Deport p) g calm = calm_good d (Deport p) g (λ _ _ _. tt)
 step_good_as d (Fall p) g calm = calm_good d (Fall p) g (λ _ _ _. tt)

@@ -1,7 +1,8 @@
 -- A crash and a recovery, step by step as the program takes them.
-use Rattle.std.proofs.Common.{◌≡◌, ◌∙◌, ℕ, ◌+◌, Bool, true, false, List, [], length, sym, ap, refl}
+use Rattle.std.proofs.Common.{◌≡◌, ◌∙◌, ℕ, ◌+◌, Bool, true, false, List, [], length, take, drop, sym, ap, refl}
 use Rattle.std.specs.Prelude.{leb, ◌&&◌, if◌then◌else◌}
 use Rattle.std.proofs.lemmas.List.{append-nil}
+use Rattle.vx_model.specs.Content.{Write}
 use Rattle.vx_history.specs.World.{World, Node, Link, Packet, updated, line_updated, with_node}
 use Rattle.vx_model.specs.Sites.{is_origin}
 use Rattle.vx_history.specs.Sends.{with_links, sending, greeting}
@@ -9,11 +10,12 @@ use Rattle.vx_history.specs.LinkForms.{plain_receiver}
 use Rattle.vx_history.specs.Gatherings.{emptied}
 use Rattle.vx_history.specs.Steps.{crashed, crash_left, kept_by, recovered}
 use Rattle.vx_history.specs.Receiving.{marked_by, site_restarted, is_log_phase}
-use Rattle.vx_history.specs.Events.{lost_touch, crash_world, crash_at, come_back, restarted_link, recovery_greeting, recovered_at}
+use Rattle.vx_history.specs.Events.{link_marked, links_marked, lost_touch, crash_world, crash_at, come_back, restarted_link, recovery_greeting, recovered_at}
 use Rattle.vx_model.specs.declared.site.Mark.{Mark}
 use Rattle.vx_model.specs.declared.site.Mark.TheVariants.{Consistent}
 use Rattle.vx_history.specs.declared.receiver.RState.{RState}
 use Rattle.vx_history.proofs.Updates.{at_place}
+use Rattle.vx_world.proofs.Crashes.{each_link, row_twice}
 
 -- ## Crashes
 
@@ -35,6 +37,13 @@ crash_links : (w : World) (s k : ℕ) (b : Bool) → (let x : World = if b then 
 crash_links w s k true = refl
 crash_links w s k false = refl
 
+-- and a site that crashes looks at no link
+crash_apart : (w : World) (links : ℕ → ℕ → Link) (s k : ℕ) (b : Bool)
+    → (let v : World = record w { links = links } in let x : World = if b then crash_left v s k else with_node v s (crashed (v.nodes s) k) in x)
+    ≡ (let x : World = if b then crash_left w s k else with_node w s (crashed (w.nodes s) k) in record x { links = links })
+crash_apart w links s k true = refl
+crash_apart w links s k false = refl
+
 pub crash_count : (w : World) (s k : ℕ) → (crash_at w s k).sites ≡ w.sites
 crash_count w s k = by_role (is_origin (w.nodes s).role)
   where
@@ -42,15 +51,25 @@ crash_count w s k = by_role (is_origin (w.nodes s).role)
     by_role true = refl
     by_role false = refl
 
-pub crash_done : (w mid apart v : World) (s k : ℕ) → mid ≡ crash_world w s k → apart ≡ with_links mid s (λ to. lost_touch (mid.links s to))
-    → v ≡ emptied apart s → v ≡ crash_at w s k
-crash_done w mid apart v s k down lost empty =
+-- the regions of what it keeps are marked, it goes down, its links lose touch, and it has nothing in assembly
+pub crash_done : (w marked mid apart v : World) (s k : ℕ) → marked ≡ links_marked w s (drop (w.nodes s).safe (take k (w.nodes s).log)) → mid ≡ crash_world marked s k
+    → apart ≡ with_links mid s (λ to. lost_touch (mid.links s to)) → v ≡ emptied apart s → v ≡ crash_at w s k
+crash_done w marked mid apart v s k marks down lost empty =
+    let xs : List Write = drop (w.nodes s).safe (take k (w.nodes s).log) in
+    let row : ℕ → Link = λ to. link_marked xs (w.links s to) in
+    let u : World = links_marked w s xs in
+    let left : (ℕ → ℕ → Link) → World = λ f. record (crash_world u s k) { links = updated (crash_world u s k).links s (each_link lost_touch (f s)) } in
     empty
     ∙ ap (λ (x : World). emptied x s) lost
-    ∙ ap (λ (x : World). emptied (with_links x s (λ to. lost_touch (x.links s to))) s) down
-    ∙ ap (λ (f : ℕ → ℕ → Link). let x : World = record
-    (crash_world w s k) { links = updated (crash_world w s k).links s (λ to. lost_touch (f s to)) } in emptied x s)
-    (crash_links w s k (is_origin (w.nodes s).role))
+    ∙ ap (λ (x : World). emptied (with_links x s (λ to. lost_touch (x.links s to))) s) (down ∙ ap (λ (x : World). crash_world x s k) marks)
+    ∙ ap (λ (f : ℕ → ℕ → Link). let x : World = left f in emptied x s) (crash_links u s k (is_origin (w.nodes s).role))
+    ∙ ap (λ (f : ℕ → ℕ → Link). let x : World = record (crash_world u s k) { links = updated f s (each_link lost_touch (u.links s)) } in emptied x s)
+    (crash_links u s k (is_origin (w.nodes s).role))
+    ∙ ap (λ (f : ℕ → ℕ → Link). let x : World = record (crash_world u s k) { links = f } in emptied x s) (row_twice w.links s row lost_touch)
+    ∙ ap (λ (x : World). let y : World = record x { links = updated w.links s (each_link lost_touch row) } in emptied y s)
+    (crash_apart w u.links s k (is_origin (w.nodes s).role))
+    ∙ ap (λ (f : ℕ → ℕ → Link). let x : World = record (crash_world w s k) { links = updated f s (each_link lost_touch row) } in emptied x s)
+    (sym (crash_links w s k (is_origin (w.nodes s).role)))
 
 -- ## Recoveries
 

@@ -1,5 +1,5 @@
 -- What is sent on links, and what is delivered, keeps what holds of the world.
-use Rattle.std.proofs.Common.{◌≡◌, ℕ, ◌+◌, ◌≤◌, [], ◌∷◌, length, refl, ap, sym, ◌∙◌, subst, arith, take, Bool, true, false, length-append}
+use Rattle.std.proofs.Common.{◌≡◌, ℕ, ◌+◌, ◌≤◌, ◌++◌, [], ◌∷◌, length, refl, ap, sym, ◌∙◌, subst, arith, take, Bool, true, false, length-append}
 use Rattle.std.proofs.lemmas.Bool.{not-true}
 use Rattle.std.specs.Prelude.{leb, ltb, if◌then◌else◌, eqb, min, max, slice_get, Some, None, Option, ◌&&◌, ◌||◌, not, zero, suc}
 use Rattle.std.specs.List.{AllByRecursion}
@@ -33,7 +33,7 @@ use Rattle.vx_history.specs.Gatherings.{completes}
 use Rattle.vx_model.specs.declared.limits.TheConstants.{MOST_AHEAD, MOST_PACKETS}
 use Rattle.vx_history.specs.Sound.{GoodLink, GoodMessage, GoodPacket, IsStranger, StrangerSays, Sound}
 use Rattle.vx_world.proofs.Lists.{prefix_refl, prefix_trans, prefix_take, each_found, not_both}
-use Rattle.vx_world.proofs.Moves.{sound_gathering, sound_sending, sound_promising, sound_with_link, sound_with_node, good_later, stranger_of_links, still_linked, stays_fed}
+use Rattle.vx_world.proofs.Moves.{sound_gathering, sound_sending, sound_promising, sound_with_link, sound_with_node, good_later, stranger_of_links, still_linked}
 use Rattle.vx_world.proofs.Tests.{Keeps, unless_keeps}
 use Rattle.vx_world.proofs.Changes.{greeting_good, memory_good, up_whole}
 use Rattle.vx_world.proofs.Nodes
@@ -48,7 +48,7 @@ no_stranger nodes links p s line e linked (g, none, plain) = not_both (is_linked
 
 -- a link as its rule leaves it, with what is sent on it
 pub moved_keeps : (w : World) (p q : ℕ) (r : Sent) → Sound w
-    → GoodLink (w.lines (w.nodes p).line).held p q (w.nodes p) (w.nodes q) (with_plain (w.links p q) r.link)
+    → GoodLink (w.lines (w.nodes p).line) p q (w.nodes p) (w.nodes q) (with_plain (w.links p q) r.link)
     → AllByRecursion (GoodPacket w.nodes (with_link w p q (with_plain (w.links p q) r.link)).links w.lines) (sent_by r.action p q (w.nodes p)) → Sound
     (Events.moved_by w p q r)
 moved_keeps w p q r s good sent =
@@ -61,7 +61,7 @@ pub quiet_keeps : (w : World) (p q : ℕ) (connected paused : Bool) (sent trimme
     → Sound (Events.moved_by w p q (with_nothing (record (plain_link q (w.links p q)) { connected = connected; paused = paused; sent = sent; trimmed = trimmed })))
 quiet_keeps w p q connected paused sent trimmed s =
     moved_keeps w p q (with_nothing (record (plain_link q (w.links p q)) { connected = connected; paused = paused; sent = sent; trimmed = trimmed })) s
-    (Links.link_like (w.lines (w.nodes p).line).held p q (w.nodes p) (w.nodes q) (w.links p q) _ refl refl refl refl (λ e. e) (s.links p q))
+    (Links.link_like (w.lines (w.nodes p).line) p q (w.nodes p) (w.nodes q) (w.links p q) _ refl refl refl refl (λ says. says) (s.links p q))
     tt
 
 pub pump_keeps : (w : World) (p q : ℕ) → Sound w → (w.nodes p).state ≡ Up → is_linked (w.links p q) ≡ true → Sound (Events.link_event w p q PumpLink)
@@ -85,7 +85,7 @@ pump_keeps w p q s up linked =
         let m : Link = record (w.links p q) { sent = high } in
         let r : Sent = record { link = record (plain_link q (w.links p q)) { sent = high }; action = Updates (low + 1) high } in
         moved_keeps w p q r s
-        (Links.link_like (w.lines n.line).held p q n (w.nodes q) (w.links p q) m refl refl refl refl (λ e. e) (s.links p q))
+        (Links.link_like (w.lines n.line) p q n (w.nodes q) (w.links p q) m refl refl refl refl (λ says. says) (s.links p q))
         (Links.sent_good (GoodPacket w.nodes (with_link w p q m).links w.lines) p q n (w.lines n.line).held
         (durable made)
         (λ number x is _. record {
@@ -137,7 +137,7 @@ connect_keeps w p q s =
 -- ## Packets
 
 link_heard_keeps : (w : World) (p : Packet) (e : SEvent) → Sound w
-    → GoodLink (w.lines (w.nodes p.target).line).held p.target p.source (w.nodes p.target) (w.nodes p.source) (with_plain (w.links p.target p.source) (sent_step (plain_link p.source (w.links p.target p.source)) e (Events.receiver_facts (w.nodes p.target) p.line)).link) → Keeps (Events.link_heard w p e)
+    → GoodLink (w.lines (w.nodes p.target).line) p.target p.source (w.nodes p.target) (w.nodes p.source) (with_plain (w.links p.target p.source) (sent_step (plain_link p.source (w.links p.target p.source)) e (Events.receiver_facts (w.nodes p.target) p.line)).link) → Keeps (Events.link_heard w p e)
 link_heard_keeps w p e s good =
     let r : Sent = sent_step (plain_link p.source (w.links p.target p.source)) e (Events.receiver_facts (w.nodes p.target) p.line) in
     by_test Keeps (keeps_links (w.nodes p.target).role && is_linked (w.links p.target p.source))
@@ -187,10 +187,12 @@ update_keeps w p number x s up is known =
         let e : p.line ≡ n.line = same_line_equal p.line n.line (and_left (same_line p.line n.line) (eqb number (length n.log + 1) && room) c) in
         let next : number ≡ length n.log + 1 = eqb_equal number (length n.log + 1)
         (and_left (eqb number (length n.log + 1)) room (and_right (same_line p.line n.line) (eqb number (length n.log + 1) && room) c)) in
+        let takes_it : phase_takes n.phase ≡ true = and_right (ltb t.waiting 16) (phase_takes n.phase)
+        (and_right (eqb number (length n.log + 1)) room (and_right (same_line p.line n.line) (eqb number (length n.log + 1) && room) c)) in
         let here : IsNumber (w.lines n.line).held number x = subst (λ (l : Line). IsNumber (w.lines l).held number x) e is in
         let none : IsStranger w.nodes w.links n.line p.target → ⊥ = subst (λ (l : Line). IsStranger w.nodes w.links l p.target → ⊥) e known in
         let v : Sound (with_node w p.target m) = sound_with_node w p.target m s
-        (good_later w p.target m s.good made refl (λ is. is) (Nodes.good_taken (w.lines n.line) p.target n p.source x number made r here next (s.good.nodes p.target)))
+        (good_later w p.target m s.good made refl (λ is. is) (Nodes.good_taken (w.lines n.line) p.target n p.source x number made r takes_it here next (s.good.nodes p.target)))
         (Nodes.later_taken n p.source x)
         (up_whole m up)
         (s.fed p.target)
@@ -198,7 +200,7 @@ update_keeps w p number x s up is known =
         (s.marked p.target)
         (s.newest p.target)
         (s.stands p.target)
-        (stays_fed w p.target m (λ m. m) (λ t. t))
+        (λ _. Nodes.fed_still (w.lines n.line) p.target n n.state (n.log ++ x ∷ []) n.session n.mark n.halted n.fuse p.source (λ m. m))
         (λ _ _ g. absurd (none g)) in
         from_memory_keeps (with_node w p.target m) p m number v (at_place w.nodes p.target m) made r (omega (arith, next, length-append n.log (x ∷ [])))
 
@@ -211,17 +213,17 @@ heard_keeps : (w : World) (p : Packet) (m : Message) → Sound w → (w.nodes p.
     → StrangerSays (IsStranger w.nodes w.links p.line p.target) (IsStranger w.nodes w.links p.line p.source) m → Keeps (Events.heard w p m)
 heard_keeps w p (Hello session number stored) s up h known =
     link_heard_keeps w p (HearHello session number stored) s
-    (Links.link_hello (w.lines (w.nodes p.target).line).held (w.lines (w.nodes p.source).line) p.target p.source (w.nodes p.target) (w.nodes p.source) (w.links p.target p.source) p.line
-    (s.good.nodes p.source) (s.links p.target p.source) (w.lines p.line).held session number stored h)
+    (Links.link_hello (w.lines (w.nodes p.target).line) (w.lines (w.nodes p.source).line) p.target p.source (w.nodes p.target) (w.nodes p.source) (w.links p.target p.source) p.line
+    (s.good.nodes p.source) (s.unbegun (w.nodes p.target).line p.source) (s.links p.target p.source) (w.lines p.line).held session number stored h)
 heard_keeps w p (Update number x) s up h known = update_keeps w p number x s up h known
 heard_keeps w p (NetAck session number) s up h known =
     link_heard_keeps w p (HearNetAck session number) s
-    (Links.link_net_ack (w.lines (w.nodes p.target).line).held (w.lines (w.nodes p.source).line) p.target p.source (w.nodes p.target) (w.nodes p.source) (w.links p.target p.source) p.line
-    (s.good.nodes p.source) (s.links p.target p.source) (w.lines p.line).held session number h)
+    (Links.link_net_ack (w.lines (w.nodes p.target).line) (w.lines (w.nodes p.source).line) p.target p.source (w.nodes p.target) (w.nodes p.source) (w.links p.target p.source) p.line
+    (s.good.nodes p.source) (s.unbegun (w.nodes p.target).line p.source) (s.links p.target p.source) (w.lines p.line).held session number h)
 heard_keeps w p (DataAck number) s up h known =
     link_heard_keeps w p (HearDataAck number) s
-    (Links.link_data_ack (w.lines (w.nodes p.target).line).held (w.lines (w.nodes p.source).line) p.target p.source (w.nodes p.target) (w.nodes p.source) (w.links p.target p.source) p.line
-    (s.good.nodes p.source) (s.links p.target p.source) (w.lines p.line).held number h)
+    (Links.link_data_ack (w.lines (w.nodes p.target).line) (w.lines (w.nodes p.source).line) p.target p.source (w.nodes p.target) (w.nodes p.source) (w.links p.target p.source) p.line
+    (s.good.nodes p.source) (s.unbegun (w.nodes p.target).line p.source) (s.links p.target p.source) (w.lines p.line).held number h)
 
 handed_keeps : (w : World) (p : Packet) → Sound w → GoodPacket w.nodes w.links w.lines p → Keeps (Events.handed w p)
 handed_keeps w p s good =

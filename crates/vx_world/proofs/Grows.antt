@@ -13,8 +13,8 @@ use Rattle.vx_model.specs.Sites.{is_origin}
 use Rattle.vx_history.specs.Steps.{burned, logged, told_of, written, half_written, crashed, crash_left, deported_site, fallen_site, site_made, begun_site, begun_line, line_begun, raw_made, raw_volumes, raw_content, group_back, group_up, stopped_by}
 use Rattle.vx_history.specs.Good.{IsMade}
 use Rattle.vx_model.specs.declared.history.Line.{Line}
+use Rattle.vx_model.specs.declared.link.Prot.{Prot}
 use Rattle.vx_model.specs.declared.link.SyncMode.{SyncMode}
-use Rattle.vx_model.specs.declared.link.Prot.TheVariants.{Fail as FailsWhenFull}
 use Rattle.vx_model.specs.declared.site.Mark.TheVariants.{Consistent}
 use Rattle.vx_model.specs.declared.site.SiteState.{SiteState}
 use Rattle.vx_model.specs.declared.site.SiteState.TheVariants.{Bare, Up, Deported, Down}
@@ -33,9 +33,9 @@ use Rattle.vx_history.proofs.StateCases.{bare_is, up_is}
 use Rattle.vx_history.specs.declared.event.LinkPart.{LinkPart}
 use Rattle.vx_history.specs.declared.event.LinkPart.TheVariants.{Joins, Made, Marked, Opened}
 use Rattle.vx_history.specs.declared.event.Event.{Event}
-use Rattle.vx_history.specs.declared.event.Event.TheVariants.{Site, Raw, Group, Volumes, Write as WriteAt, Read, Apply, Pump, Tick, Deliver, Connect, Cut, Pause, Resume, Wait, Link, Set, Crash, Deport, Fall, Recover, Fault}
+use Rattle.vx_history.specs.declared.event.Event.TheVariants.{Site, Raw, Group, Volumes, Write as WriteAt, Read, Apply, Pump, Tick, Deliver, Connect, Cut, Pause, Resume, Wait, Link, Set, Attach, Detach, Crash, Deport, Fall, Recover, Fault}
 use Rattle.vx_history.specs.declared.event.Said.TheVariants.{Done, Ignored as IsIgnored, Pending, DoneAt}
-use Rattle.vx_history.specs.Refusals.{Outcome, says, unless, at_work, on_link, keeps_links, is_primary, is_running, follows, some_below, is_unconfirmed, holds_back, may_link, sizes_meet, rings_fit, count_links_of}
+use Rattle.vx_history.specs.Refusals.{Outcome, says, unless, at_work, on_link, on_link_if, keeps_links, is_primary, is_running, follows, some_below, is_unconfirmed, holds_back, may_link, sizes_meet, rings_fit, count_links_of}
 use Rattle.vx_model.specs.Sites.{is_up, is_bare}
 use Rattle.vx_model.specs.Sizes.{is_raw_shape, ring_of}
 use Rattle.vx_history.specs.Events
@@ -139,8 +139,9 @@ Leaves w o = GrownWorld w o.world
 put_grows : (w v : World) (p : ℕ) (x : Write) (fails : Option ℕ) → Sound v → GrownWorld w v → Leaves w (Events.put_in v p x fails)
 put_grows w v p x None s g =
     let n : Node = v.nodes p in
-    grown_trans w v (written v p x) g
-    (grown_history v p (logged n x) (told_of (v.lines n.line) x) (λ made. made) (λ _ _ h. h)
+    let u : World = Events.links_marked v p (x ∷ []) in
+    grown_trans w u (written u p x) (grown_trans w v u g (grown_links v v (grown_same v) u.links))
+    (grown_history u p (logged n x) (told_of (v.lines n.line) x) (λ made. made) (λ _ _ h. h)
     (λ _. (prefix_more (v.lines n.line).held (x ∷ []), omega (arith, s.good.told n.line))))
 put_grows w v p x (Some disk) s g =
     grown_trans w v (half_written v p x disk) g
@@ -213,7 +214,7 @@ crash_grows : (w : World) (q k : ℕ) → Sound w → (w.nodes q).state ≡ Up �
 crash_grows w q k s up least =
     let n : Node = w.nodes q in
     let made : IsMade n = up_is_made n up in
-    let row : ℕ → LinkRecord = λ to. Events.lost_touch (w.links q to) in
+    let row : ℕ → LinkRecord = λ to. Events.link_left n k (w.links q to) in
     grown_gathering w (with_links (Events.crash_world w q k) q row)
     (by_test (λ (v : World). GrownWorld w (with_links v q row)) (is_origin n.role) (crash_left w q k) (with_node w q (crashed n k))
     (λ o. grown_links w (crash_left w q k)
@@ -237,7 +238,7 @@ recovery_grows : (w : World) (q : ℕ) (fails : Option ℕ) → Leaves w (Events
 recovery_grows w q None =
     Nodes.back_by (λ (m : Node). GrownWorld w
     (sending (with_links (with_node w q m) q (λ to. Events.restarted_link m to (w.links q to))) (Events.recovery_greeting q m))) (w.nodes q)
-    (λ mark _ _ _.
+    (λ mark _ _ _ _.
     let m : Node = Nodes.risen (w.nodes q) mark in
     let v : World = with_node w q m in
     let u : World = with_links v q (λ to. Events.restarted_link m to (w.links q to)) in
@@ -263,8 +264,8 @@ begun_grows w q ring volumes content bare =
 raw_grows : (w : World) (q : ℕ) → (w.nodes q).state ≡ Bare → GrownWorld w (raw_made w q)
 raw_grows w q = let n : Node = w.nodes q in begun_grows w q (ring_of n.blocks) (raw_volumes 1 (n.disks - 2) n.blocks) (raw_content n.disks n.blocks)
 
-link_part_grows : (part : LinkPart) (w : World) (p q : ℕ) (sync : SyncMode) → (w.nodes q).state ≡ Up → Leaves w (link_part part w p q sync)
-link_part_grows Joins w p q sync up =
+link_part_grows : (part : LinkPart) (w : World) (p q : ℕ) (sync : SyncMode) (prot : Prot) → (w.nodes q).state ≡ Up → Leaves w (link_part part w p q sync prot)
+link_part_grows Joins w p q sync prot up =
     let joins : World = with_node w q (Events.joined (w.nodes p) p (w.nodes q)) in
     let o : Outcome = done (emptied joins q) in
     let fits : Outcome = unless (not (sizes_meet (w.nodes p).volumes (w.nodes q).volumes && rings_fit (w.nodes p) (w.nodes q))) Size w o in
@@ -275,16 +276,16 @@ link_part_grows Joins w p q sync up =
     (λ _. Guards.unless_holds (GrownWorld w) (not (sizes_meet (w.nodes p).volumes (w.nodes q).volumes && rings_fit (w.nodes p) (w.nodes q))) Size w o (grown_same w)
     (λ _. grown_gathering w joins (grown_node w q (Events.joined (w.nodes p) p (w.nodes q)) (λ made. made)
     (λ _ l h. more_lines (w.nodes q).stood ((w.nodes p).line ∷ []) l h)) _))))
-link_part_grows Made w p q sync up =
-    let l : LinkRecord = Events.new_link (count_links_of w p) sync (w.nodes q) in
+link_part_grows Made w p q sync prot up =
+    let l : LinkRecord = Events.new_link (count_links_of w p) sync prot (w.nodes q) in
     Guards.unless_holds (GrownWorld w) (not (is_primary (w.nodes p).role && follows w p q)) WrongRole w
     (unless (is_linked (w.links p q)) (Exists (w.nodes q).name) w (done (with_link w p q l))) (grown_same w)
     (λ _. Guards.unless_holds (GrownWorld w) (is_linked (w.links p q)) (Exists (w.nodes q).name) w (done (with_link w p q l)) (grown_same w)
     (λ _. grown_links w w (grown_same w) (with_link w p q l).links))
-link_part_grows Marked w p q sync up =
+link_part_grows Marked w p q sync prot up =
     Guards.unless_holds (GrownWorld w) _ WrongRole w (done (with_node w q (record (w.nodes q) { mark = Consistent }))) (grown_same w)
     (λ _. grown_node w q (record (w.nodes q) { mark = Consistent }) (λ made. made) (λ _ _ h. h))
-link_part_grows Opened w p q sync up =
+link_part_grows Opened w p q sync prot up =
     let l : LinkRecord = Events.opened (w.links p q) (w.nodes p).safe in
     Guards.unless_holds (GrownWorld w) _ WrongRole w (done (with_link w p q l)) (grown_same w) (λ _. grown_links w w (grown_same w) (with_link w p q l).links)
 
@@ -307,6 +308,10 @@ fall_grows w q Bare = grown_same w
 fall_grows w q Up = grown_same w
 fall_grows w q Deported = grown_node w q (fallen_site (w.nodes q)) (λ _ e. cc) (λ _ _ h. h)
 fall_grows w q Down = grown_same w
+
+-- a link of an origin is set, attached or detached
+set_grows : (w : World) (p q : ℕ) (l : LinkRecord) → Leaves w (on_link_if is_origin w p q (done (with_link w p q l)))
+set_grows w p q l = Guards.on_link_holds (GrownWorld w) is_origin w p q (done (with_link w p q l)) (grown_same w) (λ _ _ _. grown_links w w (grown_same w) (with_link w p q l).links)
 
 outcome_grows : (w : World) (e : Event) → Sound w → Leaves w (outcome_of w e)
 outcome_grows w (Site name disks blocks) s =
@@ -377,13 +382,13 @@ outcome_grows w (Wait p number) s =
     (λ _. Guards.unless_holds (GrownWorld w) unconfirmed (Unconfirmed number) w answered (grown_same w)
     (λ _. by_test (Leaves w) held (says w (Pending number)) promised (λ _. grown_same w)
     (λ _. grown_promising w w (grown_same w) (Events.promises_of (w.nodes p) number (w.links p) w.sites)))))))
-outcome_grows w (Link p q sync part) s =
+outcome_grows w (Link p q sync prot part) s =
     Guards.at_site_holds (GrownWorld w) w p _ (grown_same w)
     (λ _. Guards.at_site_holds (GrownWorld w) w q _ (grown_same w)
-    (λ _. Guards.both_holds (GrownWorld w) w p q (link_part part w p q sync) (grown_same w) (λ _ up _ _. link_part_grows part w p q sync up)))
-outcome_grows w (Set p q sync) s =
-    let l : LinkRecord = record (w.links p q) { sync = sync; prot = FailsWhenFull } in
-    Guards.on_link_holds (GrownWorld w) is_origin w p q (done (with_link w p q l)) (grown_same w) (λ _ _ _. grown_links w w (grown_same w) (with_link w p q l).links)
+    (λ _. Guards.both_holds (GrownWorld w) w p q (link_part part w p q sync prot) (grown_same w) (λ _ up _ _. link_part_grows part w p q sync prot up)))
+outcome_grows w (Set p q sync prot) s = set_grows w p q (Events.link_with sync prot (w.links p q))
+outcome_grows w (Attach p q) s = set_grows w p q (Events.link_attached (w.links p q))
+outcome_grows w (Detach p q) s = set_grows w p q (Events.link_detached (w.links p q))
 outcome_grows w (Crash q kept) s =
     let o : Outcome = done (Events.crash_at w q (Events.kept_of (w.nodes q) kept)) in
     Guards.at_site_holds (GrownWorld w) w q (unless (not (is_up (w.nodes q).state)) NotUp w o) (grown_same w)

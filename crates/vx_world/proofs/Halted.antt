@@ -11,7 +11,7 @@ use Rattle.vx_history.proofs.Updates.{at_place}
 use Rattle.vx_history.specs.Admission.{Admitted, Held_by, Goes}
 use Rattle.vx_history.specs.World.{Node, World}
 use Rattle.vx_history.specs.Doubts.{After, Doubted, resolved, halved}
-use Rattle.vx_history.specs.Events.{admitted, written_if, links_changed, link_after}
+use Rattle.vx_history.specs.Events.{admitted, written_if, link_after, link_attached, link_detached, link_with, links_changed}
 use Rattle.vx_history.specs.Likes.{IsLike}
 use Rattle.vx_history.specs.Refusals.{is_primary, is_running}
 use Rattle.vx_history.specs.Step.{outcome_of, step}
@@ -19,7 +19,7 @@ use Rattle.vx_history.specs.Steps.{stopped_by, half_written, burned}
 use Rattle.vx_history.specs.Stops.{WritesAt, IsPartAt}
 use Rattle.vx_history.specs.GoodWorld.{GoodWorld}
 use Rattle.vx_history.specs.declared.event.Event.{Event}
-use Rattle.vx_history.specs.declared.event.Event.TheVariants.{Site, Raw, Group, Volumes, Write, Read, Apply, Pump, Tick, Deliver, Connect, Cut, Pause, Resume, Wait, Link, Set, Crash, Deport, Fall, Recover, Fault}
+use Rattle.vx_history.specs.declared.event.Event.TheVariants.{Site, Raw, Group, Volumes, Write, Read, Apply, Pump, Tick, Deliver, Connect, Cut, Pause, Resume, Wait, Link, Set, Attach, Detach, Crash, Deport, Fall, Recover, Fault}
 use Rattle.vx_history.specs.declared.event.LinkPart.{LinkPart}
 use Rattle.vx_history.specs.declared.event.LinkPart.TheVariants.{Joins, Made, Marked, Opened}
 use Rattle.vx_world.specs.Twins.{GoodTwin, IsAlone}
@@ -65,14 +65,14 @@ module _ (w : World) (p : ℕ) (up : (w.nodes p).state ≡ Up) where
       tested w p up (leb w.sites p) _ _ (tested w p up (not (is_up (w.nodes p).state)) _ _
       (one_node w p up (record (w.nodes p) { halted = Some disk; fuse = burned (w.nodes p).fuse }) refl up))
 
-part_alone : (w : World) (site p q : ℕ) (part : LinkPart) → (w.nodes site).state ≡ Up → IsPartAt part p q site → (sync : _)
-    → IsAlone site w (outcome_of w (Link p q sync part)).world
-part_alone w site p q Joins up e = λ sync. subst (λ (i : ℕ). IsAlone site w (outcome_of w (Link p i sync Joins)).world) (sym e) (joins_alone w site up p sync)
-part_alone w site p q Made up e = λ sync. subst (λ (i : ℕ). IsAlone site w (outcome_of w (Link i q sync Made)).world) (sym e) (made_alone w site up q sync)
-part_alone w site p q Marked up e = λ sync. subst (λ (i : ℕ). IsAlone site w (outcome_of w (Link p i sync Marked)).world) (sym e)
-    (marked_alone w site up p sync)
-part_alone w site p q Opened up e = λ sync. subst (λ (i : ℕ). IsAlone site w (outcome_of w (Link i q sync Opened)).world) (sym e)
-    (opened_alone w site up q sync)
+part_alone : (w : World) (site p q : ℕ) (part : LinkPart) → (w.nodes site).state ≡ Up → IsPartAt part p q site → (sync : _) (prot : _)
+    → IsAlone site w (outcome_of w (Link p q sync prot part)).world
+part_alone w site p q Joins up e = λ sync prot. subst (λ (i : ℕ). IsAlone site w (outcome_of w (Link p i sync prot Joins)).world) (sym e) (joins_alone w site up p sync prot)
+part_alone w site p q Made up e = λ sync prot. subst (λ (i : ℕ). IsAlone site w (outcome_of w (Link i q sync prot Made)).world) (sym e) (made_alone w site up q sync prot)
+part_alone w site p q Marked up e = λ sync prot. subst (λ (i : ℕ). IsAlone site w (outcome_of w (Link p i sync prot Marked)).world) (sym e)
+    (marked_alone w site up p sync prot)
+part_alone w site p q Opened up e = λ sync prot. subst (λ (i : ℕ). IsAlone site w (outcome_of w (Link i q sync prot Opened)).world) (sym e)
+    (opened_alone w site up q sync prot)
 
 writes_alone : (w : World) (e : Event) (site : ℕ) → (w.nodes site).state ≡ Up → WritesAt w e site → IsAlone site w (outcome_of w e).world
 writes_alone w (Site name disks blocks) site up at = absurd at
@@ -92,8 +92,10 @@ writes_alone w (Cut p q) site up at = absurd at
 writes_alone w (Pause p q) site up at = absurd at
 writes_alone w (Resume p q) site up at = absurd at
 writes_alone w (Wait p number) site up at = absurd at
-writes_alone w (Link p q sync part) site up at = part_alone w site p q part up at sync
-writes_alone w (Set p q sync) site up at = subst (λ (i : ℕ). IsAlone site w (outcome_of w (Set i q sync)).world) (sym at) (set_alone w site up q sync)
+writes_alone w (Link p q sync prot part) site up at = part_alone w site p q part up at sync prot
+writes_alone w (Set p q sync prot) site up at = subst (λ (i : ℕ). IsAlone site w (outcome_of w (Set i q sync prot)).world) (sym at) (set_alone w site up q (λ l. link_with sync prot l))
+writes_alone w (Attach p q) site up at = subst (λ (i : ℕ). IsAlone site w (outcome_of w (Attach i q)).world) (sym at) (set_alone w site up q link_attached)
+writes_alone w (Detach p q) site up at = subst (λ (i : ℕ). IsAlone site w (outcome_of w (Detach i q)).world) (sym at) (set_alone w site up q link_detached)
 writes_alone w (Crash p kept) site up at = absurd at
 writes_alone w (Deport p) site up at = absurd at
 writes_alone w (Fall p) site up at = absurd at

@@ -18,10 +18,11 @@ use Rattle.vx_model.specs.declared.site.Role.{Role}
 use Rattle.vx_model.specs.declared.site.Role.TheVariants.{Primary, Secondary, Handing, Bunker}
 use Rattle.vx_model.specs.declared.site.SPhase.TheVariants.{Quiet, Log as ByLog}
 use Rattle.vx_model.specs.declared.site.SiteState.TheVariants.{Bare, Up}
+use Rattle.vx_model.specs.declared.link.Prot.{Prot}
 use Rattle.vx_model.specs.declared.link.SyncMode.{SyncMode}
 use Rattle.vx_model.specs.declared.no.No.TheVariants.{Exists, Size, Role as WrongRole, Limit}
 use Rattle.vx_model.specs.declared.no.Counted.TheVariants.{Sites, Disks, Links}
-use Rattle.vx_history.proofs.Updates.{by_test, and_left, and_right, same_line_equal}
+use Rattle.vx_history.proofs.Updates.{all_lines, by_test, and_left, and_right, same_line_equal}
 use Rattle.vx_history.proofs.GoodLemmas.{good_site, good_begun, good_stays, made_is_given, up_is_made}
 use Rattle.vx_history.specs.declared.event.LinkPart.{LinkPart}
 use Rattle.vx_history.specs.declared.event.LinkPart.TheVariants.{Joins, Made, Marked, Opened}
@@ -34,7 +35,7 @@ use Rattle.vx_model.specs.declared.limits.TheConstants.{MOST_DISKS, MOST_LINKS, 
 use Rattle.vx_history.specs.Sound.{has_line, HasCome, Sound}
 use Rattle.vx_world.proofs.Lists.{each_append, each_weaker, not_both, or_left, or_right}
 use Rattle.vx_world.proofs.Stood.{last_line, who_came}
-use Rattle.vx_world.proofs.Moves.{sound_gathering, sound_with_node, sound_with_link, good_later, given, stays_fed, at_changed}
+use Rattle.vx_world.proofs.Moves.{sound_gathering, sound_with_node, sound_with_link, good_later, given, at_changed}
 use Rattle.vx_world.proofs.Comes.{sound_joining, sound_founding}
 use Rattle.vx_world.proofs.Tests.{Keeps, unless_keeps}
 use Rattle.vx_world.proofs.Guards.{primary_origin}
@@ -57,6 +58,7 @@ site_keeps w name disks blocks s =
     (λ _. refl)
     (λ made. absurd (made refl))
     tt
+    s.unbegun
 
 pub may_be_site_keeps : (w : World) (name : List ℕ) (disks blocks : ℕ) → Sound w
     → Keeps (may_be_site w name disks blocks (done (site_made w name disks blocks)))
@@ -97,6 +99,7 @@ begun_keeps w q ring volumes content s there bare =
       },
       tt,
     ))
+    (all_lines (λ l (r : History). (k : ℕ) → (r.replays k).begun ≡ 0) w.lines n.line h (λ _. refl) (λ l _. s.unbegun l))
 
 pub raw_keeps : (w : World) (q : ℕ) → Sound w → q < w.sites → (w.nodes q).state ≡ Bare → Sound (raw_made w q)
 raw_keeps w q = let n : Node = w.nodes q in begun_keeps w q (ring_of n.blocks) (raw_volumes 1 (n.disks - 2) n.blocks) (raw_content n.disks n.blocks)
@@ -140,16 +143,21 @@ no_links w q s none k is =
 
 pub join_keeps : (w : World) (p q : ℕ) → Sound w → (w.nodes p).state ≡ Up → (w.nodes q).state ≡ Up → is_origin (w.nodes p).role ≡ true → eqb q p ≡ false
     → is_linked (w.links p q) ≡ false → ((k : ℕ) → is_linked (w.links q k) ≡ true → ⊥)
-    → is_bunker (w.nodes q).role ≡ false → Sound (with_node w q (joined (w.nodes p) p (w.nodes q)))
-join_keeps w p q s up_p up_q o other unlinked alone plain =
+    → is_origin (w.nodes q).role ≡ true → is_bunker (w.nodes q).role ≡ false → Sound (with_node w q (joined (w.nodes p) p (w.nodes q)))
+join_keeps w p q s up_p up_q o other unlinked alone first plain =
     let a : Node = w.nodes p in
     let n : Node = joined a p (w.nodes q) in
     let made_p : IsMade a = up_is_made a up_p in
     let made_q : IsMade (w.nodes q) = up_is_made (w.nodes q) up_q in
     let own : a.line.origin ≡ p = (s.good.nodes p).own_line made_p o in
+    let apart : q ≡ p → ⊥ = λ e. not_both (eqb q p) (eq-eqb q p e) other in
+    let replay : n.replay ≤ ((w.lines a.line).replays q).begun = by_test (λ (k : ℕ). k ≤ ((w.lines a.line).replays q).begun) (same_line (w.nodes q).line a.line)
+    (w.nodes q).replay 0
+    (λ e. absurd (apart (sym ((s.good.nodes q).own_line made_q first) ∙ ap (λ (l : Line). l.origin) (same_line_equal (w.nodes q).line a.line e) ∙ own)))
+    (λ _. omega arith) in
     sound_joining w q n s
     (ap (λ (j : ℕ). (w.nodes j).line) own, ap (λ (j : ℕ). is_linked (w.links j q)) own ∙ unlinked, plain)
-    (λ e. not_both (eqb q p) (eq-eqb q p (sym e ∙ own)) other)
+    (λ e. apart (sym e ∙ own))
     made_q made_q (omega arith)
     (record {
       began = s.good.begun p made_p;
@@ -163,7 +171,7 @@ join_keeps w p q s up_p up_q o other unlinked alone plain =
     })
     alone
     (λ by. let e : Quiet ≡ ByLog = by in absurd (cc))
-    (good_stays w q n s.good (Nodes.good_joined (w.lines a.line) q p a (w.nodes q) made_q) (λ _. inl (s.good.begun p made_p)) (λ is. is) (given w q n s.good made_q))
+    (good_stays w q n s.good (Nodes.good_joined (w.lines a.line) q p a (w.nodes q) made_q replay) (λ _. inl (s.good.begun p made_p)) (λ is. is) (given w q n s.good made_q))
     (up_whole n up_q)
     (λ _. sym own)
     refl
@@ -199,13 +207,14 @@ may_join_keeps w p q s up_p up_q =
         (not-true (eqb q p) (and_left (not (eqb q p)) (is_empty a.log && own) apart))
         unlinked
         (no_links w q s (not-true links alone))
+        (primary_origin (w.nodes q).role (and_left (is_primary (w.nodes q).role) (is_empty (w.nodes q).log && not links) fresh))
         (primary_plain (w.nodes q).role (and_left (is_primary (w.nodes q).role) (is_empty (w.nodes q).log && not links) fresh))
 
-make_keeps : (w : World) (p q place : ℕ) (sync : SyncMode) → Sound w → (w.nodes p).state ≡ Up → (w.nodes q).state ≡ Up
+make_keeps : (w : World) (p q place : ℕ) (sync : SyncMode) (prot : Prot) → Sound w → (w.nodes p).state ≡ Up → (w.nodes q).state ≡ Up
     → (w.nodes q).halted ≡ None → is_origin (w.nodes p).role ≡ true
-    → is_origin (w.nodes q).role ≡ false → (w.nodes q).line ≡ (w.nodes p).line → Sound (with_link w p q (new_link place sync (w.nodes q)))
-make_keeps w p q place sync s up_p up_q runs_q o r same =
-    sound_with_link w p q (new_link place sync (w.nodes q)) s
+    → is_origin (w.nodes q).role ≡ false → (w.nodes q).line ≡ (w.nodes p).line → Sound (with_link w p q (new_link place sync prot (w.nodes q)))
+make_keeps w p q place sync prot s up_p up_q runs_q o r same =
+    sound_with_link w p q (new_link place sync prot (w.nodes q)) s
     (record {
       ends = λ _. (up_is_made (w.nodes p) up_p, up_is_made (w.nodes q) up_q);
       starts = λ _. origin_sends (w.nodes p).role o;
@@ -232,7 +241,7 @@ mark_keeps w q s up =
     (λ _ _ _ _. refl)
     (s.newest q)
     (s.stands q)
-    (stays_fed w q m (λ _. refl) (λ t. t))
+    (λ _. Nodes.fed_still (w.lines n.line) q n n.state n.log n.session Consistent n.halted n.fuse n.fed_by (λ _. refl))
     (s.known q)
 
 consistent_is : (m : Mark) → is_consistent m ≡ true → m ≡ Consistent
@@ -253,7 +262,7 @@ open_keeps w p q s empty taken marked =
       session = old.session;
       stored = λ _. (omega (arith, none), λ _ _. consistent_is (w.nodes q).mark marked);
       net = λ _ _. omega (arith, none);
-      says = λ _ _. (consistent_is (w.nodes q).mark marked, taken);
+      says = λ _ _. (consistent_is (w.nodes q).mark marked, taken, omega (arith, s.unbegun (w.nodes p).line q));
     })
     (λ is. is)
     (λ _ is. is)
@@ -264,25 +273,25 @@ open_keeps w p q s empty taken marked =
 follows_is : (w : World) (p q : ℕ) → follows w p q ≡ true → is_origin (w.nodes q).role ≡ false
 follows_is w p q f = not-true (is_origin (w.nodes q).role) (and_left (not (is_origin (w.nodes q).role)) (same_line (w.nodes q).line (w.nodes p).line) f)
 
-pub link_part_keeps : (part : LinkPart) (w : World) (p q : ℕ) (sync : SyncMode) → Sound w → (w.nodes p).state ≡ Up → (w.nodes q).state ≡ Up
-    → (w.nodes q).halted ≡ None → Keeps (link_part part w p q sync)
-link_part_keeps Joins w p q sync s up_p up_q runs_q = may_join_keeps w p q s up_p up_q
-link_part_keeps Made w p q sync s up_p up_q runs_q =
-    let o : Outcome = done (with_link w p q (new_link (count_links_of w p) sync (w.nodes q))) in
+pub link_part_keeps : (part : LinkPart) (w : World) (p q : ℕ) (sync : SyncMode) (prot : Prot) → Sound w → (w.nodes p).state ≡ Up → (w.nodes q).state ≡ Up
+    → (w.nodes q).halted ≡ None → Keeps (link_part part w p q sync prot)
+link_part_keeps Joins w p q sync prot s up_p up_q runs_q = may_join_keeps w p q s up_p up_q
+link_part_keeps Made w p q sync prot s up_p up_q runs_q =
+    let o : Outcome = done (with_link w p q (new_link (count_links_of w p) sync prot (w.nodes q))) in
     let test : Bool = is_primary (w.nodes p).role && follows w p q in
     unless_keeps (not test) WrongRole w (unless (is_linked (w.links p q)) (Exists (w.nodes q).name) w o) s
     (λ c. unless_keeps (is_linked (w.links p q)) (Exists (w.nodes q).name) w o s
-    (λ _. make_keeps w p q (count_links_of w p) sync s up_p up_q runs_q
+    (λ _. make_keeps w p q (count_links_of w p) sync prot s up_p up_q runs_q
     (primary_origin (w.nodes p).role (and_left (is_primary (w.nodes p).role) (follows w p q) (not-false test c)))
     (follows_is w p q (and_right (is_primary (w.nodes p).role) (follows w p q) (not-false test c)))
     (same_line_equal (w.nodes q).line (w.nodes p).line
     (and_right (not (is_origin (w.nodes q).role)) (same_line (w.nodes q).line (w.nodes p).line)
     (and_right (is_primary (w.nodes p).role) (follows w p q) (not-false test c))))))
-link_part_keeps Marked w p q sync s up_p up_q runs_q =
+link_part_keeps Marked w p q sync prot s up_p up_q runs_q =
     unless_keeps (not (is_primary (w.nodes p).role && (follows w p q && (is_linked (w.links p q) && is_empty (w.nodes p).log)))) WrongRole w
     (done (with_node w q (record (w.nodes q) { mark = Consistent }))) s
     (λ _. mark_keeps w q s up_q)
-link_part_keeps Opened w p q sync s up_p up_q runs_q =
+link_part_keeps Opened w p q sync prot s up_p up_q runs_q =
     let a : Node = w.nodes p in
     let marked : Bool = is_consistent (w.nodes q).mark in
     let taken : Bool = phase_takes (w.nodes q).phase in

@@ -9,6 +9,7 @@ use Rattle.vx_model.specs.Sizes.{ring_of}
 use Rattle.vx_model.specs.Sites.{is_origin, first_line}
 use Rattle.vx_model.specs.declared.history.Line.{Line}
 use Rattle.vx_model.specs.declared.limits.TheConstants.{MOST_LINKS}
+use Rattle.vx_model.specs.declared.link.Prot.{Prot}
 use Rattle.vx_model.specs.declared.link.SyncMode.{SyncMode}
 use Rattle.vx_model.specs.declared.no.No.TheVariants.{Size, Role as WrongRole, Exists, Limit}
 use Rattle.vx_model.specs.declared.no.Counted.TheVariants.{Links}
@@ -47,7 +48,7 @@ use Rattle.vx_world.proofs.KeptWrites.{Leaves, like_fitted, bare_same}
 pub crash_leaves : (w : World) (q k : ℕ) → Sound w → (w.nodes q).state ≡ Up → Keeps w (Events.crash_at w q k)
 crash_leaves w q k s up =
     let n : Node = w.nodes q in
-    let row : ℕ → LinkRecord = λ to. Events.lost_touch (w.links q to) in
+    let row : ℕ → LinkRecord = λ to. Events.link_left n k (w.links q to) in
     let fitted : Fitting w → IsFitted n (crashed n k) = λ f. record {
       volumes = refl;
       ring = refl;
@@ -92,7 +93,7 @@ pub recovery_leaves : (w : World) (q : ℕ) (fails : Option ℕ) → is_at_rest 
 recovery_leaves w q None rest =
     Nodes.back_by (λ (m : Node). Keeps w
     (sending (with_links (with_node w q m) q (λ to. Events.restarted_link m to (w.links q to))) (Events.recovery_greeting q m))) (w.nodes q)
-    (λ mark _ _ _.
+    (λ mark _ _ _ _.
     let n : Node = w.nodes q in
     let m : Node = Nodes.risen n mark in
     let v : World = with_node w q m in
@@ -284,8 +285,8 @@ made_leaves w p q l below free made = record {
       (places_made w.sites (w.links p) q l below free made (h p)) (λ k apart. h k);
 }
 
-pub link_part_leaves : (part : LinkPart) (w : World) (p q : ℕ) (sync : SyncMode) → Sound w → (w.nodes p).state ≡ Up → (w.nodes q).state ≡ Up → Leaves w (link_part part w p q sync)
-link_part_leaves Joins w p q sync s up there =
+pub link_part_leaves : (part : LinkPart) (w : World) (p q : ℕ) (sync : SyncMode) (prot : Prot) → Sound w → (w.nodes p).state ≡ Up → (w.nodes q).state ≡ Up → Leaves w (link_part part w p q sync prot)
+link_part_leaves Joins w p q sync prot s up there =
     let a : Node = w.nodes p in
     let o : Outcome = done (emptied (with_node w q (Events.joined a p (w.nodes q))) q) in
     let fit : Bool = sizes_meet a.volumes (w.nodes q).volumes && rings_fit a (w.nodes q) in
@@ -304,17 +305,17 @@ link_part_leaves Joins w p q sync s up there =
       rings = and_right
           (sizes_meet a.volumes (w.nodes q).volumes) (rings_fit a (w.nodes q)) (not-false fit sizes);
     })))))
-link_part_leaves Made w p q sync s up there =
-    let l : LinkRecord = Events.new_link (count_links_of w p) sync (w.nodes q) in
+link_part_leaves Made w p q sync prot s up there =
+    let l : LinkRecord = Events.new_link (count_links_of w p) sync prot (w.nodes q) in
     Guards.unless_holds (Keeps w) (not (is_primary (w.nodes p).role && follows w p q)) WrongRole w
     (unless (is_linked (w.links p q)) (Exists (w.nodes q).name) w (done (with_link w p q l))) (keeps_same w)
     (λ _. Guards.unless_holds (Keeps w) (is_linked (w.links p q)) (Exists (w.nodes q).name) w (done (with_link w p q l)) (keeps_same w)
     (λ free. made_leaves w p q l (made_is_given w q s.good (up_is_made (w.nodes q) there)) free refl))
-link_part_leaves Marked w p q sync s up there =
+link_part_leaves Marked w p q sync prot s up there =
     let m : Node = record (w.nodes q) { mark = Consistent } in
     Guards.unless_holds (Keeps w) _ WrongRole w (done (with_node w q m)) (keeps_same w)
     (λ _. keeps_node w q m (λ f. like_fitted (w.nodes q) m refl refl refl (λ made. made) refl refl refl) (bare_same w q m refl refl) (λ u. u))
-link_part_leaves Opened w p q sync s up there =
+link_part_leaves Opened w p q sync prot s up there =
     let l : LinkRecord = Events.opened (w.links p q) (w.nodes p).safe in
     Guards.unless_holds (Keeps w) _ WrongRole w (done (with_link w p q l)) (keeps_same w) (λ _. keeps_links w w (keeps_same w) (with_link w p q l).links (made_link w p q l refl))
 

@@ -98,9 +98,17 @@ module _ (w : World) (p : ℕ) (x : Write) (up : (w.nodes p).state ≡ Up) (own 
       (λ f e. bare_never m not_bare e)
       (λ u. u)
 
-  pub put_leaves : (fails : Option ℕ) → Leaves w (Events.put_in w p x fails)
-  put_leaves None = written_leaves
-  put_leaves (Some disk) = half_leaves disk
+-- what fits a world's sites fits them with other links
+fits_links : (w : World) (links : ℕ → ℕ → LinkRecord) (P : Type 0) → (Fitting w → P) → Fitting (record w { links = links }) → P
+fits_links w links P fits f = fits (record { sized = f.sized; logs = f.logs; held = f.held; alike = f.alike; alone = f.alone })
+
+pub put_leaves : (w : World) (p : ℕ) (x : Write) → (w.nodes p).state ≡ Up → (w.nodes p).line.origin ≡ p → (Fitting w → WriteFits (w.nodes p) x) → (fails : Option ℕ)
+    → Leaves w (Events.put_in w p x fails)
+put_leaves w p x up own fits None =
+    let v : World = Events.links_marked w p (x ∷ []) in
+    keeps_trans w v (written v p x) (keeps_links w w (keeps_same w) v.links (made_rows w p (λ k. Events.link_marked (x ∷ []) (w.links p k)) (λ k. refl)))
+    (written_leaves v p x up own (fits_links w v.links (WriteFits (w.nodes p) x) fits))
+put_leaves w p x up own fits (Some disk) = half_leaves w p x up own fits disk
 
 pub written_if_leaves : (admitted : Admitted) (w : World) (p : ℕ) (x : Write) (fails : Option ℕ) → (w.nodes p).state ≡ Up → (w.nodes p).line.origin ≡ p
     → (Fitting w → WriteFits (w.nodes p) x) → Leaves w (Events.written_if admitted w p x fails)
@@ -109,7 +117,7 @@ written_if_leaves (Goes changes) w p x fails up own fits =
     let v : World = Events.links_changed w p x in
     Guards.unless_holds (Keeps w) _ _ w (Events.put_in v p x fails) (keeps_same w)
     (λ _. keeps_trans w v (Events.put_in v p x fails).world (keeps_links w w (keeps_same w) v.links (made_rows w p (λ k. Events.link_after (w.nodes p) x k (w.links p k)) (λ k. refl)))
-    (put_leaves v p x up own (λ f. fits (record { sized = f.sized; logs = f.logs; held = f.held; alike = f.alike; alone = f.alone })) fails))
+    (put_leaves v p x up own (fits_links w v.links (WriteFits (w.nodes p) x) fits) fails))
 
 -- the tests of a write say that it fits
 pub tested_fits : (n : Node) (x : Write) → IsSized n → (is_wrong_count (blocks_in x.bytes) || is_too_large n.ring (blocks_in x.bytes)) ≡ false

@@ -31,14 +31,14 @@ use Rattle.vx_history.specs.declared.receiver.RState.{RState}
 use Rattle.vx_history.specs.declared.receiver.RAction.{RAction}
 use Rattle.vx_history.specs.declared.receiver.RAction.TheVariants as act
 use Rattle.vx_world.proofs.Likely.{noted, Same, same_of, tests, one_of, link_self, pair_updated, like_node, like_history, like_link, like_sending, like_gathering, at_site_same, at_work_same, on_link_same}
-use Rattle.vx_world.proofs.LikeTests.{waited_same, admitted_same, changed_same}
+use Rattle.vx_world.proofs.LikeTests.{waited_same, admitted_same, changed_same, marked_same}
 
 -- ## Writes
 
 module _ (w v : World) (like : IsLike w v) where
   pub put_same : (p : ℕ) (x : Write) (fails : Option ℕ) → Same (Events.put_in w p x fails) (Events.put_in v p x fails)
   put_same p x None = record {
-    world = like_history w v like p (logged (w.nodes p) x) (logged (v.nodes p) x) (told_of (w.lines (w.nodes p).line) x) (told_of (v.lines (v.nodes p).line) x)
+    world = like_history (Events.links_marked w p (x ∷ [])) (Events.links_marked v p (x ∷ [])) (marked_same w v like p (x ∷ [])) p (logged (w.nodes p) x) (logged (v.nodes p) x) (told_of (w.lines (w.nodes p).line) x) (told_of (v.lines (v.nodes p).line) x)
         (ap (λ (n : Node). logged n x) (like.nodes p))
         (ap (λ (n : Node). told_of (v.lines n.line) x) (like.nodes p) ∙ ap (λ (h : History). told_of h x) (like.lines (w.nodes p).line));
     said = ap (λ (b : Bool). if b then Logged ((v.nodes p).safe + 1) else DoneAt ((v.nodes p).safe + 1)) (waited_same w v like p)

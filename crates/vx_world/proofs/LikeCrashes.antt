@@ -4,6 +4,7 @@ use Rattle.std.specs.Prelude.{Option, Some, None, not, ◌&&◌, ◌||◌, eqb, 
 use Rattle.vx_model.specs.Sites.{is_origin, same_line, first_line}
 use Rattle.vx_model.specs.declared.history.Line.{Line}
 use Rattle.vx_model.specs.declared.limits.TheConstants.{MOST_LINKS, MOST_NUMBER}
+use Rattle.vx_model.specs.declared.link.Prot.{Prot}
 use Rattle.vx_model.specs.declared.link.SyncMode.{SyncMode}
 use Rattle.vx_model.specs.declared.no.No.TheVariants.{Size, Role as WrongRole, Exists, Limit, Unknown, Unconfirmed, NoConfig}
 use Rattle.vx_model.specs.declared.no.Named.TheVariants.{Number as ByNumber}
@@ -85,12 +86,14 @@ module _ (w v : World) (like : IsLike w v) where
         said = refl;
       })))
 
-  pub lost_same : (u x : World) → IsLike u x → (q : ℕ)
-      → IsLike (emptied (with_links u q (λ to. Events.lost_touch (w.links q to))) q) (emptied (with_links x q (λ to. Events.lost_touch (v.links q to))) q)
-  lost_same u x l q =
-      let rows : IsLike (with_links u q (λ to. Events.lost_touch (w.links q to))) (with_links x q (λ to. Events.lost_touch (v.links q to))) =
-      like_rows u x l q (λ to. Events.lost_touch (w.links q to)) (λ to. Events.lost_touch (v.links q to))
-      (λ to. link_changed Events.lost_touch (λ l. refl) (w.links q to) (v.links q to) (like.links q to)) in
+  pub left_same : (u x : World) → IsLike u x → (q k : ℕ)
+      → IsLike (emptied (with_links u q (λ to. Events.link_left (w.nodes q) k (w.links q to))) q) (emptied (with_links x q (λ to. Events.link_left (v.nodes q) k (v.links q to))) q)
+  left_same u x l q k =
+      let rows : IsLike (with_links u q (λ to. Events.link_left (w.nodes q) k (w.links q to))) (with_links x q (λ to. Events.link_left (v.nodes q) k (v.links q to))) =
+      like_rows u x l q (λ to. Events.link_left (w.nodes q) k (w.links q to)) (λ to. Events.link_left (v.nodes q) k (v.links q to))
+      (λ to. subst (λ (m : LinkState). SameLink (Events.link_left (w.nodes q) k (w.links q to)) m)
+      (sym (ap (λ (n : Node). Events.link_left n k (v.links q to)) (like.nodes q)))
+      (link_changed (λ m. Events.link_left (w.nodes q) k m) (λ m. refl) (w.links q to) (v.links q to) (like.links q to))) in
       like_gathering _ _ rows _ _ (λ i. pair_updated (λ (g h : Option Gathering). h ≡ g) u.gathering x.gathering q None None i refl (l.gathering i))
 
   pub crash_same : (q k : ℕ) → IsLike (Events.crash_at w q k) (Events.crash_at v q k)
@@ -104,13 +107,13 @@ module _ (w v : World) (like : IsLike w v) where
 
       by_role : (b c : Bool) → c ≡ b
           → IsLike (emptied (with_links (if b then crash_left w q k else with_node w q (crashed (w.nodes q) k)) q
-          (λ to. Events.lost_touch (w.links q to))) q)
-          (emptied (with_links (if c then crash_left v q k else with_node v q (crashed (v.nodes q) k)) q (λ to. Events.lost_touch (v.links q to))) q)
-      by_role true true e = lost_same (crash_left w q k) (crash_left v q k)
+          (λ to. Events.link_left (w.nodes q) k (w.links q to))) q)
+          (emptied (with_links (if c then crash_left v q k else with_node v q (crashed (v.nodes q) k)) q (λ to. Events.link_left (v.nodes q) k (v.links q to))) q)
+      by_role true true e = left_same (crash_left w q k) (crash_left v q k)
           (like_history w v like q (crashed (w.nodes q) k) (crashed (v.nodes q) k) (kept_by (w.lines (w.nodes q).line) (w.nodes q) k)
-          (kept_by (v.lines (v.nodes q).line) (v.nodes q) k) down kept) q
-      by_role false false e = lost_same (with_node w q (crashed (w.nodes q) k)) (with_node v q (crashed (v.nodes q) k))
-          (like_node w v like q (crashed (w.nodes q) k) (crashed (v.nodes q) k) down) q
+          (kept_by (v.lines (v.nodes q).line) (v.nodes q) k) down kept) q k
+      by_role false false e = left_same (with_node w q (crashed (w.nodes q) k)) (with_node v q (crashed (v.nodes q) k))
+          (like_node w v like q (crashed (w.nodes q) k) (crashed (v.nodes q) k) down) q k
       by_role true false e = let f : false ≡ true = e in absurd (cc)
       by_role false true e = let f : true ≡ false = e in absurd (cc)
 
@@ -223,18 +226,18 @@ module _ (w v : World) (like : IsLike w v) where
         said = refl;
       }
 
-  pub part_same : (part : LinkPart) (p q : ℕ) (sync : SyncMode) → Same (link_part part w p q sync) (link_part part v p q sync)
-  part_same Joins p q sync =
+  pub part_same : (part : LinkPart) (p q : ℕ) (sync : SyncMode) (prot : Prot) → Same (link_part part w p q sync prot) (link_part part v p q sync prot)
+  part_same Joins p q sync prot =
       tests (not (may_link w p q)) (not (may_link v p q)) WrongRole WrongRole w v _ _ (ap not (may_link_same p q)) refl like
       (λ _. tests (is_linked (w.links p q)) (is_linked (v.links p q)) (Exists (w.nodes q).name) (Exists (v.nodes q).name) w v _ _ (like.links p q).linked
       (name_same q) like
       (λ _. tests (leb MOST_LINKS (count_links_of w p)) (leb MOST_LINKS (count_links_of v p)) (Limit Links MOST_LINKS) (Limit Links MOST_LINKS) w v _ _
       (ap (λ (n : ℕ). leb MOST_LINKS n) (many_linked w v like p)) refl like
       (λ _. tests _ _ Size Size w v _ _ (ap not (fit_same p q)) refl like (λ _. joins_same p q))))
-  part_same Made p q sync =
-      let l : LinkState = Events.new_link (count_links_of w p) sync (w.nodes q) in
-      let m : LinkState = Events.new_link (count_links_of v p) sync (v.nodes q) in
-      let e : m ≡ l = ap (λ (n : ℕ). Events.new_link n sync (v.nodes q)) (many_linked w v like p) ∙ ap (λ (n : Node). Events.new_link (count_links_of w p) sync n)
+  part_same Made p q sync prot =
+      let l : LinkState = Events.new_link (count_links_of w p) sync prot (w.nodes q) in
+      let m : LinkState = Events.new_link (count_links_of v p) sync prot (v.nodes q) in
+      let e : m ≡ l = ap (λ (n : ℕ). Events.new_link n sync prot (v.nodes q)) (many_linked w v like p) ∙ ap (λ (n : Node). Events.new_link (count_links_of w p) sync prot n)
       (like.nodes q) in
       tests (not (is_primary (w.nodes p).role && follows w p q)) (not (is_primary (v.nodes p).role && follows v p q)) WrongRole WrongRole w v _ _
       (ap (λ (n : Node). not (is_primary n.role && follows v p q)) (like.nodes p) ∙ ap (λ (b : Bool). not (is_primary (w.nodes p).role && b))
@@ -242,7 +245,7 @@ module _ (w v : World) (like : IsLike w v) where
       (λ _. tests (is_linked (w.links p q)) (is_linked (v.links p q)) (Exists (w.nodes q).name) (Exists (v.nodes q).name) w v _ _ (like.links p q).linked
       (name_same q) like
       (λ _. record { world = like_link w v like p q l m (subst (λ (k : LinkState). SameLink l k) (sym e) (link_self l)); said = refl }))
-  part_same Marked p q sync =
+  part_same Marked p q sync prot =
       let a : Node = record (w.nodes q) { mark = Consistent } in
       let b : Node = record (v.nodes q) { mark = Consistent } in
       tests _ _ WrongRole WrongRole w v _ _
@@ -255,7 +258,7 @@ module _ (w v : World) (like : IsLike w v) where
           ap (λ (n : Node). is_primary n.role && (follows v p q && (is_linked (v.links p q) && is_empty n.log))) (like.nodes p)
           ∙ ap (λ (b : Bool). is_primary (w.nodes p).role && (b && (is_linked (v.links p q) && is_empty (w.nodes p).log))) (follows_same p q)
           ∙ ap (λ (b : Bool). is_primary (w.nodes p).role && (follows w p q && (b && is_empty (w.nodes p).log))) (like.links p q).linked
-  part_same Opened p q sync = by_link (is_linked (w.links p q)) refl
+  part_same Opened p q sync prot = by_link (is_linked (w.links p q)) refl
     where
       rest_of : (u : World) → LinkState → Bool
       rest_of u l = is_empty (u.nodes p).log && (is_stale_mode l.mode && (phase_takes (u.nodes q).phase && is_consistent (u.nodes q).mark))
@@ -274,7 +277,7 @@ module _ (w v : World) (like : IsLike w v) where
       none true false c e = refl
       none false b c e = refl
 
-      by_link : (c : Bool) → is_linked (w.links p q) ≡ c → Same (link_part Opened w p q sync) (link_part Opened v p q sync)
+      by_link : (c : Bool) → is_linked (w.links p q) ≡ c → Same (link_part Opened w p q sync prot) (link_part Opened v p q sync prot)
       by_link true is =
           let same : v.links p q ≡ w.links p q = (like.links p q).same is in
           let l : LinkState = Events.opened (w.links p q) (w.nodes p).safe in

@@ -4,7 +4,6 @@ use Rattle.std.specs.Prelude.{Bool, true, false, Option, Some, None, not, leb, l
 use Rattle.vx_model.specs.Sites.{is_origin, is_up, is_bare}
 use Rattle.vx_model.specs.Sizes.{is_raw_shape}
 use Rattle.vx_model.specs.declared.limits.TheConstants.{MOST_DISKS, MOST_SITES}
-use Rattle.vx_model.specs.declared.link.Prot.TheVariants.{Fail as FailsWhenFull}
 use Rattle.vx_model.specs.declared.no.No.TheVariants.{Size, Role as WrongRole, Down as NotUp, Exists, Limit}
 use Rattle.vx_model.specs.declared.no.Counted.TheVariants.{Sites, Disks}
 use Rattle.vx_model.specs.declared.site.SiteState.{SiteState}
@@ -12,7 +11,8 @@ use Rattle.vx_model.specs.declared.site.SiteState.TheVariants.{Bare, Up, Deporte
 use Rattle.vx_history.specs.World.{World, History, Node, Link as LinkState, bare_site, no_volumes, updated}
 use Rattle.vx_history.specs.Likes.{IsLike}
 use Rattle.vx_history.specs.Steps.{burned, fallen_site, site_made, raw_set, raw_history, group_set, group_up, begun_line}
-use Rattle.vx_history.specs.Refusals.{Outcome, at_site, at_work, keeps_links, some_below, unless, unless_halted}
+use Rattle.vx_history.specs.Refusals.{Outcome, at_site, at_work, keeps_links, on_link_if, some_below, unless, unless_halted}
+use Rattle.vx_history.specs.Sends.{is_linked, with_link}
 use Rattle.vx_history.specs.declared.event.Said.TheVariants.{Refused}
 use Rattle.vx_history.specs.Events
 use Rattle.vx_history.specs.Groups.{GroupNode}
@@ -22,7 +22,7 @@ use Rattle.vx_history.specs.declared.volumes.DataVolume.{DataVolume}
 use Rattle.vx_model.specs.declared.no.No.{No}
 use Rattle.vx_history.specs.Step.{done, outcome_of, step, run}
 use Rattle.vx_history.specs.declared.event.Event.{Event}
-use Rattle.vx_history.specs.declared.event.Event.TheVariants.{Site, Raw, Group, Volumes, Write as WriteAt, Read, Apply, Pump, Tick, Deliver, Connect, Cut, Pause, Resume, Wait, Link, Set, Crash, Deport, Fall, Recover, Fault}
+use Rattle.vx_history.specs.declared.event.Event.TheVariants.{Site, Raw, Group, Volumes, Write as WriteAt, Read, Apply, Pump, Tick, Deliver, Connect, Cut, Pause, Resume, Wait, Link, Set, Attach, Detach, Crash, Deport, Fall, Recover, Fault}
 use Rattle.vx_history.specs.declared.sender.SEvent.TheVariants.{Connect as ConnectLink, Pump as PumpLink, Cut as CutLink, Pause as PauseLink, Resume as ResumeLink}
 use Rattle.vx_world.proofs.Likely.{noted, Same, same_of, tests, some_same, link_changed, pair_updated, like_node, like_history, like_link, like_sending, like_headers, at_site_same, at_work_same, both_same, on_link_same, when_live_same}
 use Rattle.vx_world.proofs.LikeChanges.{write_same, read_same, apply_same, moved_same, event_same, tick_same, greeting_same}
@@ -60,6 +60,16 @@ group_same w v like q Bare = record {
 group_same w v like q Up = same_of w v (Refused WrongRole) (Refused WrongRole) like refl
 group_same w v like q Deported = again_same w v like q
 group_same w v like q Down = again_same w v like q
+
+-- a link of an origin is set, attached or detached
+set_same : (w v : World) → IsLike w v → (p q : ℕ) (change : LinkState → LinkState) → ((l : LinkState) → is_linked (change l) ≡ is_linked l)
+    → Same (on_link_if is_origin w p q (done (with_link w p q (change (w.links p q))))) (on_link_if is_origin v p q (done (with_link v p q (change (v.links p q)))))
+set_same w v like p q change linked =
+    on_link_same w v like is_origin p q _ _
+    (λ same _. record {
+      world = like_link w v like p q (change (w.links p q)) (change (v.links p q)) (link_changed change linked (w.links p q) (v.links p q) (like.links p q));
+      said = refl;
+    })
 
 fall_same : (w v : World) → IsLike w v → (q : ℕ) (state : SiteState) → Same (Events.fall_from state w q) (Events.fall_from state v q)
 fall_same w v like q Bare = same_of w v (Refused WrongRole) (Refused WrongRole) like refl
@@ -137,16 +147,11 @@ outcome_same w v like (Wait p number) sees =
     at_site_same w v like p _ _ (at_work_same w v like p _ _
     (tests (not (is_origin (w.nodes p).role)) (not (is_origin (v.nodes p).role)) WrongRole WrongRole w v _ _
     (ap (λ (n : Node). not (is_origin n.role)) (like.nodes p)) refl like (λ _. wait_same w v like p number)))
-outcome_same w v like (Link p q sync part) sees = at_site_same w v like p _ _
-    (at_site_same w v like q _ _ (both_same w v like p q _ _ (part_same w v like part p q sync)))
-outcome_same w v like (Set p q sync) sees =
-    on_link_same w v like is_origin p q _ _
-    (λ same _. record {
-      world = like_link w v like p q (record (w.links p q) { sync = sync; prot = FailsWhenFull }) (record (v.links p q) { sync = sync; prot = FailsWhenFull })
-          (link_changed (λ l. let m : LinkState = record l { sync = sync; prot = FailsWhenFull } in m) (λ l. refl) (w.links p q) (v.links p q)
-          (like.links p q));
-      said = refl;
-    })
+outcome_same w v like (Link p q sync prot part) sees = at_site_same w v like p _ _
+    (at_site_same w v like q _ _ (both_same w v like p q _ _ (part_same w v like part p q sync prot)))
+outcome_same w v like (Set p q sync prot) sees = set_same w v like p q (λ l. Events.link_with sync prot l) (λ l. refl)
+outcome_same w v like (Attach p q) sees = set_same w v like p q Events.link_attached (λ l. refl)
+outcome_same w v like (Detach p q) sees = set_same w v like p q Events.link_detached (λ l. refl)
 outcome_same w v like (Crash q kept) sees =
     at_site_same w v like q _ _
     (tests (not (is_up (w.nodes q).state)) (not (is_up (v.nodes q).state)) NotUp NotUp w v _ _ (ap (λ (n : Node). not (is_up n.state)) (like.nodes q)) refl like
@@ -218,8 +223,10 @@ said_like w v (Cut p q) like = (outcome_same w v like (Cut p q) tt).said
 said_like w v (Pause p q) like = (outcome_same w v like (Pause p q) tt).said
 said_like w v (Resume p q) like = (outcome_same w v like (Resume p q) tt).said
 said_like w v (Wait p number) like = (outcome_same w v like (Wait p number) tt).said
-said_like w v (Link p q sync part) like = (outcome_same w v like (Link p q sync part) tt).said
-said_like w v (Set p q sync) like = (outcome_same w v like (Set p q sync) tt).said
+said_like w v (Link p q sync prot part) like = (outcome_same w v like (Link p q sync prot part) tt).said
+said_like w v (Set p q sync prot) like = (outcome_same w v like (Set p q sync prot) tt).said
+said_like w v (Attach p q) like = (outcome_same w v like (Attach p q) tt).said
+said_like w v (Detach p q) like = (outcome_same w v like (Detach p q) tt).said
 said_like w v (Crash p kept) like = (outcome_same w v like (Crash p kept) tt).said
 said_like w v (Deport p) like = (outcome_same w v like (Deport p) tt).said
 said_like w v (Fall p) like = (outcome_same w v like (Fall p) tt).said
@@ -243,8 +250,10 @@ looks_same w v groups (Cut p q) = tt
 looks_same w v groups (Pause p q) = tt
 looks_same w v groups (Resume p q) = tt
 looks_same w v groups (Wait p number) = tt
-looks_same w v groups (Link p q sync part) = tt
-looks_same w v groups (Set p q sync) = tt
+looks_same w v groups (Link p q sync prot part) = tt
+looks_same w v groups (Set p q sync prot) = tt
+looks_same w v groups (Attach p q) = tt
+looks_same w v groups (Detach p q) = tt
 looks_same w v groups (Crash p kept) = tt
 looks_same w v groups (Deport p) = tt
 looks_same w v groups (Fall p) = tt

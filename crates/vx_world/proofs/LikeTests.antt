@@ -114,6 +114,11 @@ module _ (w v : World) (like : IsLike w v) where
       uses_by : Node → List ℕ
       uses_by n = Events.log_uses n (w.links p) (Events.linked_sites (w.links p) w.sites 0 w.sites)
 
+  pub marked_same : (p : ℕ) (xs : List Write) → IsLike (Events.links_marked w p xs) (Events.links_marked v p xs)
+  marked_same p xs =
+      like_rows w v like p (λ k. Events.link_marked xs (w.links p k)) (λ k. Events.link_marked xs (v.links p k))
+      (λ k. link_changed (λ l. Events.link_marked xs l) (λ l. refl) (w.links p k) (v.links p k) (like.links p k))
+
   pub changed_same : (p : ℕ) (x : Write) → IsLike (Events.links_changed w p x) (Events.links_changed v p x)
   changed_same p x =
       like_rows w v like p (λ k. Events.link_after (w.nodes p) x k (w.links p k)) (λ k. Events.link_after (v.nodes p) x k (v.links p k))

@@ -1,21 +1,21 @@
 -- Worlds that differ in notes alone are good together.
-use Rattle.std.proofs.Common.{◌≡◌, ◌∙◌, ◌⊎◌, inl, inr, ℕ, ◌≤◌, List, length, ap, sym, subst, refl, arith, true, false, []}
+use Rattle.std.proofs.Common.{◌≡◌, ◌∙◌, inl, inr, ℕ, ◌≤◌, List, length, ap, sym, subst, refl, arith, true, false, []}
 use Rattle.std.proofs.lemmas.Bool.{cases_Bool}
 use Rattle.std.specs.Prelude.{Option, Some, None}
 use Rattle.std.specs.List.{AllByRecursion}
-use Rattle.vx_model.specs.Content.{Write, IsPrefixOf}
+use Rattle.vx_model.specs.Content.{IsPrefixOf}
 use Rattle.vx_history.specs.Good.{GoodNode, Good, IsMade}
 use Rattle.vx_history.proofs.Places.{places_same}
 use Rattle.vx_history.specs.Listed.{HasPlaces}
 use Rattle.vx_history.specs.Sends.{is_linked, is_made}
 use Rattle.vx_history.specs.World.{Node, Link, History, Gathering, Packet, Promise, World}
 use Rattle.vx_model.specs.declared.history.Line.{Line}
-use Rattle.vx_model.specs.declared.site.Mark.TheVariants.{Consistent}
 use Rattle.vx_model.specs.declared.site.SiteState.TheVariants.{Bare}
-use Rattle.vx_history.specs.Receiving.{phase_takes}
+use Rattle.vx_history.specs.GoodCopies.{GoodReplays}
+use Rattle.vx_history.proofs.Advancing.{mode_alike}
 use Rattle.vx_history.specs.Sound.{Sound, LosesNothing, IsFed, TakesUpdates, IsMarked, IsNewest, StoodHere, HasCome, GoodLink, GoodPacket, GoodPromise, IsStranger, KnownNode}
 use Rattle.vx_world.proofs.Lists.{prefix_refl}
-use Rattle.vx_world.proofs.Carry.{IsLater, OriginHere, come_later, mode_later, link_later, packets_later, promises_later}
+use Rattle.vx_world.proofs.Carry.{IsLater, LinkSays, OriginHere, come_later, link_later, packets_later, promises_later}
 use Rattle.vx_world.proofs.Moves.{origin_strange, unlinked_good}
 use Rattle.vx_history.specs.Likes.{IsLike, SameLink}
 use Rattle.vx_history.specs.Fits.{WriteFits, Fitting, IsSized, IsAlike}
@@ -50,6 +50,7 @@ good_note h i a b g = record {
   origin_mark = g.origin_mark;
   plain = g.plain;
   content = g.content;
+  copy = λ made r. let c = g.copy made r in record { size = c.size; known = c.known; copying = c.copying; filling = c.filling };
 }
 
 module _ (w v : World) (s : Sound w) (like : IsLike w v) where
@@ -77,24 +78,31 @@ module _ (w v : World) (s : Sound w) (like : IsLike w v) where
         ((later (w.nodes i).line.origin).made (s.good.begun i (made_back i made)));
     later = λ i past. at (λ b. b.state ≡ Bare) i (s.good.later i (subst (λ (k : ℕ). k ≤ i) like.sites past));
     told = λ l. subst (λ (h : History). h.told ≤ length h.held) (sym (like.lines l)) (s.good.told l);
+    replays = λ l i. subst (λ (h : History). GoodReplays h.held (h.replays i)) (sym (like.lines l)) (s.good.replays l i);
   }
 
-  still_marked : (q : ℕ) → (w.nodes q).mark ≡ Consistent → (v.nodes q).mark ≡ Consistent
-  still_marked q = at (λ b. (w.nodes q).mark ≡ Consistent → b.mark ≡ Consistent) q (λ m. m)
+  abbrev line_by : (x : World) (p : ℕ) → History
+  line_by x p = x.lines (x.nodes p).line
 
-  still_takes : (q : ℕ) → phase_takes (w.nodes q).phase ≡ true → phase_takes (v.nodes q).phase ≡ true
-  still_takes q = at (λ b. phase_takes (w.nodes q).phase ≡ true → phase_takes b.phase ≡ true) q (λ t. t)
+  same_line_by : (p : ℕ) → line_by v p ≡ line_by w p
+  same_line_by p = like.lines (v.nodes p).line ∙ ap w.lines (later p).line
 
-  abbrev held_by : (x : World) (p : ℕ) → List Write
-  held_by x p = (x.lines (x.nodes p).line).held
+  -- what the mode of a link says of a site it says of it with other notes
+  still_says : (p q : ℕ) (l : Link) → LinkSays (line_by w p) q (w.nodes q) l → LinkSays (line_by v p) q (v.nodes q) l
+  still_says p q l says =
+      let a : Node = w.nodes q in
+      let b : Node = v.nodes q in
+      subst (λ (h : History). LinkSays h q (v.nodes q) l) (sym (same_line_by p))
+      (at (λ c. LinkSays (line_by w p) q c l) q
+      (mode_alike (line_by w p).held ((line_by w p).replays q) a a.state a.log a.session a.mark a.halted b.fuse a.fed_by b.failing b.group (λ m. m) l.map l.stored l.mode says))
 
-  link_good : (p q : ℕ) → GoodLink (held_by v p) p q (v.nodes p) (v.nodes q) (v.links p q)
+  link_good : (p q : ℕ) → GoodLink (line_by v p) p q (v.nodes p) (v.nodes q) (v.links p q)
   link_good p q = elim (cases_Bool (is_linked (w.links p q))) [
     | inl is ↦
-        subst (λ (l : Link). GoodLink (held_by v p) p q (v.nodes p) (v.nodes q) l) (sym ((like.links p q).same is))
-        (link_later (held_by w p) (held_by v p) p q (w.nodes p) (w.nodes q) (v.nodes p) (v.nodes q) (w.links p q) (later p) (later q)
-        (λ _ _. mode_later (held_by w p) (held_by v p) (w.nodes q) (v.nodes q) (w.links p q).mode (still_marked q) (still_takes q)) (s.links p q))
-    | inr none ↦ unlinked_good (held_by v p) p q (v.nodes p) (v.nodes q) (v.links p q) (λ is. let e : true ≡ false = sym is ∙ (like.links p q).linked ∙ none in absurd (cc))
+        subst (λ (l : Link). GoodLink (line_by v p) p q (v.nodes p) (v.nodes q) l) (sym ((like.links p q).same is))
+        (link_later (line_by w p) (line_by v p) p q (w.nodes p) (w.nodes q) (v.nodes p) (v.nodes q) (w.links p q) (later p) (later q)
+        (λ _ _. still_says p q (w.links p q)) (s.links p q))
+    | inr none ↦ unlinked_good (line_by v p) p q (v.nodes p) (v.nodes q) (v.links p q) (λ is. let e : true ≡ false = sym is ∙ (like.links p q).linked ∙ none in absurd (cc))
   ]
 
   strange : (i : ℕ) (l : Line) → OriginHere (v.nodes i) l → IsStranger v.nodes v.links l i
@@ -122,6 +130,7 @@ module _ (w v : World) (s : Sound w) (like : IsLike w v) where
     promised = subst (λ (es : List Promise). AllByRecursion (GoodPromise v.nodes v.links) es) (sym like.promised)
         (promises_later w.nodes v.nodes w.links v.links later before strange w.promised s.promised);
     known = λ i. at (λ b. KnownNode v.nodes v.links i b) i (λ is r q. s.known i is r (before (w.nodes i).line i q));
+    unbegun = λ l i. subst (λ (h : History). (h.replays i).begun ≡ 0) (sym (like.lines l)) (s.unbegun l i);
   }
 
   volumes : (i : ℕ) → (v.nodes i).volumes ≡ (w.nodes i).volumes

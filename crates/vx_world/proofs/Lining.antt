@@ -16,7 +16,7 @@ use Rattle.vx_history.specs.Steps.{stopped_by}
 use Rattle.vx_history.specs.Stops.{EventsEnd, AllDone, Halts, Cuts, Reads, IsOpen, WritesAt, stored_by}
 use Rattle.vx_history.specs.World.{World, Node, Link as LinkState}
 use Rattle.vx_history.specs.declared.event.Event.{Event}
-use Rattle.vx_history.specs.declared.event.Event.TheVariants.{Site, Raw, Group, Volumes, Write, Read, Apply, Pump, Tick, Deliver, Connect, Cut, Pause, Resume, Wait, Link, Set, Crash, Deport, Fall, Recover, Fault}
+use Rattle.vx_history.specs.declared.event.Event.TheVariants.{Site, Raw, Group, Volumes, Write, Read, Apply, Pump, Tick, Deliver, Connect, Cut, Pause, Resume, Wait, Link, Set, Attach, Detach, Crash, Deport, Fall, Recover, Fault}
 use Rattle.vx_world.specs.Lines.{IsDoubt, GoodDoubted, node_as, row_as, resolved_as}
 use Rattle.vx_world.specs.Twins.{GoodTwin, IsElsewhere}
 use Rattle.vx_world.proofs.Crashed.{not_past, crash_is}
@@ -56,8 +56,10 @@ writes_as w after c (Cut p q) site node row at = at
 writes_as w after c (Pause p q) site node row at = at
 writes_as w after c (Resume p q) site node row at = at
 writes_as w after c (Wait p number) site node row at = at
-writes_as w after c (Link p q sync part) site node row at = at
-writes_as w after c (Set p q sync) site node row at = at
+writes_as w after c (Link p q sync prot part) site node row at = at
+writes_as w after c (Set p q sync prot) site node row at = at
+writes_as w after c (Attach p q) site node row at = at
+writes_as w after c (Detach p q) site node row at = at
 writes_as w after c (Crash p kept) site node row at = at
 writes_as w after c (Deport p) site node row at = at
 writes_as w after c (Fall p) site node row at = at
@@ -81,8 +83,10 @@ calm_write w (Cut p q) site at s apart = tt
 calm_write w (Pause p q) site at s apart = tt
 calm_write w (Resume p q) site at s apart = tt
 calm_write w (Wait p number) site at s apart = tt
-calm_write w (Link p q sync part) site at s apart = tt
-calm_write w (Set p q sync) site at s apart = tt
+calm_write w (Link p q sync prot part) site at s apart = tt
+calm_write w (Set p q sync prot) site at s apart = tt
+calm_write w (Attach p q) site at s apart = tt
+calm_write w (Detach p q) site at s apart = tt
 calm_write w (Crash p kept) site at s apart = absurd at
 calm_write w (Deport p) site at s apart = tt
 calm_write w (Fall p) site at s apart = tt

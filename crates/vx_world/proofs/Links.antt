@@ -5,41 +5,35 @@ use Rattle.std.specs.List.{AllByRecursion}
 use Rattle.std.proofs.lemmas.Bool.{false_from_ne_true, leb-true}
 use Rattle.std.proofs.lemmas.Bool.Decides.{nat_tests}
 use Rattle.std.proofs.lemmas.List.{take-take}
-use Rattle.vx_model.specs.Content.{Write, IsNumber, IsPrefixOf}
+use Rattle.vx_model.specs.Content.{Write, IsNumber, IsPrefixOf, blocks_in}
 use Rattle.vx_history.specs.World.{Node, Link, History, Packet, Message, Hello, Update, NetAck, DataAck, Durable, InSession}
 use Rattle.vx_model.specs.Sites.{is_origin, same_line}
-use Rattle.vx_history.specs.Good.{GoodNode}
-use Rattle.vx_history.specs.Admission.{changed_mode, is_fail}
-use Rattle.vx_history.specs.Sending.{Sent, sent_step, greeted, greeted_anew, mode_overtaken, phase_overtaken, memory_acknowledged, disk_acknowledged, mode_restarted, by_log, with_taken, with_ignored, if_on_line}
+use Rattle.vx_history.specs.Good.{GoodNode, IsMade}
+use Rattle.vx_history.specs.Admission.{change, changed_mode, hold, is_fail}
+use Rattle.vx_history.specs.ChangeMaps.{map_changed}
+use Rattle.vx_history.specs.GoodCopies.{GoodMode, GoodReplays}
+use Rattle.vx_history.specs.Sending.{Sent, sent_step, greeted, greeted_anew, memory_acknowledged, disk_acknowledged, by_log, with_taken, with_ignored, if_on_line}
 use Rattle.vx_history.specs.LinkForms.{plain_link, with_plain}
 use Rattle.vx_history.specs.declared.admission.Change.{Change}
 use Rattle.vx_history.specs.declared.admission.Change.TheVariants.{Stays, ToStale, ToDcm}
 use Rattle.vx_model.specs.declared.history.Line.{Line}
 use Rattle.vx_model.specs.declared.link.Link.{Link as PlainLink}
-use Rattle.vx_model.specs.declared.link.Mode.{Mode}
-use Rattle.vx_model.specs.declared.link.Mode.TheVariants.{Log, Dcm, Replay, Fork, Stale}
 use Rattle.vx_model.specs.declared.link.SyncMode.{SyncMode}
 use Rattle.vx_model.specs.declared.link.SyncMode.TheVariants.{Off, Override, Fail}
 use Rattle.vx_history.specs.declared.sender.SEvent.TheVariants.{Hello as HearHello, NetAck as HearNetAck, DataAck as HearDataAck}
 use Rattle.vx_history.proofs.Updates.{by_test, and_left, and_right, same_line_equal}
-use Rattle.vx_history.specs.Sound.{IsPresent, IsFollowed, HasStored, ModeSays, GoodLink, GoodMessage, GoodPromise, IsKept, IsStranger, CameTo}
+use Rattle.vx_history.specs.Sound.{IsPresent, IsFollowed, HasStored, GoodLink, GoodMessage, GoodPromise, IsKept, IsStranger, CameTo}
 use Rattle.vx_history.specs.Sends.{is_linked, packets_of, packets_from, parts_of, packet, updates, between}
 use Rattle.vx_history.specs.Refusals.{holds_back, is_unconfirmed, some_below, goes, waits}
-use Rattle.vx_history.specs.Events.{receiver_facts, restarted_link, lost_touch, link_after, promise_of, promises_of}
+use Rattle.vx_history.specs.Events.{receiver_facts, restarted_link, lost_touch, link_after, link_marked, promise_of, promises_of, used_above}
+use Rattle.vx_history.proofs.Converting.{change_holds, mode_converted, mode_marked, unbegun_overtaken, unbegun_restarted, unbegun_stored}
+use Rattle.vx_world.proofs.Carry.{LinkSays}
 use Rattle.vx_world.proofs.Lists.{prefix_get, prefix_take, drop_get, or_left, or_right, each_append, prefix_trans}
 
--- a mode that says no more: by the log only where it went by the log
-mode_less : (held : List Write) (b : Node) (l m : Mode) → (m ≡ Log → l ≡ Log) → ModeSays held b l → ModeSays held b m
-mode_less held b l Log log says = subst (λ (x : Mode). ModeSays held b x) (log refl) says
-mode_less held b l Dcm log says = tt
-mode_less held b l (Replay id phase left start end) log says = tt
-mode_less held b l (Fork maps) log says = tt
-mode_less held b l Stale log says = tt
-
 -- a link that differs in nothing that is said of it
-pub link_like : (held : List Write) (p s : ℕ) (a b : Node) (l m : Link) → is_linked m ≡ is_linked l → m.session ≡ l.session → m.net ≡ l.net
-    → m.stored ≡ l.stored → (m.mode ≡ Log → l.mode ≡ Log) → GoodLink held p s a b l → GoodLink held p s a b m
-link_like held p s a b l m linked session net stored mode good = record {
+pub link_like : (h : History) (p s : ℕ) (a b : Node) (l m : Link) → is_linked m ≡ is_linked l → m.session ≡ l.session → m.net ≡ l.net
+    → m.stored ≡ l.stored → (LinkSays h s b l → LinkSays h s b m) → GoodLink h p s a b l → GoodLink h p s a b m
+link_like h p s a b l m linked session net stored mode good = record {
   ends = λ is. good.ends (sym linked ∙ is);
   starts = λ is. good.starts (sym linked ∙ is);
   apart = λ is. good.apart (sym linked ∙ is);
@@ -47,13 +41,13 @@ link_like held p s a b l m linked session net stored mode good = record {
   session = λ is. omega (arith, session, good.session (sym linked ∙ is));
   stored = λ (is, r, e). subst (λ k. HasStored b k) (sym stored) (good.stored (sym linked ∙ is, r, e));
   net = λ (is, r, e) present. omega (arith, net, good.net (sym linked ∙ is, r, e) (subst (λ k. IsPresent b k) session present));
-  says = λ o (is, r, e). mode_less held b l.mode m.mode mode (good.says o (sym linked ∙ is, r, e));
+  says = λ o (is, r, e). mode (good.says o (sym linked ∙ is, r, e));
 }
 
 -- what is acknowledged is only what is stored
-forgotten : (held : List Write) (h : History) (p s : ℕ) (a b : Node) (l m : Link) → GoodNode h s b → is_linked m ≡ is_linked l → m.session ≤ b.session
-    → m.net ≡ l.stored → m.stored ≡ l.stored → (m.mode ≡ Log → l.mode ≡ Log) → GoodLink held p s a b l → GoodLink held p s a b m
-forgotten held h p s a b l m node linked session net stored mode good = record {
+forgotten : (own h : History) (p s : ℕ) (a b : Node) (l m : Link) → GoodNode h s b → is_linked m ≡ is_linked l → m.session ≤ b.session
+    → m.net ≡ l.stored → m.stored ≡ l.stored → (LinkSays own s b l → LinkSays own s b m) → GoodLink own p s a b l → GoodLink own p s a b m
+forgotten own h p s a b l m node linked session net stored mode good = record {
   ends = λ is. good.ends (sym linked ∙ is);
   starts = λ is. good.starts (sym linked ∙ is);
   apart = λ is. good.apart (sym linked ∙ is);
@@ -61,7 +55,7 @@ forgotten held h p s a b l m node linked session net stored mode good = record {
   session = λ is. session;
   stored = λ (is, r, e). subst (λ k. HasStored b k) (sym stored) (good.stored (sym linked ∙ is, r, e));
   net = λ (is, r, e) present. omega (arith, net, (good.stored (sym linked ∙ is, r, e)).0, node.safe_fits);
-  says = λ o (is, r, e). mode_less held b l.mode m.mode mode (good.says o (sym linked ∙ is, r, e));
+  says = λ o (is, r, e). mode (good.says o (sym linked ∙ is, r, e));
 }
 
 -- the greater of two numbers that are stored
@@ -81,34 +75,13 @@ both_stored b m n (least, first) (most, second) = (
         by true e = inl (let l : n ≤ m = grind (arith, nat_tests) in omega (arith, l))
         by false e = inr (let l : m ≤ n = grind (arith, nat_tests) in omega (arith, l))
 
-restarted_by_log : (m : Mode) → mode_restarted m ≡ Log → m ≡ Log
-restarted_by_log Log e = refl
-restarted_by_log Dcm e = absurd (cc)
-restarted_by_log (Replay id phase left start end) e = absurd (cc)
-restarted_by_log (Fork maps) e = absurd (cc)
-restarted_by_log Stale e = absurd (cc)
+pub link_restarted : (own h : History) (p s : ℕ) (a b n : Node) (l : Link) → GoodNode h s b → (own.replays s).begun ≡ 0 → GoodLink own p s a b l
+    → GoodLink own p s a b (restarted_link n s l)
+link_restarted own h p s a b n l node none good =
+    forgotten own h p s a b l (restarted_link n s l) node refl (omega arith) refl refl (λ says. unbegun_restarted own.held (own.replays s) b l.map l.stored none l.mode says) good
 
-overtaken_by_log : (m : Mode) (number : ℕ) → mode_overtaken m number ≡ Log → m ≡ Log
-overtaken_by_log Log number e = refl
-overtaken_by_log Dcm number e = absurd (cc)
-overtaken_by_log (Replay id phase left start end) number e =
-    absurd (by_test (λ (m : Mode). m ≡ Log → ⊥) (phase_overtaken phase && ltb start number) Dcm (Replay id phase left start end) (λ _ f. cc) (λ _ f. cc) e)
-overtaken_by_log (Fork maps) number e = absurd (cc)
-overtaken_by_log Stale number e = absurd (cc)
-
-changed_by_log : (c : Change) (m : Mode) → changed_mode c m ≡ Log → m ≡ Log
-changed_by_log Stays m e = e
-changed_by_log ToStale m e = absurd (cc)
-changed_by_log ToDcm m e = absurd (cc)
-
-pub link_restarted : (held : List Write) (h : History) (p s : ℕ) (a b n : Node) (l : Link) → GoodNode h s b → GoodLink held p s a b l
-    → GoodLink held p s a b (restarted_link n s l)
-link_restarted held h p s a b n l node good =
-    forgotten held h p s a b l (restarted_link n s l) node refl (omega arith) refl refl (restarted_by_log l.mode) good
-
-pub link_lost : (held : List Write) (h : History) (p s : ℕ) (a b : Node) (l : Link) → GoodNode h s b → GoodLink held p s a b l
-    → GoodLink held p s a b (lost_touch l)
-link_lost held h p s a b l node good = record {
+pub link_lost : (own h : History) (p s : ℕ) (a b : Node) (l : Link) → GoodNode h s b → GoodLink own p s a b l → GoodLink own p s a b (lost_touch l)
+link_lost own h p s a b l node good = record {
   ends = good.ends;
   starts = good.starts;
   apart = good.apart;
@@ -119,17 +92,54 @@ link_lost held h p s a b l node good = record {
   says = good.says;
 }
 
-pub link_changed : (held : List Write) (p s : ℕ) (a b n : Node) (x : Write) (l : Link) → GoodLink held p s a b l
-    → GoodLink held p s a b (link_after n x s l)
-link_changed held p s a b n x l good = link_like held p s a b l (link_after n x s l) refl refl refl refl (changed_by_log _ l.mode) good
+-- the map of a link has more regions
+pub link_with_marks : (h : History) (p s : ℕ) (a b : Node) (xs : List Write) (l : Link) → GoodLink h p s a b l → GoodLink h p s a b (link_marked xs l)
+link_with_marks h p s a b xs l good =
+    link_like h p s a b l (link_marked xs l) refl refl refl refl (λ says. mode_marked h.held (h.replays s) b l.map xs l.stored l.mode says) good
+
+-- a link of an origin changes as a write is let in
+module _ (lines : Line → History) (p s : ℕ) (a b : Node) (x : Write) (l : Link) (good_a : GoodNode (lines a.line) p a) (good_b : GoodNode (lines b.line) s b)
+    (table : GoodReplays (lines a.line).held ((lines a.line).replays s)) (good : GoodLink (lines a.line) p s a b l) where
+  abbrev h : History
+  h = lines a.line
+
+  -- what the line holds is a first part of its log
+  front : is_origin a.role ≡ true → IsMade a → IsPrefixOf h.held a.log
+  front o made = subst (λ (xs : List Write). IsPrefixOf xs a.log) (good_a.origin_log made o) (prefix_take a.safe a.log)
+
+  converted : is_origin a.role ≡ true → IsFollowed a b l → (c : Change) → change (blocks_in x.bytes + 1) a.ring (plain_link s l) (used_above a s l) ≡ c
+      → GoodMode h.held (h.replays s) b (map_changed c l.mode l.map a.log (hold (plain_link s l))) l.stored (changed_mode c l.mode)
+  converted o v Stays e = good.says o v
+  converted o v ToStale e = tt
+  converted o v ToDcm e =
+      let made : IsMade a × IsMade b = good.ends v.0 in
+      let at : GoodNode h s b = subst (λ (k : Line). GoodNode (lines k) s b) v.2 good_b in
+      mode_converted h.held a.log (h.replays s) b l.map l.stored (front o made.0) table at.safe_fits (at.receiver_log made.1 v.1) (λ m. at.content (inr m))
+      (at.copy made.1 v.1) l.mode (change_holds (blocks_in x.bytes + 1) a.ring (plain_link s l) (used_above a s l) e) (good.stored v) (good.says o v)
+
+  pub link_changed : GoodLink h p s a b (link_after a x s l)
+  link_changed = record {
+    ends = good.ends;
+    starts = good.starts;
+    apart = good.apart;
+    came = good.came;
+    session = good.session;
+    stored = good.stored;
+    net = good.net;
+    says = λ o v. converted o v (change (blocks_in x.bytes + 1) a.ring (plain_link s l) (used_above a s l)) refl;
+  }
 
 -- the sender's link after a message of the link's receiver that was sent on the sender's line
-module _ (own : List Write) (h : History) (p s : ℕ) (a b : Node) (l : Link) (line : Line) (node : GoodNode h s b) (good : GoodLink own p s a b l) where
+module _ (own h : History) (p s : ℕ) (a b : Node) (l : Link) (line : Line) (node : GoodNode h s b) (none : (own.replays s).begun ≡ 0) (good : GoodLink own p s a b l) where
   abbrev pub After : Sent → Type 0
   After r = GoodLink own p s a b (with_plain l r.link)
 
   same : After (with_ignored (plain_link s l))
-  same = link_like own p s a b l (with_plain l (plain_link s l)) refl refl refl refl (λ e. e) good
+  same = link_like own p s a b l (with_plain l (plain_link s l)) refl refl refl refl (λ says. says) good
+
+  -- what is stored may be more
+  stored_says : (more : ℕ) → is_origin a.role ≡ true → IsFollowed a b l → GoodMode own.held (own.replays s) b l.map more l.mode
+  stored_says more o v = unbegun_stored own.held (own.replays s) b l.map l.stored none more l.mode (good.says o v)
 
   on_line : (r : Sent) → (line ≡ a.line → After r) → After (if_on_line (receiver_facts a line) (plain_link s l) r)
   on_line r heard =
@@ -151,7 +161,7 @@ module _ (own : List Write) (h : History) (p s : ℕ) (a b : Node) (l : Link) (l
         session = λ _. old;
         stored = λ v. both_stored b l.stored stored (good.stored v) (disk (v.2 ∙ sym e));
         net = λ v present. omega (arith, memory (v.2 ∙ sym e) present, (good.stored v).0, (disk (v.2 ∙ sym e)).0, node.safe_fits);
-        says = good.says;
+        says = λ o v. stored_says (max l.stored stored) o v;
       })
       (λ not_new. record {
         ends = good.ends;
@@ -161,11 +171,11 @@ module _ (own : List Write) (h : History) (p s : ℕ) (a b : Node) (l : Link) (l
         session = good.session;
         stored = λ v. both_stored b l.stored stored (good.stored v) (disk (v.2 ∙ sym e));
         net = λ v present. omega (arith, good.net v present, memory (v.2 ∙ sym e) (present.0, present.1 ∙ between_both l.session session not_new not_old));
-        says = good.says;
+        says = λ o v. stored_says (max l.stored stored) o v;
       }))
       (λ _. by_test (λ (r : PlainLink). After (with_taken r)) (ltb l.session session) _ _
-      (λ _. forgotten own h p s a b l _ node refl old refl refl (overtaken_by_log l.mode number) good)
-      (λ _. link_like own p s a b l _ refl refl refl refl (overtaken_by_log l.mode number) good))))
+      (λ _. forgotten own h p s a b l _ node refl old refl refl (λ says. unbegun_overtaken own.held (own.replays s) b l.map l.stored none number l.mode says) good)
+      (λ _. link_like own p s a b l _ refl refl refl refl (λ says. unbegun_overtaken own.held (own.replays s) b l.map l.stored none number l.mode says) good))))
     where
       between_both : (m n : ℕ) → ltb m n ≡ false → ltb n m ≡ false → m ≡ n
       between_both m n f g = grind (arith, nat_tests)
@@ -203,7 +213,7 @@ module _ (own : List Write) (h : History) (p s : ℕ) (a b : Node) (l : Link) (l
         session = good.session;
         stored = λ v. disk (v.2 ∙ sym e);
         net = λ v present. omega (arith, good.net v present, (disk (v.2 ∙ sym e)).0, node.safe_fits);
-        says = good.says;
+        says = λ o v. stored_says number o v;
       })
       (λ _. same))
 
@@ -267,18 +277,18 @@ confirmed l s n made attached fail u h = reaches l.net n
     reaches m n e = grind (arith, nat_tests)
 
 -- a site of a link's other end that stands on an origin's line receives
-pub receives : (nodes : ℕ → Node) (lines : Line → History) (held : List Write) (p s : ℕ) (l : Link)
-    → ((i : ℕ) → GoodNode (lines (nodes i).line) i (nodes i)) → GoodLink held p s (nodes p) (nodes s) l → is_linked l ≡ true → is_origin (nodes p).role ≡ true → (nodes s).line ≡ (nodes p).line
+pub receives : (nodes : ℕ → Node) (lines : Line → History) (h : History) (p s : ℕ) (l : Link)
+    → ((i : ℕ) → GoodNode (lines (nodes i).line) i (nodes i)) → GoodLink h p s (nodes p) (nodes s) l → is_linked l ≡ true → is_origin (nodes p).role ≡ true → (nodes s).line ≡ (nodes p).line
     → is_origin (nodes s).role ≡ false
-receives nodes lines held p s l good link is o e =
+receives nodes lines h p s l good link is o e =
     false_from_ne_true (is_origin (nodes s).role)
     (λ q. link.apart is (sym ((good p).own_line (link.ends is).0 o) ∙ ap (λ (x : Line). x.origin) (sym e) ∙ (good s).own_line (link.ends is).1 q))
 
 module _ (nodes : ℕ → Node) (links : ℕ → ℕ → Link) (lines : Line → History) (good : (i : ℕ) → GoodNode (lines (nodes i).line) i (nodes i)) (p : ℕ) (n : ℕ)
     (o : is_origin (nodes p).role ≡ true)
     (known : (s : ℕ) → is_linked (links p s) ≡ true → (IsStranger nodes links (nodes p).line s → ⊥) × CameTo nodes (nodes p).line s) where
-  abbrev here : List Write
-  here = (lines (nodes p).line).held
+  abbrev here : History
+  here = lines (nodes p).line
 
   promise_good : (s : ℕ) → GoodLink here p s (nodes p) (nodes s) (links p s) → is_unconfirmed n s (links p s) ≡ false → holds_back n s (links p s) ≡ false
       → AllByRecursion (GoodPromise nodes links) (promise_of (nodes p) n s (links p s))

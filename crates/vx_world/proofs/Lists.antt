@@ -1,10 +1,11 @@
 -- First parts of lists of writes, and what holds of each item of a list.
-use Rattle.std.proofs.Common.{◌≡◌, ℕ, zero, suc, ◌+◌, ◌≤◌, List, [], ◌∷◌, ◌++◌, length, take, drop, refl, ap, sym, ◌∙◌, subst, append_assoc, arith, length-append, Bool, true, false}
+use Rattle.std.proofs.Common.{◌≡◌, ℕ, zero, suc, ◌+◌, List, [], ◌∷◌, ◌++◌, length, take, drop, refl, ap, sym, ◌∙◌, subst, append_assoc, arith, Bool, true, false}
 use Rattle.std.proofs.lemmas.List.{append-nil}
 use Rattle.std.specs.Prelude.{slice_get, Some, pred, ◌||◌}
 use Rattle.std.specs.List.{AllByRecursion}
 use Rattle.vx_model.specs.Content.{Write, IsPrefixOf, IsNumber}
 use Rattle.vx_model.proofs.Lists.{found_more}
+pub use Rattle.vx_history.proofs.Each.{each_append, each_weaker, prefix_length}
 
 pub prefix_refl : (xs : List Write) → IsPrefixOf xs xs
 unfolding IsPrefixOf
@@ -21,10 +22,6 @@ prefix_none xs = (xs, refl)
 pub prefix_trans : (xs ys zs : List Write) → IsPrefixOf xs ys → IsPrefixOf ys zs → IsPrefixOf xs zs
 unfolding IsPrefixOf
 prefix_trans xs ys zs (r, e) (s, f) = (r ++ s, sym (append_assoc xs r s) ∙ ap (λ t. t ++ s) e ∙ f)
-
-pub prefix_length : (xs ys : List Write) → IsPrefixOf xs ys → length xs ≤ length ys
-unfolding IsPrefixOf
-prefix_length xs ys (r, e) = omega (arith, ap length e, length-append xs r)
 
 pub prefix_take : (n : ℕ) (xs : List Write) → IsPrefixOf (take n xs) xs
 unfolding IsPrefixOf
@@ -74,14 +71,6 @@ or_right false b h = h
 
 pub not_both : {P : Type 0} (b : Bool) → b ≡ true → b ≡ false → P
 not_both b h k = absurd (let e : true ≡ false = sym h ∙ k in cc)
-
-pub each_append : {A : Type 0} (P : A → Type 0) (xs ys : List A) → AllByRecursion P xs → AllByRecursion P ys → AllByRecursion P (xs ++ ys)
-each_append P [] ys h k = k
-each_append P (x ∷ xs) ys (h, t) k = (h, each_append P xs ys t k)
-
-pub each_weaker : {A : Type 0} (P Q : A → Type 0) → ((x : A) → P x → Q x) → (xs : List A) → AllByRecursion P xs → AllByRecursion Q xs
-each_weaker P Q f [] h = tt
-each_weaker P Q f (x ∷ xs) (h, t) = (f x h, each_weaker P Q f xs t)
 
 -- an item that is found is one of them
 pub each_found : {A : Type 0} (P : A → Type 0) (xs : List A) (k : ℕ) (x : A) → slice_get xs k ≡ Some x → AllByRecursion P xs → P x

@@ -1,35 +1,33 @@
 -- The few ways in which an event changes the world, each with what it has to show.
-use Rattle.std.proofs.Common.{◌≡◌, ℕ, ◌≤◌, List, ◌++◌, sym, ◌∙◌, ap, refl, subst, true, false, inl}
+use Rattle.std.proofs.Common.{◌≡◌, ℕ, ◌≤◌, Bool, List, ◌++◌, sym, ◌∙◌, ap, refl, subst, true, false, inl}
 use Rattle.std.proofs.lemmas.Bool.{false_from_ne_true}
-use Rattle.std.specs.Prelude.{Option}
+use Rattle.std.specs.Prelude.{Option, eqb}
 use Rattle.std.specs.List.{AllByRecursion}
-use Rattle.vx_model.specs.Content.{Write, IsPrefixOf}
+use Rattle.vx_model.specs.Content.{IsPrefixOf}
 use Rattle.vx_history.specs.World.{World, Node, Link, History, Gathering, Packet, Promise, with_node, with_history, updated, line_updated}
-use Rattle.vx_model.specs.Sites.{is_origin}
+use Rattle.vx_model.specs.Sites.{is_origin, same_line}
 use Rattle.vx_history.specs.Good.{GoodNode, Good, IsMade}
 use Rattle.vx_model.specs.declared.history.Line.{Line}
-use Rattle.vx_model.specs.declared.site.Mark.TheVariants.{Consistent}
 use Rattle.vx_model.specs.declared.site.SiteState.TheVariants.{Bare}
-use Rattle.vx_history.specs.Receiving.{phase_takes}
-use Rattle.vx_history.proofs.Updates.{all_updated, all_lines, at_place}
+use Rattle.vx_history.proofs.Updates.{all_updated, all_lines, at_line, at_place, by_test, eqb_apart, eqb_equal, same_line_equal, updated_other}
 use Rattle.vx_history.proofs.GoodLemmas.{good_stays, up_is_made}
 use Rattle.vx_history.specs.Refusals.{is_bunker}
 use Rattle.vx_model.specs.declared.site.Role.{Role}
 use Rattle.vx_model.specs.declared.site.Role.TheVariants.{Primary, Secondary, Handing, Bunker}
 use Rattle.vx_history.specs.Sends.{is_linked, with_links, with_link, sending, promising}
-use Rattle.vx_history.specs.Sound.{LosesNothing, IsFed, TakesUpdates, IsMarked, IsNewest, StoodHere, HasCome, GoesElsewhere, IsFollowed, ModeSays, GoodLink, GoodPacket, GoodPromise, IsStranger, KnownNode, Sound}
+use Rattle.vx_history.specs.Sound.{LosesNothing, IsFed, TakesUpdates, IsMarked, IsNewest, StoodHere, HasCome, GoesElsewhere, IsFollowed, GoodLink, GoodPacket, GoodPromise, IsStranger, KnownNode, Sound}
 use Rattle.vx_world.proofs.Lists.{each_append, each_weaker, prefix_refl, not_both}
-use Rattle.vx_world.proofs.Carry.{IsLater, OriginHere, later_same, come_later, mode_later, link_later, packets_later, promises_later}
+use Rattle.vx_world.proofs.Carry.{IsLater, LinkSays, OriginHere, later_same, come_later, link_later, packets_later, promises_later}
 
 -- what is said of sites by themselves rests on no link
 pub good_of : (w : World) (links : ℕ → ℕ → Link) (packets : List Packet) (promised : List Promise) → Good w
     → Good (record w { links = links; packets = packets; promised = promised })
-good_of w links packets promised s = record { nodes = s.nodes; begun = s.begun; later = s.later; told = s.told }
+good_of w links packets promised s = record { nodes = s.nodes; begun = s.begun; later = s.later; told = s.told; replays = s.replays }
 
 -- nor on what is in assembly, nor on headers
 pub sound_gathering : (w : World) (g : ℕ → Option Gathering) → Sound w → Sound (record w { gathering = g })
 sound_gathering w g s = record {
-  good = record { nodes = s.good.nodes; begun = s.good.begun; later = s.good.later; told = s.good.told };
+  good = record { nodes = s.good.nodes; begun = s.good.begun; later = s.good.later; told = s.good.told; replays = s.good.replays };
   whole = s.whole;
   fed = s.fed;
   takes = s.takes;
@@ -42,11 +40,12 @@ sound_gathering w g s = record {
   packets = s.packets;
   promised = s.promised;
   known = s.known;
+  unbegun = s.unbegun;
 }
 
 pub sound_headers : (w : World) (h : ℕ → ℕ) → Sound w → Sound (record w { headers = h })
 sound_headers w h s = record {
-  good = record { nodes = s.good.nodes; begun = s.good.begun; later = s.good.later; told = s.good.told };
+  good = record { nodes = s.good.nodes; begun = s.good.begun; later = s.good.later; told = s.good.told; replays = s.good.replays };
   whole = s.whole;
   fed = s.fed;
   takes = s.takes;
@@ -59,6 +58,7 @@ sound_headers w h s = record {
   packets = s.packets;
   promised = s.promised;
   known = s.known;
+  unbegun = s.unbegun;
 }
 
 -- packets that say what is so may be sent
@@ -77,6 +77,7 @@ sound_sending w ps s h = record {
   packets = each_append (GoodPacket w.nodes w.links w.lines) w.packets ps s.packets h;
   promised = s.promised;
   known = s.known;
+  unbegun = s.unbegun;
 }
 
 -- numbers that are kept may be promised
@@ -95,6 +96,7 @@ sound_promising w es s h = record {
   packets = s.packets;
   promised = each_append (GoodPromise w.nodes w.links) w.promised es s.promised h;
   known = s.known;
+  unbegun = s.unbegun;
 }
 
 -- links that are made stay made, so who is a stranger then was one before
@@ -120,7 +122,7 @@ origin_strange w i l good apart (up, e, o) =
 
 -- links of origins alone may be new
 sound_links : (w : World) (f : ℕ → ℕ → Link) → Sound w
-    → ((p s : ℕ) → GoodLink (w.lines (w.nodes p).line).held p s (w.nodes p) (w.nodes s) (f p s))
+    → ((p s : ℕ) → GoodLink (w.lines (w.nodes p).line) p s (w.nodes p) (w.nodes s) (f p s))
     → ((p s : ℕ) → is_linked (w.links p s) ≡ true → is_linked (f p s) ≡ true)
     → ((p s : ℕ) → is_linked (f p s) ≡ true → is_origin (w.nodes p).role ≡ false → is_linked (w.links p s) ≡ true) → Sound (record w { links = f })
 sound_links w f s h made old =
@@ -142,6 +144,7 @@ sound_links w f s h made old =
           (λ l. prefix_refl (w.lines l).held) w.packets s.packets;
       promised = promises_later w.nodes w.nodes w.links f (λ i. later_same (w.nodes i)) before strange w.promised s.promised;
       known = λ i is r q. s.known i is r (before (w.nodes i).line i q);
+      unbegun = s.unbegun;
     }
 
 -- where the links of one site change
@@ -158,23 +161,23 @@ still_linked w p q l made =
 
 -- all links of one site
 pub sound_with_links : (w : World) (p : ℕ) (row : ℕ → Link) → Sound w
-    → ((k : ℕ) → GoodLink (w.lines (w.nodes p).line).held p k (w.nodes p) (w.nodes k) (row k))
+    → ((k : ℕ) → GoodLink (w.lines (w.nodes p).line) p k (w.nodes p) (w.nodes k) (row k))
     → ((k : ℕ) → is_linked (w.links p k) ≡ true → is_linked (row k) ≡ true)
     → (is_origin (w.nodes p).role ≡ false → (k : ℕ) → is_linked (row k) ≡ true → is_linked (w.links p k) ≡ true) → Sound (with_links w p row)
 sound_with_links w p row s h made old =
     sound_links w (updated w.links p row) s
-    (all_updated (λ i (r : ℕ → Link). (k : ℕ) → GoodLink (w.lines (w.nodes i).line).held i k (w.nodes i) (w.nodes k) (r k)) w.links p row h (λ i _. s.links i))
+    (all_updated (λ i (r : ℕ → Link). (k : ℕ) → GoodLink (w.lines (w.nodes i).line) i k (w.nodes i) (w.nodes k) (r k)) w.links p row h (λ i _. s.links i))
     (still_linked_row w p row made)
     (all_updated (λ i (r : ℕ → Link). (k : ℕ) → is_linked (r k) ≡ true → is_origin (w.nodes i).role ≡ false → is_linked (w.links i k) ≡ true) w.links p row
     (λ k is r. old r k is) (λ _ _ _ is _. is))
 
 -- one link
-pub sound_with_link : (w : World) (p q : ℕ) (l : Link) → Sound w → GoodLink (w.lines (w.nodes p).line).held p q (w.nodes p) (w.nodes q) l
+pub sound_with_link : (w : World) (p q : ℕ) (l : Link) → Sound w → GoodLink (w.lines (w.nodes p).line) p q (w.nodes p) (w.nodes q) l
     → (is_linked (w.links p q) ≡ true → is_linked l ≡ true)
     → (is_origin (w.nodes p).role ≡ false → is_linked l ≡ true → is_linked (w.links p q) ≡ true) → Sound (with_link w p q l)
 sound_with_link w p q l s h made old =
     sound_with_links w p (updated (w.links p) q l) s
-    (all_updated (λ k (l : Link). GoodLink (w.lines (w.nodes p).line).held p k (w.nodes p) (w.nodes k) l) (w.links p) q l h (λ k _. s.links p k))
+    (all_updated (λ k (l : Link). GoodLink (w.lines (w.nodes p).line) p k (w.nodes p) (w.nodes k) l) (w.links p) q l h (λ k _. s.links p k))
     (all_updated (λ k (l : Link). is_linked (w.links p k) ≡ true → is_linked l ≡ true) (w.links p) q l made (λ _ _ m. m))
     (λ r. all_updated (λ k (l : Link). is_linked l ≡ true → is_linked (w.links p k) ≡ true) (w.links p) q l (old r) (λ _ _ m. m))
 
@@ -184,9 +187,9 @@ pub sound_later : (w : World) (f : ℕ → Node) (h : Line → History) → Soun
     → ((i : ℕ) → IsFed (f i)) → ((i : ℕ) → TakesUpdates (f i)) → ((i : ℕ) → IsMarked (f i)) → ((i : ℕ) → IsNewest (f i))
     → ((i : ℕ) → StoodHere (f i))
     → ((p q : ℕ) → is_origin (f p).role ≡ true → IsFollowed (f p) (f q) (w.links p q)
-    → ModeSays (w.lines (w.nodes p).line).held (w.nodes q) (w.links p q).mode → ModeSays (h (f p).line).held (f q) (w.links p q).mode)
-    → ((i : ℕ) → KnownNode w.nodes w.links i (f i)) → Sound (record w { nodes = f; lines = h })
-sound_later w f h s later grow good whole fed takes marked newest stands modes known =
+    → LinkSays (w.lines (w.nodes p).line) q (w.nodes q) (w.links p q) → LinkSays (h (f p).line) q (f q) (w.links p q))
+    → ((i : ℕ) → KnownNode w.nodes w.links i (f i)) → ((l : Line) (i : ℕ) → ((h l).replays i).begun ≡ 0) → Sound (record w { nodes = f; lines = h })
+sound_later w f h s later grow good whole fed takes marked newest stands modes known unbegun =
     let before : (l : Line) (i : ℕ) → IsStranger f w.links l i → IsStranger w.nodes w.links l i = λ l i q.
     (sym (later l.origin).line ∙ q.0, q.1, sym (later i).bunker ∙ q.2) in
     let strange : (i : ℕ) (l : Line) → OriginHere (f i) l → IsStranger f w.links l i =
@@ -201,31 +204,32 @@ sound_later w f h s later grow good whole fed takes marked newest stands modes k
       stands = stands;
       come = λ i. subst (λ (ls : List Line). AllByRecursion (HasCome f i) ls) (sym (later i).stood)
           (each_weaker (HasCome w.nodes i) (HasCome f i) (come_later w.nodes f later i) (w.nodes i).stood (s.come i));
-      links = λ p q. link_later (w.lines (w.nodes p).line).held (h (f p).line).held p q (w.nodes p) (w.nodes q) (f p) (f q) (w.links p q) (later p) (later q)
+      links = λ p q. link_later (w.lines (w.nodes p).line) (h (f p).line) p q (w.nodes p) (w.nodes q) (f p) (f q) (w.links p q) (later p) (later q)
           (modes p q) (s.links p q);
       bunkers = λ p q is r g. s.bunkers p q is (sym (later p).origin ∙ r)
           (subst (λ (l : Line). IsStranger w.nodes w.links l q) (later p).line (before (f p).line q g));
       packets = packets_later w.nodes f w.links w.links later before strange w.lines h grow w.packets s.packets;
       promised = promises_later w.nodes f w.links w.links later before strange w.promised s.promised;
       known = λ i is r q. known i is r (before (f i).line i q);
+      unbegun = unbegun;
     }
 
 -- what the modes of links say of a site they say of it as it is now
 abbrev pub StaysFed : World → ℕ → Node → Type 0
-StaysFed w i n = (p : ℕ) (held : List Write) → ModeSays held (w.nodes i) (w.links p i).mode → ModeSays held n (w.links p i).mode
+StaysFed w i n = is_origin n.role ≡ false → (l : Link) → LinkSays (w.lines (w.nodes i).line) i (w.nodes i) l → LinkSays (w.lines (w.nodes i).line) i n l
 
-pub stays_fed : (w : World) (i : ℕ) (n : Node) → ((w.nodes i).mark ≡ Consistent → n.mark ≡ Consistent)
-    → (phase_takes (w.nodes i).phase ≡ true → phase_takes n.phase ≡ true) → StaysFed w i n
-stays_fed w i n mark takes = λ p held. mode_later held held (w.nodes i) n (w.links p i).mode mark takes
-
-modes_now : (w : World) (i : ℕ) (n : Node) (h : Line → History) → StaysFed w i n → (p q : ℕ)
-    → ModeSays (w.lines (w.nodes p).line).held (w.nodes q) (w.links p q).mode
-    → ModeSays (h (updated w.nodes i n p).line).held (updated w.nodes i n q) (w.links p q).mode
-modes_now w i n h stays p q says =
-    let held : List Write = (h (updated w.nodes i n p).line).held in
-    all_updated (λ k (d : Node). ModeSays held (w.nodes k) (w.links p k).mode → ModeSays held d (w.links p k).mode) w.nodes i n (stays p held)
-    (λ _ _ x. x) q
-    (mode_later (w.lines (w.nodes p).line).held held (w.nodes q) (w.nodes q) (w.links p q).mode (λ x. x) (λ x. x) says)
+-- so where one site changes, and the line of its links stays
+modes_now : (w : World) (i : ℕ) (n : Node) → n.line ≡ (w.nodes i).line → StaysFed w i n → (p q : ℕ)
+    → IsFollowed (updated w.nodes i n p) (updated w.nodes i n q) (w.links p q) → LinkSays (w.lines (w.nodes p).line) q (w.nodes q) (w.links p q)
+    → LinkSays (w.lines (updated w.nodes i n p).line) q (updated w.nodes i n q) (w.links p q)
+modes_now w i n same stays p q followed says =
+    let line : (k : ℕ) → (updated w.nodes i n k).line ≡ (w.nodes k).line = all_updated (λ k (m : Node). m.line ≡ (w.nodes k).line) w.nodes i n same (λ _ _. refl) in
+    let here : (w.nodes p).line ≡ (w.nodes q).line = sym (line p) ∙ sym followed.2 ∙ line q in
+    let now : LinkSays (w.lines (w.nodes q).line) q (updated w.nodes i n q) (w.links p q) =
+    all_updated (λ k (d : Node). is_origin d.role ≡ false → LinkSays (w.lines (w.nodes k).line) k (w.nodes k) (w.links p k)
+    → LinkSays (w.lines (w.nodes k).line) k d (w.links p k)) w.nodes i n
+    (λ r. stays r (w.links p i)) (λ _ _ _ x. x) q followed.1 (subst (λ (l : Line). LinkSays (w.lines l) q (w.nodes q) (w.links p q)) here says) in
+    subst (λ (l : Line). LinkSays (w.lines l) q (updated w.nodes i n q) (w.links p q)) (sym (line q) ∙ followed.2) now
 
 -- one site, with the lines as they are
 pub sound_with_node : (w : World) (i : ℕ) (n : Node) → Sound w → Good (with_node w i n) → IsLater (w.nodes i) n → LosesNothing n → IsFed n → TakesUpdates n
@@ -241,14 +245,79 @@ sound_with_node w i n s good later whole fed takes marked newest stands stays kn
     (all_updated (λ k (m : Node). IsMarked m) w.nodes i n marked (λ k _. s.marked k))
     (all_updated (λ k (m : Node). IsNewest m) w.nodes i n newest (λ k _. s.newest k))
     (all_updated (λ k (m : Node). StoodHere m) w.nodes i n stands (λ k _. s.stands k))
-    (λ p q _ _. modes_now w i n w.lines stays p q)
+    (λ p q _ followed. modes_now w i n later.line stays p q followed)
     (all_updated (λ k (m : Node). KnownNode w.nodes w.links k m) w.nodes i n known (λ k _. s.known k))
+    s.unbegun
 
--- one site, with its line's record
-pub sound_with_history : (w : World) (i : ℕ) (n : Node) (h : History) → Sound w → Good (with_history w i n h) → IsLater (w.nodes i) n
+-- what the links of an origin say by its line they say by its line as it is recorded now
+abbrev pub FeedsOn : World → ℕ → History → Type 0
+FeedsOn w i h = (q : ℕ) → IsFollowed (w.nodes i) (w.nodes q) (w.links i q) → LinkSays (w.lines (w.nodes i).line) q (w.nodes q) (w.links i q)
+    → LinkSays h q (w.nodes q) (w.links i q)
+
+module _ (w : World) (i : ℕ) (n : Node) (h : History) (s : Sound w) (good : Good (with_history w i n h)) (later : IsLater (w.nodes i) n) (made : IsMade n)
+    (origin : is_origin n.role ≡ true) (feeds : FeedsOn w i h) where
+  same_line_at : (k : ℕ) → (updated w.nodes i n k).line ≡ (w.nodes k).line
+  same_line_at = all_updated (λ k (m : Node). m.line ≡ (w.nodes k).line) w.nodes i n later.line (λ _ _. refl)
+
+  -- the origin of the line is the site
+  own : n.line.origin ≡ i
+  own = subst (λ (m : Node). IsMade m → is_origin m.role ≡ true → m.line.origin ≡ i) (at_place w.nodes i n) (good.nodes i).own_line made origin
+
+  sender : (p q : ℕ) → is_origin (updated w.nodes i n p).role ≡ true → IsFollowed (updated w.nodes i n p) (updated w.nodes i n q) (w.links p q)
+      → (updated w.nodes i n p).line ≡ n.line → p ≡ i
+  sender p q o followed e =
+      let is : IsMade (updated w.nodes i n p) = all_updated (λ k (m : Node). IsMade (w.nodes k) → IsMade m) w.nodes i n later.made (λ _ _ x. x) p ((s.links p q).ends followed.0).0 in
+      sym ((good.nodes p).own_line is o) ∙ ap (λ (l : Line). l.origin) e ∙ own
+
+  -- a link that starts elsewhere goes by another line, and so to another site
+  apart_at : (p q : ℕ) → (p ≡ i → ⊥) → is_origin (updated w.nodes i n p).role ≡ true → IsFollowed (updated w.nodes i n p) (updated w.nodes i n q) (w.links p q)
+      → (q ≡ i → ⊥) × ((updated w.nodes i n p).line ≡ n.line → ⊥)
+  apart_at p q apart o followed = (
+    λ e. apart (sender p q o followed (sym followed.2 ∙ ap (λ (k : ℕ). (updated w.nodes i n k).line) e ∙ ap (λ (m : Node). m.line) (at_place w.nodes i n))),
+    λ e. apart (sender p q o followed e),
+  )
+
+  here_says : (q : ℕ) → IsFollowed (updated w.nodes i n i) (updated w.nodes i n q) (w.links i q) → LinkSays (w.lines (w.nodes i).line) q (w.nodes q) (w.links i q)
+      → LinkSays (line_updated w.lines n.line h (updated w.nodes i n i).line) q (updated w.nodes i n q) (w.links i q)
+  here_says q followed says =
+      let other : q ≡ i → ⊥ = λ e. (s.links i q).apart followed.0 (sym e) in
+      let same : updated w.nodes i n q ≡ w.nodes q = updated_other w.nodes i q n other in
+      let was : IsFollowed (w.nodes i) (w.nodes q) (w.links i q) = (
+        followed.0,
+        subst (λ (m : Node). is_origin m.role ≡ false) same followed.1,
+        sym (same_line_at q) ∙ followed.2 ∙ same_line_at i,
+      ) in
+      let line : line_updated w.lines n.line h (updated w.nodes i n i).line ≡ h =
+      ap (λ (m : Node). line_updated w.lines n.line h m.line) (at_place w.nodes i n) ∙ at_line w.lines n.line h in
+      subst (λ (r : History). LinkSays r q (updated w.nodes i n q) (w.links i q)) (sym line)
+      (subst (λ (m : Node). LinkSays h q m (w.links i q)) (sym same) (feeds q was says))
+
+  there_says : (p q : ℕ) → (p ≡ i → ⊥) → is_origin (updated w.nodes i n p).role ≡ true → IsFollowed (updated w.nodes i n p) (updated w.nodes i n q) (w.links p q)
+      → LinkSays (w.lines (w.nodes p).line) q (w.nodes q) (w.links p q) → LinkSays (line_updated w.lines n.line h (updated w.nodes i n p).line) q (updated w.nodes i n q) (w.links p q)
+  there_says p q apart o followed says =
+      let two = apart_at p q apart o followed in
+      let line : line_updated w.lines n.line h (updated w.nodes i n p).line ≡ w.lines (w.nodes p).line =
+      by_test (λ (r : History). r ≡ w.lines (w.nodes p).line) (same_line (updated w.nodes i n p).line n.line) h (w.lines (updated w.nodes i n p).line)
+      (λ e. absurd (two.1 (same_line_equal (updated w.nodes i n p).line n.line e))) (λ _. ap w.lines (same_line_at p)) in
+      subst (λ (r : History). LinkSays r q (updated w.nodes i n q) (w.links p q)) (sym line)
+      (subst (λ (m : Node). LinkSays (w.lines (w.nodes p).line) q m (w.links p q)) (sym (updated_other w.nodes i q n two.0)) says)
+
+  pub modes_by_line : (p q : ℕ) → is_origin (updated w.nodes i n p).role ≡ true → IsFollowed (updated w.nodes i n p) (updated w.nodes i n q) (w.links p q)
+      → LinkSays (w.lines (w.nodes p).line) q (w.nodes q) (w.links p q) → LinkSays (line_updated w.lines n.line h (updated w.nodes i n p).line) q (updated w.nodes i n q) (w.links p q)
+  modes_by_line p q o followed says = by_site (eqb p i) refl
+    where
+      by_site : (b : Bool) → eqb p i ≡ b → LinkSays (line_updated w.lines n.line h (updated w.nodes i n p).line) q (updated w.nodes i n q) (w.links p q)
+      by_site true e =
+          let same : p ≡ i = eqb_equal p i e in
+          subst (λ (k : ℕ). IsFollowed (updated w.nodes i n k) (updated w.nodes i n q) (w.links k q) → LinkSays (w.lines (w.nodes k).line) q (w.nodes q) (w.links k q)
+          → LinkSays (line_updated w.lines n.line h (updated w.nodes i n k).line) q (updated w.nodes i n q) (w.links k q)) (sym same) (here_says q) followed says
+      by_site false e = there_says p q (eqb_apart p i e) o followed says
+
+-- an origin, with its line's record
+pub sound_with_history : (w : World) (i : ℕ) (n : Node) (h : History) → Sound w → Good (with_history w i n h) → IsLater (w.nodes i) n → IsMade n → is_origin n.role ≡ true
     → IsPrefixOf (w.lines n.line).held h.held → LosesNothing n → IsFed n → TakesUpdates n → IsMarked n → IsNewest n → StoodHere n
-    → StaysFed w i n → KnownNode w.nodes w.links i n → Sound (with_history w i n h)
-sound_with_history w i n h s good later grow whole fed takes marked newest stands stays known =
+    → FeedsOn w i h → KnownNode w.nodes w.links i n → ((k : ℕ) → (h.replays k).begun ≡ 0) → Sound (with_history w i n h)
+sound_with_history w i n h s good later made origin grow whole fed takes marked newest stands feeds known unbegun =
     sound_later w (updated w.nodes i n) (line_updated w.lines n.line h) s
     (all_updated (λ k (m : Node). IsLater (w.nodes k) m) w.nodes i n later (λ k _. later_same (w.nodes k)))
     (all_lines (λ l (r : History). IsPrefixOf (w.lines l).held r.held) w.lines n.line h grow (λ l _. prefix_refl (w.lines l).held))
@@ -259,8 +328,9 @@ sound_with_history w i n h s good later grow whole fed takes marked newest stand
     (all_updated (λ k (m : Node). IsMarked m) w.nodes i n marked (λ k _. s.marked k))
     (all_updated (λ k (m : Node). IsNewest m) w.nodes i n newest (λ k _. s.newest k))
     (all_updated (λ k (m : Node). StoodHere m) w.nodes i n stands (λ k _. s.stands k))
-    (λ p q _ _. modes_now w i n (line_updated w.lines n.line h) stays p q)
+    (modes_by_line w i n h s good later made origin feeds)
     (all_updated (λ k (m : Node). KnownNode w.nodes w.links k m) w.nodes i n known (λ k _. s.known k))
+    (all_lines (λ l (r : History). (k : ℕ) → (r.replays k).begun ≡ 0) w.lines n.line h unbegun (λ l _. s.unbegun l))
 
 -- a site that is there is given out
 pub given : (w : World) (i : ℕ) (n : Node) → Good w → IsMade (w.nodes i) → w.sites ≤ i → n.state ≡ Bare
@@ -281,8 +351,8 @@ pub at_changed : (P : Node → Type 0) (f : ℕ → Node) (i : ℕ) (n : Node) �
 at_changed P f i n h = subst P (sym (at_place f i n)) h
 
 -- what is said of a link that is not there
-pub unlinked_good : (held : List Write) (p q : ℕ) (a b : Node) (l : Link) → (is_linked l ≡ true → ⊥) → GoodLink held p q a b l
-unlinked_good held p q a b l none = record {
+pub unlinked_good : (h : History) (p q : ℕ) (a b : Node) (l : Link) → (is_linked l ≡ true → ⊥) → GoodLink h p q a b l
+unlinked_good h p q a b l none = record {
   ends = λ e. absurd (none e);
   starts = λ e. absurd (none e);
   apart = λ e. absurd (none e);

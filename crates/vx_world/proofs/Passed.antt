@@ -2,8 +2,9 @@
 use Rattle.std.proofs.Common.{ℕ}
 use Rattle.vx_history.specs.Step.{outcome_of, step}
 use Rattle.vx_history.specs.World.{World}
+use Rattle.vx_history.specs.Events.{link_attached, link_detached, link_with}
 use Rattle.vx_history.specs.declared.event.Event.{Event}
-use Rattle.vx_history.specs.declared.event.Event.TheVariants.{Site, Raw, Group, Volumes, Write, Read, Apply, Pump, Tick, Deliver, Connect, Cut, Pause, Resume, Wait, Link, Set, Crash, Deport, Fall, Recover, Fault}
+use Rattle.vx_history.specs.declared.event.Event.TheVariants.{Site, Raw, Group, Volumes, Write, Read, Apply, Pump, Tick, Deliver, Connect, Cut, Pause, Resume, Wait, Link, Set, Attach, Detach, Crash, Deport, Fall, Recover, Fault}
 use Rattle.vx_world.proofs.Whole.{step_good}
 use Rattle.vx_world.specs.Twins.{Twin, IsElsewhere, GoodTwin}
 use Rattle.vx_world.proofs.Twinning.{twin_tick, twin_cut, twin_pause, twin_resume, twin_pump, twin_connect, twin_set, twin_deliver, twin_fault}
@@ -26,8 +27,10 @@ twin_outcome s w v (Cut p q) there twin = twin_cut s w v twin p q
 twin_outcome s w v (Pause p q) there twin = twin_pause s w v twin p q
 twin_outcome s w v (Resume p q) there twin = twin_resume s w v twin p q
 twin_outcome s w v (Wait p number) there twin = twin_wait s w v twin p number
-twin_outcome s w v (Link p q sync part) there twin = twin_join s w v twin p q sync part
-twin_outcome s w v (Set p q sync) there twin = twin_set s w v twin p q sync
+twin_outcome s w v (Link p q sync prot part) there twin = twin_join s w v twin p q sync prot part
+twin_outcome s w v (Set p q sync prot) there twin = twin_set s w v twin p q (λ l. link_with sync prot l)
+twin_outcome s w v (Attach p q) there twin = twin_set s w v twin p q link_attached
+twin_outcome s w v (Detach p q) there twin = twin_set s w v twin p q link_detached
 twin_outcome s w v (Crash p kept) there twin = twin_crash s w v twin p kept there
 twin_outcome s w v (Deport p) there twin = twin_deport s w v twin p
 twin_outcome s w v (Fall p) there twin = twin_fall s w v twin p

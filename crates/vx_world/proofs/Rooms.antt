@@ -7,7 +7,7 @@ use Rattle.vx_model.specs.Content.{Content, Write, blocks_in}
 use Rattle.vx_model.specs.Sites.{is_bare, is_origin, is_up}
 use Rattle.vx_model.specs.Sizes.{is_raw_shape, ring_of}
 use Rattle.vx_model.specs.declared.limits.TheConstants.{MOST_DISKS, MOST_LINKS, MOST_SITES}
-use Rattle.vx_model.specs.declared.link.Prot.TheVariants.{Fail as FailsWhenFull}
+use Rattle.vx_model.specs.declared.link.Prot.{Prot}
 use Rattle.vx_model.specs.declared.link.SyncMode.{SyncMode}
 use Rattle.vx_model.specs.declared.no.Counted.TheVariants.{Sites, Disks, Links}
 use Rattle.vx_model.specs.declared.no.Named.TheVariants.{Number as ByNumber}
@@ -24,7 +24,7 @@ use Rattle.vx_history.specs.Gatherings.{completes, emptied}
 use Rattle.vx_history.specs.Good.{IsMade}
 use Rattle.vx_history.specs.LinkForms.{plain_receiver}
 use Rattle.vx_history.specs.Receiving.{Received, received_step}
-use Rattle.vx_history.specs.Refusals.{Outcome, count_links_of, follows, holds_back, is_primary, is_running, is_unconfirmed, keeps_links, may_link, on_link, rings_fit, says, sizes_meet, some_below, unless, at_work, when_live}
+use Rattle.vx_history.specs.Refusals.{Outcome, count_links_of, follows, holds_back, is_primary, is_running, is_unconfirmed, keeps_links, may_link, on_link, on_link_if, rings_fit, says, sizes_meet, some_below, unless, at_work, when_live}
 use Rattle.vx_history.specs.Sends.{is_linked, promising, sending, with_link, with_links}
 use Rattle.vx_history.specs.Sound.{Sound}
 use Rattle.vx_history.specs.Step.{done, link_part, outcome_of, step}
@@ -32,7 +32,7 @@ use Rattle.vx_history.specs.Steps.{begun_site, burned, crash_left, crashed, depo
 use Rattle.vx_history.specs.Volumes.{volumes_made, volumes_set}
 use Rattle.vx_history.specs.World.{DataAck, Hello, Link as LinkRecord, Message, NetAck, Node, Packet, Update, Volume, World, bare_site, no_volumes, updated, with_node}
 use Rattle.vx_history.specs.declared.event.Event.{Event}
-use Rattle.vx_history.specs.declared.event.Event.TheVariants.{Site, Raw, Group, Volumes, Write as WriteAt, Read, Apply, Pump, Tick, Deliver, Connect, Cut, Pause, Resume, Wait, Link, Set, Crash, Deport, Fall, Recover, Fault}
+use Rattle.vx_history.specs.declared.event.Event.TheVariants.{Site, Raw, Group, Volumes, Write as WriteAt, Read, Apply, Pump, Tick, Deliver, Connect, Cut, Pause, Resume, Wait, Link, Set, Attach, Detach, Crash, Deport, Fall, Recover, Fault}
 use Rattle.vx_history.specs.declared.event.LinkPart.{LinkPart}
 use Rattle.vx_history.specs.declared.event.LinkPart.TheVariants.{Joins, Made, Marked, Opened}
 use Rattle.vx_history.specs.declared.event.Said.TheVariants.{Done, DoneAt, Ignored as IsIgnored, Pending}
@@ -171,7 +171,7 @@ module _ (w : World) (i : ℕ) where
 
   pub crash_room : (q k : ℕ) → Stays (Events.crash_at w q k)
   crash_room q k =
-      let row : ℕ → LinkRecord = λ to. Events.lost_touch (w.links q to) in
+      let row : ℕ → LinkRecord = λ to. Events.link_left (w.nodes q) k (w.links q to) in
       by_test (λ (v : World). Stays (emptied (with_links v q row) q)) (is_origin (w.nodes q).role) (crash_left w q k) (with_node w q (crashed (w.nodes q) k))
       (λ _. moved q (crashed (w.nodes q) k) (record { ring = refl; volumes = refl; group = refl }))
       (λ _. moved q (crashed (w.nodes q) k) (record { ring = refl; volumes = refl; group = refl }))
@@ -199,8 +199,8 @@ module _ (w : World) (i : ℕ) where
   fall_room Deported q = moved q (fallen_site (w.nodes q)) (record { ring = refl; volumes = refl; group = refl })
   fall_room Down q = still
 
-  part_room : (part : LinkPart) (p q : ℕ) (sync : SyncMode) → Leaves (link_part part w p q sync)
-  part_room Joins p q sync =
+  part_room : (part : LinkPart) (p q : ℕ) (sync : SyncMode) (prot : Prot) → Leaves (link_part part w p q sync prot)
+  part_room Joins p q sync prot =
       let n : Node = Events.joined (w.nodes p) p (w.nodes q) in
       let o : Outcome = done (emptied (with_node w q n) q) in
       let fits : Outcome = unless (not (sizes_meet (w.nodes p).volumes (w.nodes q).volumes && rings_fit (w.nodes p) (w.nodes q))) Size w o in
@@ -210,19 +210,23 @@ module _ (w : World) (i : ℕ) where
       (λ _. Guards.unless_holds Stays (leb MOST_LINKS (count_links_of w p)) (Limit Links MOST_LINKS) w fits still
       (λ _. Guards.unless_holds Stays (not (sizes_meet (w.nodes p).volumes (w.nodes q).volumes && rings_fit (w.nodes p) (w.nodes q))) Size w o still
       (λ _. moved q n (record { ring = refl; volumes = refl; group = refl })))))
-  part_room Made p q sync =
-      let l : LinkRecord = Events.new_link (count_links_of w p) sync (w.nodes q) in
+  part_room Made p q sync prot =
+      let l : LinkRecord = Events.new_link (count_links_of w p) sync prot (w.nodes q) in
       Guards.unless_holds Stays (not (is_primary (w.nodes p).role && follows w p q)) WrongRole w
       (unless (is_linked (w.links p q)) (Exists (w.nodes q).name) w (done (with_link w p q l))) still
       (λ _. Guards.unless_holds Stays (is_linked (w.links p q)) (Exists (w.nodes q).name) w (done (with_link w p q l)) still (λ _. still))
-  part_room Marked p q sync =
+  part_room Marked p q sync prot =
       let n : Node = record (w.nodes q) { mark = Consistent } in
       Guards.unless_holds Stays _ WrongRole w (done (with_node w q n)) still (λ _. moved q n (record { ring = refl; volumes = refl; group = refl }))
-  part_room Opened p q sync =
+  part_room Opened p q sync prot =
       Guards.unless_holds Stays _ WrongRole w (done (with_link w p q (Events.opened (w.links p q) (w.nodes p).safe))) still (λ _. still)
 
   on_link_room : (p q : ℕ) (e : SEvent) → Leaves (on_link w p q (done (Events.link_event w p q e)))
   on_link_room p q e = Guards.on_link_holds Stays keeps_links w p q (done (Events.link_event w p q e)) still (λ _ _ _. still)
+
+  -- a link of an origin is set, attached or detached
+  set_room : (p q : ℕ) (l : LinkRecord) → Leaves (on_link_if is_origin w p q (done (with_link w p q l)))
+  set_room p q l = Guards.on_link_holds Stays is_origin w p q (done (with_link w p q l)) still (λ _ _ _. still)
 
   -- ---- events that make nothing
 
@@ -268,13 +272,13 @@ module _ (w : World) (i : ℕ) where
       (λ _. Guards.unless_holds Stays (eqb number 0 || ltb (w.nodes p).safe number) (Unknown (ByNumber number)) w known still
       (λ _. Guards.unless_holds Stays unconfirmed (Unconfirmed number) w answered still
       (λ _. by_test Leaves held (says w (Pending number)) promised (λ _. still) (λ _. still))))))
-  calm_outcome (Link p q sync part) calm =
+  calm_outcome (Link p q sync prot part) calm =
       Guards.at_site_holds Stays w p _ still
       (λ _. Guards.at_site_holds Stays w q _ still
-      (λ _. Guards.both_holds Stays w p q (link_part part w p q sync) still (λ _ _ _ _. part_room part p q sync)))
-  calm_outcome (Set p q sync) calm =
-      let l : LinkRecord = record (w.links p q) { sync = sync; prot = FailsWhenFull } in
-      Guards.on_link_holds Stays is_origin w p q (done (with_link w p q l)) still (λ _ _ _. still)
+      (λ _. Guards.both_holds Stays w p q (link_part part w p q sync prot) still (λ _ _ _ _. part_room part p q sync prot)))
+  calm_outcome (Set p q sync prot) calm = set_room p q (Events.link_with sync prot (w.links p q))
+  calm_outcome (Attach p q) calm = set_room p q (Events.link_attached (w.links p q))
+  calm_outcome (Detach p q) calm = set_room p q (Events.link_detached (w.links p q))
   calm_outcome (Crash q kept) calm =
       let o : Outcome = done (Events.crash_at w q (Events.kept_of (w.nodes q) kept)) in
       Guards.at_site_holds Stays w q (unless (not (is_up (w.nodes q).state)) NotUp w o) still

@@ -4,6 +4,7 @@ use Rattle.std.specs.Prelude.{replicate, None}
 use Rattle.vx_model.specs.Sites.{first_line}
 use Rattle.vx_model.specs.Sizes.{is_raw_shape}
 use Rattle.vx_history.specs.World.{World, empty_world}
+use Rattle.vx_model.specs.declared.link.Prot.TheVariants.{Fail as FailsWhenFull}
 use Rattle.vx_model.specs.declared.link.SyncMode.{SyncMode}
 use Rattle.vx_model.specs.declared.link.SyncMode.TheVariants.{Off as NeverWaits, Fail as FailsIfNotLive}
 use Rattle.vx_model.specs.declared.no.No.TheVariants.{Unknown, Unconfirmed, LinkDown, LogFull, Stalled, Limit, Role as WrongRole}
@@ -28,7 +29,7 @@ sayings w (e ∷ es) = (step w e).said ∷ sayings (step w e).world es
 abbrev linked : (blocks : ℕ) → SyncMode → List Event
 linked blocks sync =
     Site (97 ∷ []) 3 blocks ∷ Raw 0 ∷ Site (98 ∷ []) 3 blocks ∷ Raw 1
-    ∷ Link 0 1 sync Joins ∷ Link 0 1 sync Made ∷ Link 0 1 sync Marked ∷ Link 0 1 sync Opened ∷ Connect 0 1 ∷ []
+    ∷ Link 0 1 sync FailsWhenFull Joins ∷ Link 0 1 sync FailsWhenFull Made ∷ Link 0 1 sync FailsWhenFull Marked ∷ Link 0 1 sync FailsWhenFull Opened ∷ Connect 0 1 ∷ []
 
 abbrev put_one : ℕ → ℕ → Event
 put_one block byte = Write 0 0 block (replicate 512 byte) None

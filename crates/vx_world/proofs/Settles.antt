@@ -19,7 +19,8 @@ use Rattle.vx_history.specs.declared.event.Event.TheVariants.{Apply, Pump, Tick,
 use Rattle.vx_history.specs.Sends.{packet, is_linked}
 use Rattle.vx_history.specs.Step.{step, run}
 use Rattle.vx_history.specs.Settling.{delivery, greeting_events, is_stuck, turn, turns, settling, MaySettle, IsMet}
-use Rattle.vx_history.specs.Sound.{Sound, GoodLink, IsFollowed, ModeSays}
+use Rattle.vx_history.specs.Sound.{Sound, GoodLink, IsFollowed}
+use Rattle.vx_history.specs.GoodCopies.{GoodMode}
 use Rattle.vx_history.specs.Fits.{WriteFits}
 use Rattle.vx_history.specs.GoodWorld.{GoodWorld}
 use Rattle.std.specs.List.{AllByRecursion}
@@ -63,7 +64,7 @@ module _ (w : World) (p s : ℕ) (good : GoodWorld w) (may : MaySettle w p s) wh
     sends = origin_keeps (w.nodes p).role origin;
     receives = receiver;
     line = may.line;
-    takes = (subst (λ (m : Mode). ModeSays (w.lines (w.nodes p).line).held (w.nodes s) m) may.mode ((sound.links p s).says origin followed)).1;
+    takes = (subst (λ (m : Mode). GoodMode (w.lines (w.nodes p).line).held ((w.lines (w.nodes p).line).replays s) (w.nodes s) (w.links p s).map (w.links p s).stored m) may.mode ((sound.links p s).says origin followed)).1;
     linked = may.linked;
     attached = may.attached;
     connected = may.connected;
@@ -136,7 +137,7 @@ greeted_meets w p s good_w may =
     let at : At w p s a b l w.packets = stands w p s good_w may in
     let v : World = (step w (Connect p s)).world in
     let at_v : At v p s a b l (w.packets ++ hello ∷ []) = connect_at w p s a b l w.packets at fit in
-    let good : GoodLink (w.lines a.line).held p s a b l = sound.links p s in
+    let good : GoodLink (w.lines a.line) p s a b l = sound.links p s in
     let told = hello_at v p s a b l (w.packets ++ hello ∷ []) at_v fit (length w.packets) (omega (arith, length-append w.packets (hello ∷ [])))
     (first w.packets hello) (good.session may.linked)
     (good.stored (followed w p s good_w may)).0 (sound.good.nodes s).safe_fits

@@ -1,14 +1,13 @@
 -- Every event keeps what holds of the world, and so does every list of events.
-use Rattle.std.proofs.Common.{◌≡◌, ℕ, ◌<◌, List, [], ◌∷◌, refl, ap, arith, true, false}
+use Rattle.std.proofs.Common.{◌≡◌, ℕ, ◌<◌, List, [], ◌∷◌, refl, ap, sym, ◌∙◌, arith, true, false}
 use Rattle.std.proofs.lemmas.Bool.{not-false}
 use Rattle.std.specs.Prelude.{leb, not, if◌then◌else◌, Option}
 use Rattle.std.proofs.lemmas.Bool.Decides.{nat_tests}
 use Rattle.vx_model.specs.Content.{Write, blocks_in}
 use Rattle.vx_model.specs.Answer.{is_too_large}
-use Rattle.vx_history.specs.World.{World, Link as LinkRecord, empty_world}
+use Rattle.vx_history.specs.World.{World, Link as LinkRecord, empty_world, no_history}
 use Rattle.vx_model.specs.Sites.{is_origin}
 use Rattle.vx_history.specs.Steps.{raw_made}
-use Rattle.vx_model.specs.declared.link.Prot.TheVariants.{Fail as FailsWhenFull}
 use Rattle.vx_model.specs.declared.site.SiteState.{SiteState}
 use Rattle.vx_model.specs.declared.site.SiteState.TheVariants.{Bare, Up, Deported, Down}
 use Rattle.vx_model.specs.declared.no.No.TheVariants.{Size, Role as WrongRole, Down as NotUp}
@@ -18,14 +17,14 @@ use Rattle.vx_history.proofs.Updates.{by_test}
 use Rattle.vx_history.proofs.GoodLemmas.{good_empty}
 use Rattle.vx_history.proofs.StateCases.{bare_is, up_is}
 use Rattle.vx_history.specs.declared.event.Event.{Event}
-use Rattle.vx_history.specs.declared.event.Event.TheVariants.{Site, Raw, Group, Volumes, Write as WriteAt, Read, Apply, Pump, Tick, Deliver, Connect, Cut, Pause, Resume, Wait, Link, Set, Crash, Deport, Fall, Recover, Fault}
-use Rattle.vx_history.specs.Refusals.{Outcome, unless, at_work, keeps_links}
+use Rattle.vx_history.specs.declared.event.Event.TheVariants.{Site, Raw, Group, Volumes, Write as WriteAt, Read, Apply, Pump, Tick, Deliver, Connect, Cut, Pause, Resume, Wait, Link, Set, Attach, Detach, Crash, Deport, Fall, Recover, Fault}
+use Rattle.vx_history.specs.Refusals.{Outcome, unless, at_work, keeps_links, on_link_if}
 use Rattle.vx_model.specs.Sites.{is_up, is_bare}
 use Rattle.vx_model.specs.Sizes.{is_raw_shape}
 use Rattle.vx_history.specs.Events
 use Rattle.vx_history.specs.Step.{done, outcome_of, step, run, link_part, write_at}
-use Rattle.vx_history.specs.Sends.{with_link}
-use Rattle.vx_history.specs.Sound.{Sound, is_at_rest}
+use Rattle.vx_history.specs.Sends.{is_linked, with_link}
+use Rattle.vx_history.specs.Sound.{GoodLink, Sound, is_at_rest}
 use Rattle.vx_world.proofs.Moves.{sound_headers, sound_with_link, unlinked_good}
 use Rattle.vx_world.proofs.Tests.{Keeps, unless_keeps, at_site_keeps, at_work_keeps, both_keeps, on_link_keeps, when_live_keeps, on_volume_keeps}
 use Rattle.vx_world.proofs.Guards.{primary_origin}
@@ -51,6 +50,12 @@ group_from_keeps w q Bare s there e = group_keeps w q s there e
 group_from_keeps w q Up s there e = s
 group_from_keeps w q Deported s there e = again_keeps w q s (ap is_at_rest e)
 group_from_keeps w q Down s there e = again_keeps w q s (ap is_at_rest e)
+
+-- a link of an origin is set, attached or detached
+set_keeps : (w : World) (p q : ℕ) (l : LinkRecord) → Sound w → is_linked l ≡ is_linked (w.links p q)
+    → GoodLink (w.lines (w.nodes p).line) p q (w.nodes p) (w.nodes q) l → Keeps (on_link_if is_origin w p q (done (with_link w p q l)))
+set_keeps w p q l s same good =
+    on_link_keeps is_origin w p q (done (with_link w p q l)) s (λ _ _ _. sound_with_link w p q l s good (λ is. same ∙ is) (λ _ is. sym same ∙ is))
 
 -- every event keeps it
 outcome_keeps : (w : World) (e : Event) → Sound w → Sound (outcome_of w e).world
@@ -83,7 +88,7 @@ outcome_keeps w (Pump p q) s =
 outcome_keeps w (Tick p q) s =
     let l : LinkRecord = Events.ticked_link w p q in
     on_link_keeps keeps_links w p q (done (with_link w p q l)) s
-    (λ _ _ _. sound_with_link w p q l s (Links.link_like (w.lines (w.nodes p).line).held p q (w.nodes p) (w.nodes q) (w.links p q) l refl refl refl refl (λ e. e) (s.links p q))
+    (λ _ _ _. sound_with_link w p q l s (Links.link_like (w.lines (w.nodes p).line) p q (w.nodes p) (w.nodes q) (w.links p q) l refl refl refl refl (λ says. says) (s.links p q))
     (λ is. is) (λ _ is. is))
 outcome_keeps w (Deliver number) s = deliver_keeps w number s
 outcome_keeps w (Connect p q) s = on_link_keeps keeps_links w p q _ s (λ _ _ _. connect_keeps w p q s)
@@ -99,14 +104,18 @@ outcome_keeps w (Wait p number) s =
     (λ _. at_work_keeps w p o s
     (λ up _. unless_keeps (not (is_origin (w.nodes p).role)) WrongRole w (Events.waited w p number) s
     (λ o. wait_keeps w p number s up (not-false (is_origin (w.nodes p).role) o))))
-outcome_keeps w (Link p q sync part) s =
+outcome_keeps w (Link p q sync prot part) s =
     at_site_keeps w p _ s
-    (λ _. at_site_keeps w q _ s (λ _. both_keeps w p q (link_part part w p q sync) s (λ up_p up_q _ runs_q. link_part_keeps part w p q sync s up_p up_q runs_q)))
-outcome_keeps w (Set p q sync) s =
-    let l : LinkRecord = record (w.links p q) { sync = sync; prot = FailsWhenFull } in
-    on_link_keeps is_origin w p q (done (with_link w p q l)) s
-    (λ _ _ _. sound_with_link w p q l s (Links.link_like (w.lines (w.nodes p).line).held p q (w.nodes p) (w.nodes q) (w.links p q) l refl refl refl refl (λ e. e) (s.links p q))
-    (λ is. is) (λ _ is. is))
+    (λ _. at_site_keeps w q _ s (λ _. both_keeps w p q (link_part part w p q sync prot) s (λ up_p up_q _ runs_q. link_part_keeps part w p q sync prot s up_p up_q runs_q)))
+outcome_keeps w (Set p q sync prot) s =
+    let l : LinkRecord = Events.link_with sync prot (w.links p q) in
+    set_keeps w p q l s refl (Links.link_like (w.lines (w.nodes p).line) p q (w.nodes p) (w.nodes q) (w.links p q) l refl refl refl refl (λ says. says) (s.links p q))
+outcome_keeps w (Attach p q) s =
+    let l : LinkRecord = Events.link_attached (w.links p q) in
+    set_keeps w p q l s refl (Links.link_like (w.lines (w.nodes p).line) p q (w.nodes p) (w.nodes q) (w.links p q) l refl refl refl refl (λ says. says) (s.links p q))
+outcome_keeps w (Detach p q) s =
+    let l : LinkRecord = Events.link_detached (w.links p q) in
+    set_keeps w p q l s refl (Links.link_like (w.lines (w.nodes p).line) p q (w.nodes p) (w.nodes q) (w.links p q) l refl refl refl refl (λ _. tt) (s.links p q))
 outcome_keeps w (Crash q kept) s =
     let o : Outcome = done (Events.crash_at w q (Events.kept_of (w.nodes q) kept)) in
     at_site_keeps w q (unless (not (is_up (w.nodes q).state)) NotUp w o) s
@@ -141,8 +150,9 @@ empty_sound = record {
   come = λ _. tt;
   marked = λ _ up. absurd (let e : Bare ≡ Up = up in cc);
   bunkers = λ p q is. absurd (let e : false ≡ true = is in cc);
-  links = λ p q. unlinked_good [] p q (empty_world.nodes p) (empty_world.nodes q) (empty_world.links p q) (λ e. cc);
+  links = λ p q. unlinked_good no_history p q (empty_world.nodes p) (empty_world.nodes q) (empty_world.links p q) (λ e. cc);
   packets = tt;
   promised = tt;
   known = λ i made. absurd (made refl);
+  unbegun = λ l s. refl;
 }

@@ -1,5 +1,5 @@
 -- A halted site stands still: no event changes it or its links, but a crash, and a disk that halts it again.
-use Rattle.std.proofs.Common.{◌≡◌, ◌∙◌, ℕ, ◌<◌, List, ap, sym, refl, arith, Bool, true, false}
+use Rattle.std.proofs.Common.{◌≡◌, ◌∙◌, ℕ, ◌<◌, List, [], ◌∷◌, ap, sym, refl, arith, Bool, true, false}
 use Rattle.std.proofs.lemmas.Bool.{not-false}
 use Rattle.std.specs.Prelude.{length, Option, Some, None, not, ◌&&◌, ◌||◌, eqb, leb, ltb, bytes_eq}
 use Rattle.vx_model.specs.Content.{Write as LogWrite, blocks_in}
@@ -7,8 +7,8 @@ use Rattle.vx_model.specs.Answer.{is_too_large, is_wrong_count, is_past}
 use Rattle.vx_model.specs.Sites.{is_origin, is_up, is_bare}
 use Rattle.vx_model.specs.Sizes.{is_raw_shape}
 use Rattle.vx_model.specs.declared.limits.TheConstants.{MOST_DISKS, MOST_LINKS, MOST_NUMBER, MOST_SITES}
+use Rattle.vx_model.specs.declared.link.Prot.{Prot}
 use Rattle.vx_model.specs.declared.link.SyncMode.{SyncMode}
-use Rattle.vx_model.specs.declared.link.Prot.TheVariants.{Fail as FailsWhenFull}
 use Rattle.vx_model.specs.declared.no.No.{No}
 use Rattle.vx_model.specs.declared.no.No.TheVariants.{Role as WrongRole, Down as NotUp, Unknown}
 use Rattle.vx_model.specs.declared.no.Named.TheVariants.{Number as ByNumber}
@@ -31,7 +31,7 @@ use Rattle.vx_history.specs.Step.{outcome_of, step, link_part}
 use Rattle.vx_history.specs.Steps.{raw_set, group_set, group_up, logged, crashed, crash_left, deported_site, fallen_site}
 use Rattle.vx_history.specs.World.{World, Node, Link as LinkRecord, History, Gathering, Packet, Message, Hello, Update, NetAck, DataAck, with_node, with_history, bare_site, updated}
 use Rattle.vx_history.specs.declared.event.Event.{Event}
-use Rattle.vx_history.specs.declared.event.Event.TheVariants.{Site, Raw, Group, Volumes, Write as WriteAt, Read, Apply, Pump, Tick, Deliver, Connect, Cut, Pause, Resume, Wait, Link, Set, Crash, Deport, Fall, Recover, Fault}
+use Rattle.vx_history.specs.declared.event.Event.TheVariants.{Site, Raw, Group, Volumes, Write as WriteAt, Read, Apply, Pump, Tick, Deliver, Connect, Cut, Pause, Resume, Wait, Link, Set, Attach, Detach, Crash, Deport, Fall, Recover, Fault}
 use Rattle.vx_history.specs.declared.event.LinkPart.{LinkPart}
 use Rattle.vx_history.specs.declared.event.LinkPart.TheVariants.{Joins, Made, Marked, Opened}
 use Rattle.vx_history.specs.declared.event.Said.TheVariants.{Ignored as IsIgnored, Pending}
@@ -120,7 +120,9 @@ module _ (s : ℕ) (w : World) (up : (w.nodes s).state ≡ Up) (halted : is_runn
   put_still : (p : ℕ) (x : LogWrite) (fails : Option ℕ) → (s ≡ p → ⊥) → Leaves (Events.put_in (Events.links_changed w p x) p x fails)
   put_still p x None apart = record {
     node = aside w.nodes p (logged (w.nodes p) x) s apart;
-    row = aside w.links p (λ k. Events.link_after (w.nodes p) x k (w.links p k)) s apart;
+    row =
+        let v : World = Events.links_changed w p x in
+        aside v.links p (λ k. Events.link_marked (x ∷ []) (v.links p k)) s apart ∙ aside w.links p (λ k. Events.link_after (w.nodes p) x k (w.links p k)) s apart;
   }
   put_still p x (Some disk) apart = record {
     node = aside w.nodes p _ s apart;
@@ -207,26 +209,26 @@ module _ (s : ℕ) (w : World) (up : (w.nodes s).state ≡ Up) (halted : is_runn
 
   -- ## Lines that link, crashes and recoveries
 
-  part_still : (part : LinkPart) (p q : ℕ) (sync : SyncMode) → (s ≡ p → ⊥) → (s ≡ q → ⊥) → Leaves (link_part part w p q sync)
-  part_still Joins p q sync here there =
+  part_still : (part : LinkPart) (p q : ℕ) (sync : SyncMode) (prot : Prot) → (s ≡ p → ⊥) → (s ≡ q → ⊥) → Leaves (link_part part w p q sync prot)
+  part_still Joins p q sync prot here there =
       tested (not (may_link w p q)) _ _
       (λ _. tested (is_linked (w.links p q)) _ _
       (λ _. tested (leb MOST_LINKS (count_links_of w p)) _ _
       (λ _. tested (not (sizes_meet (w.nodes p).volumes (w.nodes q).volumes && rings_fit (w.nodes p) (w.nodes q))) _ _
       (λ _. gathering_still (with_node w q (Events.joined (w.nodes p) p (w.nodes q))) _ (node_still q (Events.joined (w.nodes p) p (w.nodes q)) there)))))
-  part_still Made p q sync here there =
+  part_still Made p q sync prot here there =
       tested (not (is_primary (w.nodes p).role && follows w p q)) _ _
-      (λ _. tested (is_linked (w.links p q)) _ _ (λ _. row_still w p (updated (w.links p) q (Events.new_link (count_links_of w p) sync (w.nodes q))) same here))
-  part_still Marked p q sync here there = tested (not (is_primary (w.nodes p).role && (follows w p q && (is_linked (w.links p q) && is_empty (w.nodes p).log)))) _ _ (λ _. node_still q (record (w.nodes q) { mark = Consistent }) there)
-  part_still Opened p q sync here there =
+      (λ _. tested (is_linked (w.links p q)) _ _ (λ _. row_still w p (updated (w.links p) q (Events.new_link (count_links_of w p) sync prot (w.nodes q))) same here))
+  part_still Marked p q sync prot here there = tested (not (is_primary (w.nodes p).role && (follows w p q && (is_linked (w.links p q) && is_empty (w.nodes p).log)))) _ _ (λ _. node_still q (record (w.nodes q) { mark = Consistent }) there)
+  part_still Opened p q sync prot here there =
       tested
       (not (is_primary (w.nodes p).role && (follows w p q && (is_linked (w.links p q) && (is_empty (w.nodes p).log && (is_stale_mode (w.links p q).mode && (phase_takes (w.nodes q).phase && is_consistent (w.nodes q).mark)))))))
       _ _ (λ _. row_still w p (updated (w.links p) q (Events.opened (w.links p q) (w.nodes p).safe)) same here)
 
   crash_still : (q k : ℕ) → (s ≡ q → ⊥) → Stands s w (Events.crash_at w q k)
   crash_still q k apart =
-      gathering_still (with_links (Events.crash_world w q k) q (λ to. Events.lost_touch (w.links q to))) _
-      (by_test (λ (v : World). Stands s w (with_links v q (λ to. Events.lost_touch (w.links q to)))) (is_origin (w.nodes q).role) (crash_left w q k)
+      gathering_still (with_links (Events.crash_world w q k) q (λ to. Events.link_left (w.nodes q) k (w.links q to))) _
+      (by_test (λ (v : World). Stands s w (with_links v q (λ to. Events.link_left (w.nodes q) k (w.links q to)))) (is_origin (w.nodes q).role) (crash_left w q k)
       (with_node w q (crashed (w.nodes q) k))
       (λ _. row_still (crash_left w q k) q _ (history_still q (crashed (w.nodes q) k) _ apart) apart)
       (λ _. row_still (with_node w q (crashed (w.nodes q) k)) q _ (node_still q (crashed (w.nodes q) k) apart) apart))
@@ -315,10 +317,10 @@ module _ (s : ℕ) (w : World) (up : (w.nodes s).state ≡ Up) (halted : is_runn
       (λ _. tested (some_below w.sites (λ k. is_unconfirmed number k (w.links p k))) _ _
       (λ _. by_test Leaves (some_below w.sites (λ k. holds_back number k (w.links p k))) (says w (Pending number)) _ (λ _. same)
       (λ _. record { node = refl; row = refl })))))
-  outcome_still (Link p q sync part) there calm = both_still p q (link_part part w p q sync) (part_still part p q sync)
-  outcome_still (Set p q sync) there calm =
-      link_still is_origin p q _
-      (λ apart. row_still w p (updated (w.links p) q (record (w.links p q) { sync = sync; prot = FailsWhenFull })) same apart)
+  outcome_still (Link p q sync prot part) there calm = both_still p q (link_part part w p q sync prot) (part_still part p q sync prot)
+  outcome_still (Set p q sync prot) there calm = link_still is_origin p q _ (λ apart. row_still w p (updated (w.links p) q (Events.link_with sync prot (w.links p q))) same apart)
+  outcome_still (Attach p q) there calm = link_still is_origin p q _ (λ apart. row_still w p (updated (w.links p) q (Events.link_attached (w.links p q))) same apart)
+  outcome_still (Detach p q) there calm = link_still is_origin p q _ (λ apart. row_still w p (updated (w.links p) q (Events.link_detached (w.links p q))) same apart)
   outcome_still (Crash q kept) there calm =
       site_still q _ (tested (not (is_up (w.nodes q).state)) _ _ (λ _. crash_still q (Events.kept_of (w.nodes q) kept) (λ e. calm (sym e))))
   outcome_still (Deport q) there calm = work_still q _ (λ apart. deport_still q apart)

@@ -7,17 +7,15 @@ use Rattle.vx_model.specs.Content.{Write}
 use Rattle.vx_history.specs.Events.{link_event, ticked_link, ticked_at, link_step, receiver_facts, greets, greeting_back, packet_at, delivered, handed, gathers, gathered_if, is_taken, taken_if, heard, link_heard, update_heard, update_taken, from_memory, with_write, said_of_link}
 use Rattle.vx_history.specs.LinkForms.{plain_link, with_plain, plain_receiver}
 use Rattle.vx_history.specs.Receiving.{received_step}
-use Rattle.vx_history.specs.Refusals.{Outcome, says, unless, when_live, is_running, keeps_links}
+use Rattle.vx_history.specs.Refusals.{Outcome, says, unless, on_link_if, when_live, is_running, keeps_links}
 use Rattle.vx_history.specs.Sending.{Sent, sent_step}
 use Rattle.vx_history.specs.Sends.{is_linked, with_link, sending, sent_by, packets_of, greeting}
 use Rattle.vx_history.specs.Step.{outcome_of, done}
 use Rattle.vx_history.specs.Steps.{stopped_by, burned}
 use Rattle.vx_history.specs.World.{Node, Link, Packet, Gathering, World, Message, Hello, Update, NetAck, DataAck, no_regions, with_node}
-use Rattle.vx_history.specs.declared.event.Event.TheVariants.{Pump, Tick, Deliver, Connect, Cut, Pause, Resume, Set, Fault}
+use Rattle.vx_history.specs.declared.event.Event.TheVariants.{Pump, Tick, Deliver, Connect, Cut, Pause, Resume, Fault}
 use Rattle.vx_history.specs.declared.event.Said.{Said}
 use Rattle.vx_history.specs.declared.event.Said.TheVariants.{Ignored as IsIgnored, Refused}
-use Rattle.vx_model.specs.declared.link.SyncMode.{SyncMode}
-use Rattle.vx_model.specs.declared.link.Prot.TheVariants.{Fail as FailsWhenFull}
 use Rattle.vx_model.specs.declared.no.No.TheVariants.{Down as NotUp, LinkDown, Paused, Device}
 use Rattle.vx_model.specs.declared.no.SiteName.TheVariants.{Number as SiteNumber}
 use Rattle.vx_history.specs.declared.receiver.RAction.{RAction}
@@ -104,13 +102,14 @@ module _ (s : ℕ) (w v : World) (twin : Twin s w v) where
       (λ apart. twin_sending s (link_event w p q ConnectLink) (link_event v p q ConnectLink) (event p q ConnectLink apart) (greeting_back w p q)
       (greeting_back v p q) (same_greeting p q apart))
 
-  pub twin_set : (p q : ℕ) (sync : SyncMode) → Twin s (outcome_of w (Set p q sync)).world (outcome_of v (Set p q sync)).world
-  twin_set p q sync =
-      let l : Link = record (w.links p q) { sync = sync; prot = FailsWhenFull } in
-      let m : Link = record (v.links p q) { sync = sync; prot = FailsWhenFull } in
+  -- a link of an origin is set, attached or detached
+  pub twin_set : (p q : ℕ) (change : Link → Link)
+      → Twin s (on_link_if is_origin w p q (done (with_link w p q (change (w.links p q))))).world (on_link_if is_origin v p q (done (with_link v p q (change (v.links p q))))).world
+  twin_set p q change =
+      let l : Link = change (w.links p q) in
+      let m : Link = change (v.links p q) in
       linked s is_origin w v p q (done (with_link w p q l)) (done (with_link v p q m)) twin
-      (λ apart. twin_link s w v twin p q l m apart
-      (ap (λ (row : ℕ → Link). let k : Link = record (row q) { sync = sync; prot = FailsWhenFull } in k) (twin.rows p apart)))
+      (λ apart. twin_link s w v twin p q l m apart (ap (λ (row : ℕ → Link). change (row q)) (twin.rows p apart)))
 
   -- ---- packets
 

@@ -1,5 +1,5 @@
 -- A group of disks that gets its replicated volume group: all that holds of the world goes on to hold.
-use Rattle.std.proofs.Common.{◌≡◌, ◌∙◌, ℕ, zero, suc, ◌+◌, ◌≤◌, List, [], take, refl, ap, sym, subst, arith, true}
+use Rattle.std.proofs.Common.{◌≡◌, ◌∙◌, ℕ, zero, suc, ◌+◌, ◌≤◌, List, [], take, refl, ap, sym, subst, arith, true, false}
 use Rattle.std.specs.List.{AllByRecursion}
 use Rattle.vx_model.specs.Content.{Content, Write, blocks_in, fold_writes}
 use Rattle.vx_model.specs.Sites.{is_origin}
@@ -20,7 +20,7 @@ use Rattle.vx_world.proofs.Carry.{IsLater}
 use Rattle.vx_world.proofs.Keeping.{Keeps, gather_up}
 use Rattle.vx_world.proofs.KeptSites.{alike_self}
 use Rattle.vx_world.proofs.Lists.{each_weaker, prefix_refl}
-use Rattle.vx_world.proofs.Moves.{sound_with_history, stays_fed}
+use Rattle.vx_world.proofs.Moves.{sound_with_history}
 
 take_none : (k : ℕ) → take k (let none : List Write = [] in none) ≡ []
 take_none zero = refl
@@ -68,6 +68,7 @@ module _ (w : World) (q log : ℕ) (xs : List DataVolume) (s : Sound w) (up : (w
     origin_mark = good.origin_mark;
     plain = good.plain;
     content = good.content;
+    copy = good.copy;
   }
 
   volumes_good : Good (volumes_made w q log xs)
@@ -83,8 +84,9 @@ module _ (w : World) (q log : ℕ) (xs : List DataVolume) (s : Sound w) (up : (w
         origin_mark = good.origin_mark;
         plain = good.plain;
         content = λ _. ap (λ (ws : List Write). fold_writes content ws) (sym (ap (λ (ws : List Write). take n.safe ws) empty ∙ take_none n.safe));
+        copy = λ _ not. absurd (let e : true ≡ false = sym origin ∙ not in cc);
       })
-      made own (s.good.told n.line)
+      made own (s.good.told n.line) (λ k. s.good.replays n.line k)
       (λ k _ _ e. restarted k (w.nodes k) (subst (λ (l : Line). GoodNode (w.lines l) k (w.nodes k)) e (s.good.nodes k)))
       (made_is_given w q s.good made)
 
@@ -104,8 +106,8 @@ module _ (w : World) (q log : ℕ) (xs : List DataVolume) (s : Sound w) (up : (w
 
   pub volumes_keeps : Sound (volumes_made w q log xs)
   volumes_keeps =
-      sound_with_history w q m h s volumes_good later_volumes (prefix_refl (w.lines n.line).held) (s.whole q) (s.fed q) (s.takes q) (s.marked q) (s.newest q)
-      (s.stands q) (stays_fed w q m (λ is. is) (λ is. is)) (s.known q)
+      sound_with_history w q m h s volumes_good later_volumes made origin (prefix_refl (w.lines n.line).held) (s.whole q) (s.fed q) (s.takes q) (s.marked q) (s.newest q)
+      (s.stands q) (λ _ _ says. says) (s.known q) (s.unbegun n.line)
 
   -- no write fits a site without volumes
   no_fit : (x : Write) → WriteFits n x → ⊥

@@ -5,7 +5,6 @@ use Rattle.std.specs.Prelude.{leb, not, if◌then◌else◌, eqb, ltb, ◌||◌,
 use Rattle.vx_model.specs.Sites.{is_origin, is_up, is_bare}
 use Rattle.vx_model.specs.Sizes.{is_raw_shape}
 use Rattle.vx_model.specs.declared.limits.TheConstants.{MOST_DISKS, MOST_SITES}
-use Rattle.vx_model.specs.declared.link.Prot.TheVariants.{Fail as FailsWhenFull}
 use Rattle.vx_model.specs.declared.no.No.TheVariants.{Size, Role as WrongRole, Down as NotUp, Exists, Limit, Unknown, Unconfirmed}
 use Rattle.vx_model.specs.declared.no.Named.TheVariants.{Number as ByNumber}
 use Rattle.vx_model.specs.declared.no.Counted.TheVariants.{Sites, Disks}
@@ -17,13 +16,13 @@ use Rattle.vx_history.specs.World.{World, Link as LinkRecord, empty_world, no_li
 use Rattle.vx_history.specs.Listed.{HasPlaces}
 use Rattle.vx_history.specs.Steps.{site_made, raw_made, stopped_by}
 use Rattle.vx_history.specs.Sends.{with_link, sending, promising}
-use Rattle.vx_history.specs.Refusals.{Outcome, says, unless, at_work, on_link, keeps_links as has_links, some_below, is_unconfirmed, holds_back}
+use Rattle.vx_history.specs.Refusals.{Outcome, says, unless, at_work, on_link, on_link_if, keeps_links as has_links, some_below, is_unconfirmed, holds_back}
 use Rattle.vx_history.specs.Events
 use Rattle.vx_history.specs.Step.{done, outcome_of, step, run, link_part}
 use Rattle.vx_history.specs.GoodWorld.{GoodWorld}
 use Rattle.vx_history.specs.Sound.{Sound}
 use Rattle.vx_history.specs.declared.event.Event.{Event}
-use Rattle.vx_history.specs.declared.event.Event.TheVariants.{Site, Raw, Group, Volumes, Write as WriteAt, Read, Apply, Pump, Tick, Deliver, Connect, Cut, Pause, Resume, Wait, Link, Set, Crash, Deport, Fall, Recover, Fault}
+use Rattle.vx_history.specs.declared.event.Event.TheVariants.{Site, Raw, Group, Volumes, Write as WriteAt, Read, Apply, Pump, Tick, Deliver, Connect, Cut, Pause, Resume, Wait, Link, Set, Attach, Detach, Crash, Deport, Fall, Recover, Fault}
 use Rattle.vx_history.specs.declared.event.Said.TheVariants.{Pending, DoneAt}
 use Rattle.vx_history.specs.declared.sender.SEvent.{SEvent}
 use Rattle.vx_history.specs.declared.sender.SEvent.TheVariants.{Connect as ConnectLink, Pump as PumpLink, Cut as CutLink, Pause as PauseLink, Resume as ResumeLink}
@@ -41,6 +40,11 @@ use Rattle.vx_world.proofs.KeptSites.{crash_leaves, deport_leaves, fall_leaves, 
 
 pub on_link_leaves : (w : World) (p q : ℕ) (e : SEvent) → Leaves w (on_link w p q (done (Events.link_event w p q e)))
 on_link_leaves w p q e = Guards.on_link_holds (Keeps w) has_links w p q (done (Events.link_event w p q e)) (keeps_same w) (λ _ _ _. moved_leaves w p q e)
+
+-- a link of an origin is set, attached or detached
+set_leaves : (w : World) (p q : ℕ) (l : LinkRecord) → l.made ≡ (w.links p q).made → Leaves w (on_link_if is_origin w p q (done (with_link w p q l)))
+set_leaves w p q l same =
+    Guards.on_link_holds (Keeps w) is_origin w p q (done (with_link w p q l)) (keeps_same w) (λ _ _ _. keeps_links w w (keeps_same w) (with_link w p q l).links (made_link w p q l same))
 
 pub outcome_leaves : (w : World) (e : Event) → Sound w → Leaves w (outcome_of w e)
 outcome_leaves w (Site name disks blocks) s =
@@ -105,13 +109,13 @@ outcome_leaves w (Wait p number) s =
     (λ _. Guards.unless_holds (Keeps w) unconfirmed (Unconfirmed number) w answered (keeps_same w)
     (λ _. by_test (Leaves w) held (says w (Pending number)) promised (λ _. keeps_same w)
     (λ _. keeps_promising w w (keeps_same w) (Events.promises_of (w.nodes p) number (w.links p) w.sites)))))))
-outcome_leaves w (Link p q sync part) s =
+outcome_leaves w (Link p q sync prot part) s =
     Guards.at_site_holds (Keeps w) w p _ (keeps_same w)
     (λ _. Guards.at_site_holds (Keeps w) w q _ (keeps_same w)
-    (λ _. Guards.both_holds (Keeps w) w p q (link_part part w p q sync) (keeps_same w) (λ up there _ _. link_part_leaves part w p q sync s up there)))
-outcome_leaves w (Set p q sync) s =
-    let l : LinkRecord = record (w.links p q) { sync = sync; prot = FailsWhenFull } in
-    Guards.on_link_holds (Keeps w) is_origin w p q (done (with_link w p q l)) (keeps_same w) (λ _ _ _. keeps_links w w (keeps_same w) (with_link w p q l).links (made_link w p q l refl))
+    (λ _. Guards.both_holds (Keeps w) w p q (link_part part w p q sync prot) (keeps_same w) (λ up there _ _. link_part_leaves part w p q sync prot s up there)))
+outcome_leaves w (Set p q sync prot) s = set_leaves w p q (Events.link_with sync prot (w.links p q)) refl
+outcome_leaves w (Attach p q) s = set_leaves w p q (Events.link_attached (w.links p q)) refl
+outcome_leaves w (Detach p q) s = set_leaves w p q (Events.link_detached (w.links p q)) refl
 outcome_leaves w (Crash q kept) s =
     let o : Outcome = done (Events.crash_at w q (Events.kept_of (w.nodes q) kept)) in
     Guards.at_site_holds (Keeps w) w q (unless (not (is_up (w.nodes q).state)) NotUp w o) (keeps_same w)

@@ -3,7 +3,7 @@ use Rattle.std.specs.Prelude.{◌≡◌, ℕ, ◌<◌, false}
 use Rattle.vx_history.specs.Refusals.{is_running}
 use Rattle.vx_history.specs.World.{World}
 use Rattle.vx_history.specs.declared.event.Event.{Event}
-use Rattle.vx_history.specs.declared.event.Event.TheVariants.{Site, Raw, Group, Volumes, Write, Read, Apply, Pump, Tick, Deliver, Connect, Cut, Pause, Resume, Wait, Link, Set, Crash, Deport, Fall, Recover, Fault}
+use Rattle.vx_history.specs.declared.event.Event.TheVariants.{Site, Raw, Group, Volumes, Write, Read, Apply, Pump, Tick, Deliver, Connect, Cut, Pause, Resume, Wait, Link, Set, Attach, Detach, Crash, Deport, Fall, Recover, Fault}
 use Rattle.vx_history.specs.GoodWorld.{GoodWorld}
 use Rattle.vx_model.specs.declared.site.SiteState.TheVariants.{Up}
 
@@ -39,8 +39,10 @@ IsElsewhere s (Cut p q) = Unit {0}
 IsElsewhere s (Pause p q) = Unit {0}
 IsElsewhere s (Resume p q) = Unit {0}
 IsElsewhere s (Wait p number) = Unit {0}
-IsElsewhere s (Link p q sync part) = Unit {0}
-IsElsewhere s (Set p q sync) = Unit {0}
+IsElsewhere s (Link p q sync prot part) = Unit {0}
+IsElsewhere s (Set p q sync prot) = Unit {0}
+IsElsewhere s (Attach p q) = Unit {0}
+IsElsewhere s (Detach p q) = Unit {0}
 IsElsewhere s (Crash p kept) = p ≡ s → ⊥
 IsElsewhere s (Deport p) = Unit {0}
 IsElsewhere s (Fall p) = Unit {0}

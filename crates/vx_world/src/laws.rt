@@ -17,8 +17,9 @@ ghost use Rattle.vx_history.specs.Listed.{AreListed};
 ghost use Rattle.vx_history.specs.Steps.{stopped_by};
 ghost use Rattle.vx_history.specs.Events.{kept_of, packet_at};
 ghost use Rattle.vx_history.specs.Doubts.{After, Doubted, resolved, crashed_as, halved, happened};
-ghost use Rattle.vx_history.specs.declared.event.Event.TheVariants.{Deliver, Set, Link};
+ghost use Rattle.vx_history.specs.declared.event.Event.TheVariants.{Attach, Deliver, Detach, Link, Set};
 ghost use Rattle.vx_history.specs.declared.event.LinkPart.TheVariants.{Joins, Made, Marked, Opened};
+ghost use Rattle.vx_model.specs.declared.link.Prot.{Prot};
 ghost use Rattle.vx_model.specs.declared.link.SyncMode.{SyncMode};
 ghost use Rattle.vx_model.specs.declared.site.SiteState.TheVariants.{Up};
 ghost use Rattle.vx_history.specs.Stops.{EventsEnd, IsOpen, WritesAt};
@@ -109,12 +110,14 @@ pub fn passes_a_halted_site()
 
 /// The events that write a header of a log change one site and its links alone.
 pub fn changes_one_site()
-    ensures settings { (w : World) (s q : ℕ) (sync : SyncMode) → (w.nodes s).state ≡ Up → IsAlone s w (step w (Set s q sync)).world }
+    ensures settings { (w : World) (s q : ℕ) (sync : SyncMode) (prot : Prot) → (w.nodes s).state ≡ Up → IsAlone s w (step w (Set s q sync prot)).world }
+    ensures attaches { (w : World) (s q : ℕ) → (w.nodes s).state ≡ Up → IsAlone s w (step w (Attach s q)).world }
+    ensures detaches { (w : World) (s q : ℕ) → (w.nodes s).state ≡ Up → IsAlone s w (step w (Detach s q)).world }
     ensures heard { (w : World) (s number : ℕ) (p : Packet) → (w.nodes s).state ≡ Up → packet_at w.packets number ≡ Some p → p.target ≡ s → ((n : ℕ) (x : Write) → p.message ≡ Update n x → ⊥) → IsAlone s w (step w (Deliver number)).world }
-    ensures joins { (w : World) (s p : ℕ) (sync : SyncMode) → (w.nodes s).state ≡ Up → IsAlone s w (step w (Link p s sync Joins)).world }
-    ensures made { (w : World) (s q : ℕ) (sync : SyncMode) → (w.nodes s).state ≡ Up → IsAlone s w (step w (Link s q sync Made)).world }
-    ensures marked { (w : World) (s p : ℕ) (sync : SyncMode) → (w.nodes s).state ≡ Up → IsAlone s w (step w (Link p s sync Marked)).world }
-    ensures opened { (w : World) (s q : ℕ) (sync : SyncMode) → (w.nodes s).state ≡ Up → IsAlone s w (step w (Link s q sync Opened)).world }
+    ensures joins { (w : World) (s p : ℕ) (sync : SyncMode) (prot : Prot) → (w.nodes s).state ≡ Up → IsAlone s w (step w (Link p s sync prot Joins)).world }
+    ensures made { (w : World) (s q : ℕ) (sync : SyncMode) (prot : Prot) → (w.nodes s).state ≡ Up → IsAlone s w (step w (Link s q sync prot Made)).world }
+    ensures marked { (w : World) (s p : ℕ) (sync : SyncMode) (prot : Prot) → (w.nodes s).state ≡ Up → IsAlone s w (step w (Link p s sync prot Marked)).world }
+    ensures opened { (w : World) (s q : ℕ) (sync : SyncMode) (prot : Prot) → (w.nodes s).state ≡ Up → IsAlone s w (step w (Link s q sync prot Opened)).world }
 {}
 
 /// With any number of halted sites in doubt: an event that is done, one that a disk ends at a further site, and a crash of a site in doubt

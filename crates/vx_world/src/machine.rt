@@ -13,7 +13,7 @@ use crate::outages::{crash, deport, fall};
 use crate::pumps::pump;
 use crate::reads::read;
 use crate::recoveries::recover;
-use crate::settings::{link_sites, set};
+use crate::settings::{attach, detach, link_sites, set};
 use crate::sites::{add_site, make_group, make_raw, make_volumes};
 use crate::switches::{cut, pause, resume};
 use crate::ticks::tick;
@@ -95,8 +95,16 @@ fn happen(world: &mut World, event: &Event) -> Result<Said, OutOfMemory>
             site,
             to,
             sync,
+            prot,
             part,
-        } => link_sites(world, *site, *to, *sync, *part),
-        Event::Set { site, to, sync } => set(world, *site, *to, *sync),
+        } => link_sites(world, *site, *to, *sync, *prot, *part),
+        Event::Set {
+            site,
+            to,
+            sync,
+            prot,
+        } => set(world, *site, *to, *sync, *prot),
+        Event::Attach { site, to } => attach(world, *site, *to),
+        Event::Detach { site, to } => detach(world, *site, *to),
     }
 }

@@ -80,6 +80,7 @@ fn crash_site(world: &mut World, site: u32, kept: u64) -> Result<(), OutOfMemory
 {
     let node = world.node(site);
     let kept = (node.log.len() as u64).min(kept.max(node.safe));
+    world.mark_kept(site, kept)?;
     take_down(world, site, kept)?;
     world.lose_touch(site);
     world.empty(site);

@@ -3,9 +3,10 @@ ghost use Rattle.std.specs.Prelude.{◌≡◌, ◌<◌, ◌&&◌, not, length, I
 ghost use Rattle.vx_history.specs.Sends.{is_linked};
 ghost use Rattle.vx_history.specs.Receiving.{phase_takes};
 ghost use Rattle.vx_history.specs.Refusals.{says, is_primary as primary, is_consistent, is_stale_mode, is_empty, unless, count_links_of, follows as following};
+ghost use Rattle.vx_model.specs.declared.link.Prot.{Prot as PlainProt};
 ghost use Rattle.vx_model.specs.declared.link.SyncMode.{SyncMode};
 ghost use Rattle.vx_history.specs.Step.{outcome_of, link_part};
-ghost use Rattle.vx_history.specs.declared.event.Event.TheVariants.{Link as LinkSites, Set};
+ghost use Rattle.vx_history.specs.declared.event.Event.TheVariants.{Attach, Detach, Link as LinkSites, Set};
 ghost use Rattle.vx_history.specs.declared.event.LinkPart.TheVariants.{Joins, Made, Marked, Opened};
 ghost use Rattle.vx_model.specs.declared.no.No.TheVariants.{Role as WrongRole};
 ghost use Rattle.vx_history.specs.Events.{new_link};
@@ -18,17 +19,50 @@ use vx_sites::bounds::{count_links, follows, is_primary, refuse_join, refuse_mad
 use vx_sites::refusals::{refuse_link_of_origin, refuse_site, refuse_work_of_both};
 use vx_sites::{Link, World};
 
-/// The link has this setting from now on, and srlprot=fail. Refused with 1, 5, 6 and 20.
-pub fn set(world: &mut World, from: u32, to: u32, sync: SyncMode) -> Result<Said, OutOfMemory>
-    ensures { IfOk result (λ said. says (world_of world.new) said ≡ outcome_of (world_of world.old) (Set from to sync)) }
+/// The link has these settings from now on. Refused with 1, 5, 6 and 20.
+pub fn set(
+    world: &mut World,
+    from: u32,
+    to: u32,
+    sync: SyncMode,
+    prot: Prot,
+) -> Result<Said, OutOfMemory>
+    ensures { IfOk result (λ said. says (world_of world.new) said ≡ outcome_of (world_of world.old) (Set from to sync prot)) }
 {
     if let Some(no) = refuse_link_of_origin(world, from, to) {
         return Ok(Said::Refused(no));
     }
     let mut link = world.link(from, to);
     link.state.sync = sync;
-    link.state.prot = Prot::Fail;
+    link.state.prot = prot;
     world.set_link(from, to, link)?;
+    Ok(Said::Done)
+}
+
+/// The link holds the log from now on. Refused with 1, 5, 6 and 20.
+pub fn attach(world: &mut World, from: u32, to: u32) -> Result<Said, OutOfMemory>
+    ensures { IfOk result (λ said. says (world_of world.new) said ≡ outcome_of (world_of world.old) (Attach from to)) }
+{
+    if let Some(no) = refuse_link_of_origin(world, from, to) {
+        return Ok(Said::Refused(no));
+    }
+    let mut link = world.link(from, to);
+    link.state.attached = true;
+    world.set_link(from, to, link)?;
+    Ok(Said::Done)
+}
+
+/// The link holds nothing from now on, and is given up. Refused with 1, 5, 6 and 20.
+pub fn detach(world: &mut World, from: u32, to: u32) -> Result<Said, OutOfMemory>
+    ensures { IfOk result (λ said. says (world_of world.new) said ≡ outcome_of (world_of world.old) (Detach from to)) }
+{
+    if let Some(no) = refuse_link_of_origin(world, from, to) {
+        return Ok(Said::Refused(no));
+    }
+    let mut link = world.link(from, to);
+    link.state.attached = false;
+    link.state.mode = Mode::Stale;
+    world.renew_link(from, to, link)?;
     Ok(Said::Done)
 }
 
@@ -38,9 +72,10 @@ pub fn link_sites(
     from: u32,
     to: u32,
     sync: SyncMode,
+    prot: Prot,
     part: LinkPart,
 ) -> Result<Said, OutOfMemory>
-    ensures { IfOk result (λ said. says (world_of world.new) said ≡ outcome_of (world_of world.old) (LinkSites from to sync part)) }
+    ensures { IfOk result (λ said. says (world_of world.new) said ≡ outcome_of (world_of world.old) (LinkSites from to sync prot part)) }
 {
     if let Some(no) = refuse_site(world, from) {
         return Ok(Said::Refused(no));
@@ -51,7 +86,7 @@ pub fn link_sites(
     if let Some(no) = refuse_work_of_both(world, from, to) {
         return Ok(Said::Refused(no));
     }
-    link_by_part(world, from, to, sync, part)
+    link_by_part(world, from, to, sync, prot, part)
 }
 
 fn link_by_part(
@@ -59,15 +94,16 @@ fn link_by_part(
     from: u32,
     to: u32,
     sync: SyncMode,
+    prot: Prot,
     part: LinkPart,
 ) -> Result<Said, OutOfMemory>
     requires from { from < length world.old.nodes.items }
     requires to { to < length world.old.nodes.items }
-    ensures { IfOk result (λ said. says (world_of world.new) said ≡ link_part part (world_of world.old) from to sync) }
+    ensures { IfOk result (λ said. says (world_of world.new) said ≡ link_part part (world_of world.old) from to sync prot) }
 {
     match part {
         LinkPart::Joins => join(world, from, to),
-        LinkPart::Made => make_link(world, from, to, sync),
+        LinkPart::Made => make_link(world, from, to, sync, prot),
         LinkPart::Marked => Ok(mark(world, from, to)),
         LinkPart::Opened => open_link(world, from, to),
     }
@@ -77,7 +113,7 @@ fn link_by_part(
 fn join(world: &mut World, from: u32, to: u32) -> Result<Said, OutOfMemory>
     requires from { from < length world.old.nodes.items }
     requires to { to < length world.old.nodes.items }
-    ensures { (sync : SyncMode) → IfOk result (λ said. says (world_of world.new) said ≡ link_part Joins (world_of world.old) from to sync) }
+    ensures { (sync : SyncMode) (prot : PlainProt) → IfOk result (λ said. says (world_of world.new) said ≡ link_part Joins (world_of world.old) from to sync prot) }
 {
     if let Some(no) = refuse_join(world, from, to) {
         return Ok(Said::Refused(no));
@@ -88,10 +124,16 @@ fn join(world: &mut World, from: u32, to: u32) -> Result<Said, OutOfMemory>
 }
 
 // Refused with 5 and 2.
-fn make_link(world: &mut World, from: u32, to: u32, sync: SyncMode) -> Result<Said, OutOfMemory>
+fn make_link(
+    world: &mut World,
+    from: u32,
+    to: u32,
+    sync: SyncMode,
+    prot: Prot,
+) -> Result<Said, OutOfMemory>
     requires from { from < length world.old.nodes.items }
     requires to { to < length world.old.nodes.items }
-    ensures { IfOk result (λ said. says (world_of world.new) said ≡ link_part Made (world_of world.old) from to sync) }
+    ensures { IfOk result (λ said. says (world_of world.new) said ≡ link_part Made (world_of world.old) from to sync prot) }
 {
     if let Some(no) = refuse_no_receiver(world, from, to) {
         return Ok(Said::Refused(no));
@@ -99,7 +141,7 @@ fn make_link(world: &mut World, from: u32, to: u32, sync: SyncMode) -> Result<Sa
     if let Some(no) = refuse_made(world, from, to) {
         return Ok(Said::Refused(no));
     }
-    world.set_link(from, to, next_link(world, from, to, sync))?;
+    world.renew_link(from, to, next_link(world, from, to, sync, prot))?;
     Ok(Said::Done)
 }
 
@@ -116,18 +158,18 @@ fn refuse_no_receiver(world: &World, from: u32, to: u32) -> Option<No>
 }
 
 // The next link that the site `from` makes.
-fn next_link(world: &World, from: u32, to: u32, sync: SyncMode) -> Link
+fn next_link(world: &World, from: u32, to: u32, sync: SyncMode, prot: Prot) -> Link
     requires { to < length world.now.nodes.items }
-    ensures { let w = world_of world.now in link_of result ≡ new_link (count_links_of w from) sync (w.nodes to) }
+    ensures { let w = world_of world.now in link_of result ≡ new_link (count_links_of w from) sync prot (w.nodes to) }
 {
-    Link::new(count_links(world, from), sync, world.node(to).session)
+    Link::new(count_links(world, from), sync, prot, world.node(to).session)
 }
 
 // Refused with 5.
 fn mark(world: &mut World, from: u32, to: u32) -> Said
     requires from { from < length world.old.nodes.items }
     requires to { to < length world.old.nodes.items }
-    ensures { (sync : SyncMode) → says (world_of world.new) result ≡ link_part Marked (world_of world.old) from to sync }
+    ensures { (sync : SyncMode) (prot : PlainProt) → says (world_of world.new) result ≡ link_part Marked (world_of world.old) from to sync prot }
 {
     let here = world.node(from);
     let is_first = is_primary(here) && follows(world, from, to);
@@ -142,7 +184,7 @@ fn mark(world: &mut World, from: u32, to: u32) -> Said
 fn open_link(world: &mut World, from: u32, to: u32) -> Result<Said, OutOfMemory>
     requires from { from < length world.old.nodes.items }
     requires to { to < length world.old.nodes.items }
-    ensures { (sync : SyncMode) → IfOk result (λ said. says (world_of world.new) said ≡ link_part Opened (world_of world.old) from to sync) }
+    ensures { (sync : SyncMode) (prot : PlainProt) → IfOk result (λ said. says (world_of world.new) said ≡ link_part Opened (world_of world.old) from to sync prot) }
 {
     if !may_open(world, from, to) {
         return Ok(Said::Refused(No::Role));

@@ -85,7 +85,7 @@ fn write_unless_most(
     if let Some(no) = refuse_most(world.node(site).safe) {
         return Ok(Said::Refused(no));
     }
-    world.let_in(site, &write);
+    world.let_in(site, &write)?;
     put(world, site, write, fails)
 }
 
@@ -110,6 +110,7 @@ fn put_whole(world: &mut World, site: u32, write: Write) -> Result<Said, OutOfMe
 {
     let number = world.node(site).safe + 1;
     let is_waited = is_waited_for(world, site);
+    world.mark_writes(site, &[write])?;
     world.log_write(site, write)?;
     if is_waited {
         Ok(Said::Logged(number))

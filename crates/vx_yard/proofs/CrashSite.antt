@@ -3,7 +3,7 @@ use Rattle.std.proofs.Common.{◌≡◌, ◌∙◌, ◌<◌, ◌≤◌, ℕ, Boo
 use Rattle.std.specs.Prelude.{Option, Some, None, slice_get, slice_set}
 use Rattle.vx_history.proofs.Updates.{at_place}
 use Rattle.vx_history.specs.Doubts.{After, Doubted, happened, resolved_at, taken_up}
-use Rattle.vx_history.specs.Events.{kept_of, lost_touch}
+use Rattle.vx_history.specs.Events.{kept_of, link_left}
 use Rattle.vx_history.specs.Groups.{GroupNode}
 use Rattle.vx_history.specs.Refusals.{Outcome}
 use Rattle.vx_history.specs.Step.{step}
@@ -24,10 +24,10 @@ use Rattle.vx_diskset.specs.Stands.{SiteStands}
 use Rattle.vx_diskset.specs.declared.disk_set.DiskSet.{DiskSet}
 use Rattle.vx_diskset.proofs.FailSets.{stands_failing}
 use Rattle.vx_diskset.specs.DiskSets.{fell_to}
-use Rattle.vx_effects.proofs.Effects.{changes_same, changes_then, crash_effect, resolved_changes}
+use Rattle.vx_effects.proofs.Effects.{changes_same, changes_then, left_effect, resolved_changes}
 use Rattle.vx_effects.proofs.Fitting.{fit_happened}
 use Rattle.vx_effects.proofs.Leaving.{fit_disks}
-use Rattle.vx_effects.proofs.Rows.{touch_kept}
+use Rattle.vx_effects.proofs.Rows.{left_kept}
 use Rattle.vx_events.proofs.Places.{never_some, some_same}
 use Rattle.vx_events.proofs.Steps.{crash_step, kept_is}
 use Rattle.vx_events.specs.Doubts.{doubt_chosen, run_as, with_disks}
@@ -136,8 +136,8 @@ module _ (d : Doubted) (s count : ℕ) (taken : Bool) (m : Node) (row : ℕ → 
   up_r : (r.world.nodes s).state ≡ Up
   up_r = ap (λ (k : Node). k.state) node_is ∙ up
 
-  eff : EffectAt s d h (crashed (r.world.nodes s) (kept_of (r.world.nodes s) count)) (λ k. lost_touch (r.world.links s k)) (d.world.headers s) None d.world.packets None
-  eff = crash_effect d s count taken below_r up_r
+  eff : EffectAt s d h (crashed (r.world.nodes s) (kept_of (r.world.nodes s) count)) (λ k. link_left (r.world.nodes s) (kept_of (r.world.nodes s) count) (r.world.links s k)) (d.world.headers s) None d.world.packets None
+  eff = left_effect d s count taken below_r up_r
 
   pub crash_changes : ChangesNode s d e
   crash_changes = changes_then s d h e eff.site (changes_disks taken s d.world h)
@@ -158,16 +158,17 @@ module _ (d : Doubted) (s count : ℕ) (taken : Bool) (m : Node) (row : ℕ → 
 
   pub crash_beside : beside_of e s ≡ record { links = row_links row d.world.sites; headers = d.world.headers s; doubt = None }
   crash_beside =
+      let left : Link → Link = link_left (r.world.nodes s) (kept_of (r.world.nodes s) count) in
       beside_sure e s (row_links row d.world.sites) (d.world.headers s)
-      (row_links_same (λ k. lost_touch (row k)) (e.world.links s) (λ k. same_links taken s d.world h.world k ∙ eff.is.links k ∙ ap lost_touch (row_is k)) e.world.sites
-      ∙ ap (λ (n : ℕ). row_links (λ k. lost_touch (row k)) n) crash_changes.sites ∙ touch_kept row d.world.sites)
+      (row_links_same (λ k. left (row k)) (e.world.links s) (λ k. same_links taken s d.world h.world k ∙ eff.is.links k ∙ ap left (row_is k)) e.world.sites
+      ∙ ap (λ (n : ℕ). row_links (λ k. left (row k)) n) crash_changes.sites ∙ left_kept (r.world.nodes s) (kept_of (r.world.nodes s) count) row d.world.sites)
       (same_headers taken s d.world h.world ∙ eff.is.headers) eff.is.after
 
   pub crash_said : (step (doubt_chosen taken d (CrashAt s count)).world (CrashAt s count)).said ≡ IsDone
   crash_said = ap (λ (o : Outcome). o.said) (crash_step r.world s count below_r up_r)
 
   pub crash_fits : LinksFit d → LinksFit e
-  crash_fits fits = fit_disks taken s d.world h (fit_happened d (CrashAt s count) taken fits)
+  crash_fits fits = fit_disks taken s d.world h (fit_happened d (CrashAt s count) taken tt fits)
 
   -- what the tests see of it
   pub crash_fact : m.name ≡ (d.world.nodes s).name → m.disks ≡ (d.world.nodes s).disks → m.blocks ≡ (d.world.nodes s).blocks → m.volumes ≡ (d.world.nodes s).volumes

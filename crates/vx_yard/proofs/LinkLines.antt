@@ -270,7 +270,7 @@ module _ {R : Type 0} {g : Ghosts R} where
       let a : ℕ = site_number d.world p in
       let b : ℕ = site_number d.world s in
       let sends = connect_sends d.world a b in
-      brings_by d (step d.world (ConnectAt a b)).world (Connect p s) Done old new sends.0 stands carries (connect_leaves d.world a b) sends.1 (fit_happened d (ConnectAt a b) false stands.links)
+      brings_by d (step d.world (ConnectAt a b)).world (Connect p s) Done old new sends.0 stands carries (connect_leaves d.world a b) sends.1 (fit_happened d (ConnectAt a b) false tt stands.links)
       (connect_done (IsTold new) d p s comes.said) relinks (facts ∙ comes.stands.facts) comes.stands.flight
 
   pub cut_brings : (d : Doubted) (old new : Yard R g) (p s : List ℕ) (fs : List SiteFacts) → StandsFor d old → Carries d old → ComesBehind d.world (CutAt (site_number d.world p) (site_number d.world s)) fs new.flight
@@ -279,7 +279,7 @@ module _ {R : Type 0} {g : Ghosts R} where
       let a : ℕ = site_number d.world p in
       let b : ℕ = site_number d.world s in
       brings_by d (step d.world (CutAt a b)).world (Cut p s) Done old new [] stands carries (cut_leaves d.world a b) (cut_sends d.world a b ∙ sym (append-nil d.world.packets))
-      (fit_happened d (CutAt a b) false stands.links) (cut_done (IsTold new) d p s comes.said) relinks (facts ∙ comes.stands.facts) comes.stands.flight
+      (fit_happened d (CutAt a b) false tt stands.links) (cut_done (IsTold new) d p s comes.said) relinks (facts ∙ comes.stands.facts) comes.stands.flight
 
   pub pause_brings : (d : Doubted) (old new : Yard R g) (p s : List ℕ) (fs : List SiteFacts) → StandsFor d old → Carries d old → ComesBehind d.world (PauseAt (site_number d.world p) (site_number d.world s)) fs new.flight
       → new.facts.items ≡ fs → Relinks old new → Leads d (Pause p s) Done old new
@@ -287,7 +287,7 @@ module _ {R : Type 0} {g : Ghosts R} where
       let a : ℕ = site_number d.world p in
       let b : ℕ = site_number d.world s in
       brings_by d (step d.world (PauseAt a b)).world (Pause p s) Done old new [] stands carries (pause_leaves d.world a b) (pause_sends d.world a b ∙ sym (append-nil d.world.packets))
-      (fit_happened d (PauseAt a b) false stands.links) (pause_done (IsTold new) d p s comes.said) relinks (facts ∙ comes.stands.facts) comes.stands.flight
+      (fit_happened d (PauseAt a b) false tt stands.links) (pause_done (IsTold new) d p s comes.said) relinks (facts ∙ comes.stands.facts) comes.stands.flight
 
   pub resume_brings : (d : Doubted) (old new : Yard R g) (p s : List ℕ) (fs : List SiteFacts) → StandsFor d old → Carries d old → ComesBehind d.world (ResumeAt (site_number d.world p) (site_number d.world s)) fs new.flight
       → new.facts.items ≡ fs → Relinks old new → Leads d (Resume p s) Done old new
@@ -295,7 +295,7 @@ module _ {R : Type 0} {g : Ghosts R} where
       let a : ℕ = site_number d.world p in
       let b : ℕ = site_number d.world s in
       brings_by d (step d.world (ResumeAt a b)).world (Resume p s) Done old new [] stands carries (resume_leaves d.world a b) (resume_sends d.world a b ∙ sym (append-nil d.world.packets))
-      (fit_happened d (ResumeAt a b) false stands.links) (resume_done (IsTold new) d p s comes.said) relinks (facts ∙ comes.stands.facts) comes.stands.flight
+      (fit_happened d (ResumeAt a b) false tt stands.links) (resume_done (IsTold new) d p s comes.said) relinks (facts ∙ comes.stands.facts) comes.stands.flight
 
   pub tick_brings : (d : Doubted) (old new : Yard R g) (p s : List ℕ) (fs : List SiteFacts) → StandsFor d old → Carries d old → ComesBehind d.world (TickAt (site_number d.world p) (site_number d.world s)) fs new.flight
       → new.facts.items ≡ fs → Relinks old new → Leads d (Tick p s) Done old new
@@ -303,7 +303,7 @@ module _ {R : Type 0} {g : Ghosts R} where
       let a : ℕ = site_number d.world p in
       let b : ℕ = site_number d.world s in
       brings_by d (step d.world (TickAt a b)).world (Tick p s) Done old new [] stands carries (tick_leaves d.world a b) (tick_sends d.world a b ∙ sym (append-nil d.world.packets))
-      (fit_happened d (TickAt a b) false stands.links) (tick_done (IsTold new) d p s comes.said) relinks (facts ∙ comes.stands.facts) comes.stands.flight
+      (fit_happened d (TickAt a b) false tt stands.links) (tick_done (IsTold new) d p s comes.said) relinks (facts ∙ comes.stands.facts) comes.stands.flight
 
   pub wait_brings : (d : Doubted) (y : Yard R g) (p : List ℕ) (number : ℕ) (said : Said) (o : EventSaid) (fs : List SiteFacts) → StandsFor d y → Carries d y → (files : Bool) → refused_over d.world files (Wait p number) ≡ None
       → o ≡ (step d.world (WaitAt (site_number d.world p) number)).said → fs ≡ y.facts.items → fs ≡ facts_over (step d.world (WaitAt (site_number d.world p) number)).world → said ≡ reply_of o
@@ -314,7 +314,7 @@ module _ {R : Type 0} {g : Ghosts R} where
       let sends : v.packets ≡ d.world.packets = wait_sends d.world a number in
       subst (λ (x : Said). Leads d (Wait p number) x y y) (sym (replied ∙ ap reply_of is))
       (brings_by d v (Wait p number) (reply_of (step d.world (WaitAt a number)).said) y y [] stands carries (wait_leaves d.world a number) (sends ∙ sym (append-nil d.world.packets))
-      (fit_happened d (WaitAt a number) false stands.links) (wait_done (IsTold y) files d p number (all_listed d.world (λ k. (stands.links.rows k).places)) free)
+      (fit_happened d (WaitAt a number) false tt stands.links) (wait_done (IsTold y) files d p number (all_listed d.world (λ k. (stands.links.rows k).places)) free)
       (record { disk_sets = refl; racks = refl; assemblies = refl; feeders = refl }) (sym same ∙ facts) (subst (λ (ps : List Packet). FlightStands ps y.flight) (sym sends) carries.flight))
 
   -- no test of the line refuses it, as the world sees it

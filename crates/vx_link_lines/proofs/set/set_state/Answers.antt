@@ -1,5 +1,6 @@
 -- The state with the links as the header keeps them behind the setting.
 use Rattle.std.proofs.Common.{◌≡◌, ◌∙◌, List, ap}
+use Rattle.vx_model.specs.declared.link.Prot.TheVariants.{Fail as FailsWhenFull}
 use Rattle.vx_model.specs.declared.link.Link.{Link as PlainLink}
 use Rattle.vx_model.specs.declared.site.SiteState.{SiteState}
 use Rattle.vx_model.specs.declared.state.KeptLink.{KeptLink}
@@ -24,7 +25,7 @@ returns-clause-is g c = λ beside n w stood up alone facts has said.
     ∙ ap (λ (t : SiteState). links_by t (links_of_site w c.args.here)) found.up in
     let kept = c.in-Some-kept_facts.ensures.world w c.args.here (c.as_slice.ensures ∙ here) in
     let state = (c.in-Some-state.ensures.is beside n stood up alone).0 in
-    let links : c.kept_with.result ≡ header_links (step w (SetAt c.args.here c.args.there c.args.sync)).world c.args.here =
+    let links : c.kept_with.result ≡ header_links (step w (SetAt c.args.here c.args.there c.args.sync FailsWhenFull)).world c.args.here =
     c.kept_with.ensures.links
     ∙ ap (λ (l : PlainLink). kept_over (kept_plain l) c.as_slice-2.result.now) c.with_setting-link.ensures
     ∙ ap (λ (ls : List KeptLink). kept_over (kept_plain (set_link c.in-Some.l.link c.args.sync)) ls) (c.as_slice-2.ensures.links ∙ kept)

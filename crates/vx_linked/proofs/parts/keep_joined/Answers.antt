@@ -1,6 +1,7 @@
 -- `keep_joined`: clauses world and links.
 use Rattle.std.proofs.Common.{◌≡◌, ◌∙◌, ap, refl, sym}
 use Rattle.std.specs.Prelude.{slice_set}
+use Rattle.vx_model.specs.declared.link.Prot.TheVariants.{Fail as FailsWhenFull}
 use Rattle.vx_order.specs.declared.facts.RvgFacts.{RvgFacts}
 use Rattle.vx_order.specs.declared.facts.SiteFacts.{SiteFacts}
 use Rattle.vx_events.proofs.Places.{never_some, some_same}
@@ -15,7 +16,7 @@ use Rattle.vx_linked.proofs.parts.keep_joined.Goals as goal
 
 pub returns-in-Some-clause-world : goal.returns-in-Some-clause-world
 returns-in-Some-clause-world c = λ w sync facts first second said.
-    let two = (two_done w c.args.here c.args.there sync Joins said).0 in
+    let two = (two_done w c.args.here c.args.there sync FailsWhenFull Joins said).0 in
     let there : c.index-sites-here.result ≡ linked_fact w c.args.here = c.index-sites-here.is ∙ site_of w c.args.sites.now c.args.here _ facts two.first first c.requires.first in
     let group : c.in-Some.first ≡ group_fact (w.nodes c.args.here) =
     some_same (sym c.in-Some.is ∙ c.group_of.ensures ∙ ap (λ (f : SiteFacts). f.rvg) (sym c.index-sites-here.is ∙ there) ∙ group_shown w c.args.here c.args.there sync said) in
@@ -28,7 +29,7 @@ returns-in-Some-clause-links c = joined_links c.in-Some.first.line c.in-Some.fir
 
 pub returns-in_default-clause-world : goal.returns-in_default-clause-world
 returns-in_default-clause-world c = λ w sync facts first second said.
-    let two = (two_done w c.args.here c.args.there sync Joins said).0 in
+    let two = (two_done w c.args.here c.args.there sync FailsWhenFull Joins said).0 in
     let there : c.index-sites-here.result ≡ linked_fact w c.args.here = c.index-sites-here.is ∙ site_of w c.args.sites.now c.args.here _ facts two.first first c.requires.first in
     absurd (never_some (sym c.in_default.is ∙ c.group_of.ensures ∙ ap (λ (f : SiteFacts). f.rvg) (sym c.index-sites-here.is ∙ there) ∙ group_shown w c.args.here c.args.there sync said))
 

@@ -1,5 +1,6 @@
 -- `keep_opened`: its result.
 use Rattle.std.proofs.Common.{◌∙◌, ap, refl, sym}
+use Rattle.vx_model.specs.declared.link.Prot.TheVariants.{Fail as FailsWhenFull}
 use Rattle.vx_order.specs.declared.facts.LinkFacts.{LinkFacts}
 use Rattle.vx_history.specs.declared.event.LinkPart.TheVariants.{Opened}
 use Rattle.vx_effects.proofs.LinkParts.{two_done}
@@ -19,6 +20,6 @@ returns-in-Some c = record {
 pub returns-in_default : goal.returns-in_default
 returns-in_default c = record {
   world = λ w sync facts alone has last said.
-      let two = (two_done w c.args.here c.args.there sync Opened said).0 in
+      let two = (two_done w c.args.here c.args.there sync FailsWhenFull Opened said).0 in
       absurd (some_between w c.args.sites.now c.args.here c.args.there facts two.first alone two.up has (opened_linked w c.args.here c.args.there sync said) (sym c.link_between.ensures.link ∙ c.in_default.is));
 }

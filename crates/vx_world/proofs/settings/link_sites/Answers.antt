@@ -9,7 +9,7 @@ use Rattle.vx_world.proofs.settings.link_sites.Goals as goal
 pub returns : goal.returns
 returns c =
     let w = world_of c.args.world.now in
-    let o = link_part c.args.part w c.args.from c.args.to c.args.sync in
+    let o = link_part c.args.part w c.args.from c.args.to c.args.sync c.args.prot in
     let o2 = both_at_work w c.args.from c.args.to o in
     passed c.link_by_part.result (world_of c.link_by_part.new.world) o (at_site w c.args.from (at_site w c.args.to o2))
     (c.in_default-refuse_work_of_both.ensures o ∙ c.in_default-refuse_site.ensures.refuses o2 ∙ c.in_default.ensures.refuses

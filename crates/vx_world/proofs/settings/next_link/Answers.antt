@@ -8,4 +8,4 @@ use Rattle.vx_world.proofs.settings.next_link.Goals as goal
 pub returns : goal.returns
 returns c =
     let n = (world_of c.args.world.now).nodes c.args.to in
-    c.new.ensures n (ap (λ (m : Node). m.session) (sym c.node.ensures)) ∙ ap (λ (k : ℕ). new_link k c.args.sync n) c.count_links.ensures
+    c.new.ensures n (ap (λ (m : Node). m.session) (sym c.node.ensures)) ∙ ap (λ (k : ℕ). new_link k c.args.sync c.args.prot n) c.count_links.ensures
