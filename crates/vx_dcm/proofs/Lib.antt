@@ -3,3 +3,5 @@ pub mod Tallies
 pub mod RunMarks
 pub mod SlotMarks
 pub mod Fits
+pub mod Steps
+pub mod JoinMarks

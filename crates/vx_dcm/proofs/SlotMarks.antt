@@ -1,17 +1,18 @@
 -- A change of a run of regions in the maps of several places of a link, one place after another.
-use Rattle.std.proofs.Common.{◌≡◌, ◌∙◌, ◌⊎◌, inl, inr, ⊎_elim, ℕ, ◌+◌, ◌-◌, ◌*◌, ◌/◌, ◌%◌, ◌<◌, ◌≤◌, Bool, true, false, List, length, refl, sym, ap, subst, arith}
+use Rattle.std.proofs.Common.{◌≡◌, ◌∙◌, ◌⊎◌, inl, inr, ⊎_elim, ℕ, ◌+◌, ◌-◌, ◌*◌, ◌<◌, ◌≤◌, Bool, true, false, List, length, refl, sym, ap, subst, arith}
 use Rattle.std.proofs.lemmas.Bool.{cases_eq}
 use Rattle.vx_model.specs.Sizes.{regions_of}
 use Rattle.vx_model.specs.declared.no.No.{No}
 use Rattle.vx_model.specs.declared.no.No.TheVariants.{Device, Down}
 use Rattle.vx_disk.specs.Causes.{DeviceCause}
 use Rattle.vx_disk.specs.Moves.{Moves, Run, Says}
-use Rattle.vx_disk.specs.Shelf.{Image, Meaning}
-use Rattle.vx_disk.proofs.Moving.{goes_on, still}
+use Rattle.vx_disk.specs.Shelf.{Meaning}
+use Rattle.vx_disk.proofs.Moving.{still}
 use Rattle.vx_bitmap.specs.Bits.{AllAre, bit, is_marked}
-use Rattle.vx_bitmap.specs.Maps.{Lies, MapOn, SamePlace, is_marked_in, map_block_count, regions_mapped}
+use Rattle.vx_bitmap.specs.Maps.{Lies, MapOn, SamePlace, map_block_count, regions_mapped}
 use Rattle.vx_dcm.specs.Places.{HasRegion, IsPlaceAmong, IsOfRun, IsOfSlots, IsPlaceOfSlots, MapChanging, Maps, MapsBetween, SlotsMarked, SomeChanged, has_mark, map_first, mapped_size, region_place}
 use Rattle.vx_dcm.proofs.RunMarks.{before_last, behind_first}
+use Rattle.vx_dcm.proofs.Steps.{step_bits, step_moves, step_part, step_place}
 
 -- the maps of the places below n are done
 pub record SlotsDone (d : Maps) (marks v first last n : ℕ) (now : Maps) (m m' : Meaning) : Type 0 where
@@ -75,63 +76,25 @@ module _ (d : Maps) (marks v first last n : ℕ) (now new : Maps) (m mid m' : Me
     among = record { low = subst (λ (k : ℕ). k ≤ r) (place_as first) among.low; high = subst (λ (k : ℕ). r ≤ k) (place_as last) among.high };
   }
 
-  bits_then : (x y z : Bool) (r : ℕ) → (y ≡ x) ⊎ (IsPlaceOfSlots d marks v first last r × (y ≡ true)) → (z ≡ y) ⊎ (IsPlaceAmong (region_place now n v first) (region_place now n v last) r × (z ≡ true))
-      → (z ≡ x) ⊎ (IsPlaceOfSlots d marks v first last r × (z ≡ true))
-  bits_then x y z r (inl was) (inl same) = inl (same ∙ was)
-  bits_then x y z r (inr set) (inl same) = inr (set.0, same ∙ set.1)
-  bits_then x y z r one (inr now_set) = inr (among_as r now_set.0, now_set.1)
-
-  in_map : (r : ℕ) → r < regions_mapped d.map → r < regions_mapped now.map
-  in_map r inside = omega (arith, inside, done.place.long)
-
   -- whatever the step answers
   pub slots_bits : SomeChanged (IsPlaceOfSlots d marks v first last) true (regions_mapped d.map) (is_marked d.map.bytes) (is_marked new.map.bytes)
-  slots_bits = record {
-    each = λ r inside. bits_then (is_marked d.map.bytes r) (is_marked now.map.bytes r) (is_marked new.map.bytes r) r (done.bits.each r inside) (bits.each r (in_map r inside));
-  }
+  slots_bits = step_bits d now new (IsPlaceOfSlots d marks v first last) (IsPlaceAmong (region_place now n v first) (region_place now n v last)) m mid m' done.place among_as done.bits bits
 
   pub slots_moves : Moves (Run d.map.unit d.map.first (map_block_count d.map)) (MapChanging d.map (IsPlaceOfSlots d marks v first last) true m) m m'
   slots_moves =
-      goes_on (Run d.map.unit d.map.first (map_block_count d.map)) (Run now.map.unit now.map.first (map_block_count now.map)) (MapChanging d.map (IsPlaceOfSlots d marks v first last) true m)
-      (MapChanging now.map (IsPlaceAmong (region_place now n v first) (region_place now n v last)) true mid) m mid m' done.moves moves
-      (λ u b run. record { there = run.there ∙ done.place.unit; first = omega (arith, run.first, done.place.first); last = omega (arith, run.last, done.place.first, done.place.long) })
-      (λ i beside changing. record {
-        each = λ on. record {
-          each = λ r inside.
-              bits_then (is_marked d.map.bytes r) (is_marked now.map.bytes r) (is_marked_at i r) r (done.bits.each r inside)
-              (as_here i r ((changing.each (done.stands on)).each r (in_map r inside)));
-        };
-      })
-    where
-      is_marked_at : Image → ℕ → Bool
-      is_marked_at i r = is_marked_in d.map i r
-
-      as_here : (i : Image) (r : ℕ) → (is_marked_in now.map i r ≡ is_marked now.map.bytes r) ⊎ (IsPlaceAmong (region_place now n v first) (region_place now n v last) r × (is_marked_in now.map i r ≡ true))
-          → (is_marked_in d.map i r ≡ is_marked now.map.bytes r) ⊎ (IsPlaceAmong (region_place now n v first) (region_place now n v last) r × (is_marked_in d.map i r ≡ true))
-      as_here i r =
-          let here : is_marked_in d.map i r ≡ is_marked_in now.map i r
-          = ap (λ (u : ℕ). is_marked (i u (d.map.first + r / 4096)) (r % 4096)) (sym done.place.unit) ∙ ap (λ (f : ℕ). is_marked (i now.map.unit (f + r / 4096)) (r % 4096)) (sym done.place.first) in
-          λ is. ⊎_elim (λ same. inl (here ∙ same)) (λ set. inr (set.0, here ∙ set.1)) is
+      step_moves d now new (IsPlaceOfSlots d marks v first last) (IsPlaceAmong (region_place now n v first) (region_place now n v last)) m mid m' done.place among_as done.bits
+      done.stands done.moves moves
 
   pub slots_place : SamePlace d.map new.map
-  slots_place = record { unit = place.unit ∙ done.place.unit; first = place.first ∙ done.place.first; long = place.long ∙ done.place.long }
+  slots_place = step_place d now new done.place place
 
   pub slots_sizes : new.sizes ≡ d.sizes
   slots_sizes = sizes ∙ done.sizes
 
-  now_region : (k w q : ℕ) → HasRegion d k w q → HasRegion now k w q
-  now_region k w q has = subst (λ (xs : List ℕ). HasRegion (record { map = now.map; sizes = xs }) k w q) (sym done.sizes) (record { map = record { place = has.map.place; volume = has.map.volume }; region = has.region })
-
   pub slots_part : MapsBetween (IsOfSlots marks v first last) true d new
-  slots_part = record {
-    each = λ k w q has. by (has_mark d k w q) (has_mark now k w q) (has_mark new k w q) k w q (done.part.each k w q has) (part.each k w q (now_region k w q has));
-  }
-    where
-      by : (x y z : Bool) (k w q : ℕ) → (y ≡ x) ⊎ (IsOfSlots marks v first last k w q × (y ≡ true)) → (z ≡ y) ⊎ (IsOfRun n v first last k w q × (z ≡ true))
-          → (z ≡ x) ⊎ (IsOfSlots marks v first last k w q × (z ≡ true))
-      by x y z k w q (inl was) (inl same) = inl (same ∙ was)
-      by x y z k w q (inr set) (inl same) = inr (set.0, same ∙ set.1)
-      by x y z k w q one (inr set) = inr (record { named = ap (λ (j : ℕ). bit marks j) set.0.place ∙ named; run = record { place = refl; volume = set.0.volume; low = set.0.low; high = set.0.high } }, set.1)
+  slots_part =
+      step_part d now new (IsOfSlots marks v first last) (IsOfRun n v first last) done.sizes
+      (λ k w q run. record { named = ap (λ (j : ℕ). bit marks j) run.place ∙ named; run = record { place = refl; volume = run.volume; low = run.low; high = run.high } }) done.part part
 
   pub slots_next : HasRegion d 0 v last → AllAre first last true (has_mark new n v) → (MapOn now.map mid → MapOn new.map m') → SlotsDone d marks v first last (n + 1) new m m'
   slots_next has all stands = record {

@@ -1,5 +1,5 @@
 // The change maps of a group.
-ghost use Rattle.std.specs.Prelude.{◌≡◌, ◌+◌, ◌-◌, ◌*◌, ◌<◌, ◌≤◌, IfErr, IfOk, IsFalse, IsTrue, OnOk, true};
+ghost use Rattle.std.specs.Prelude.{◌≡◌, ◌+◌, ◌-◌, ◌*◌, ◌^◌, ◌<◌, ◌≤◌, IfErr, IfOk, IsFalse, IsTrue, OnOk, length, true};
 ghost use Rattle.vx_bitmap.specs.Bits.{AllAre, Between, Changed, is_marked};
 ghost use Rattle.vx_bitmap.specs.Maps.{ChangedAt, Changing, IsRead, Lies, LoadCause, MapOn, SamePlace, UnitCause, map_block_count, regions_mapped};
 ghost use Rattle.vx_disk.specs.Causes.{BlamesUnit, DeviceCause};
@@ -9,7 +9,7 @@ ghost use Rattle.vx_disk.specs.Shelf.{Goes, Nothing};
 ghost use Rattle.vx_disk.specs.Spends.{Spends};
 ghost use Rattle.vx_dcm.specs.Counts.{left_in as left_in_is, marks_left};
 ghost use Rattle.vx_dcm.specs.Places.{AllOfSlot, AllPlaced, DcmLoaded, HasMap, HasRegion, IsPlaceAmong, IsOfRun, IsOfSlots, IsPlaceOfSlots, MapChanging, MapsBetween, MapsFit, OtherMapsSame, SlotsMarked, SomeChanged, has_mark, region_place, mapped_size, slot_first, slot_last};
-ghost use Rattle.vx_model.specs.Sizes.{map_blocks as map_blocks_is};
+ghost use Rattle.vx_model.specs.Sizes.{map_blocks as map_blocks_is, regions_of};
 ghost use Rattle.vx_model.specs.declared.limits.TheConstants.{LINK_PLACES, MAP_REGIONS};
 
 use crate::counting::count_run;
@@ -96,6 +96,23 @@ impl Dcm {
         (slot as usize) < LINK_PLACES
             && (vol as usize) < self.sizes.len()
             && region < self.sizes[vol as usize].div_ceil(REGION)
+    }
+
+    /// Whether there is such a place of a link and volume.
+    pub(crate) fn has_map(&self, slot: u32, vol: u32) -> bool
+        ensures is { result ≡ true → HasMap self.now slot vol }
+        ensures only { HasMap self.now slot vol → result ≡ true }
+    {
+        (slot as usize) < LINK_PLACES && (vol as usize) < self.sizes.len()
+    }
+
+    /// How many regions a volume has.
+    pub(crate) fn regions(&self, vol: u32) -> u64
+        requires exists { vol < length self.now.sizes }
+        ensures is { result ≡ regions_of (mapped_size self.now vol) }
+        ensures few { result < 2 ^ 63 }
+    {
+        self.sizes[vol as usize].div_ceil(REGION)
     }
 
     // The place of the first region of a map among those of all maps.

@@ -8,6 +8,7 @@
 mod counting;
 mod dcm;
 mod fit;
+mod joining;
 mod room;
 mod sizes;
 

@@ -48,12 +48,20 @@ prot_is Fail e = refl
 prot_is MapIfCut e = absurd (cc)
 prot_is Autodcm e = absurd (cc)
 
-again_plain : (m : KeptMode) → is_plain_mode (mode_again m) ≡ true
-again_plain Log = refl
-again_plain Dcm = refl
-again_plain Replay = refl
-again_plain Fork = refl
-again_plain Stale = refl
+again_plain : (m : KeptMode) → is_plain_kept m ≡ true → is_plain_mode (mode_again m) ≡ true
+again_plain Log e = refl
+again_plain Dcm e = absurd (cc)
+again_plain Replay e = absurd (cc)
+again_plain Fork e = absurd (cc)
+again_plain Stale e = refl
+
+-- a link that came back comes back as the same
+again_twice : (m : KeptMode) → mode_again (kept_mode (mode_again m)) ≡ mode_again m
+again_twice Log = refl
+again_twice Dcm = refl
+again_twice Replay = refl
+again_twice Fork = refl
+again_twice Stale = refl
 
 kept_again : (m : KeptMode) → is_plain_kept m ≡ true → kept_mode (mode_again m) ≡ m
 kept_again Log e = refl
@@ -271,7 +279,7 @@ kept_found p sites place l f =
     ap with_mode (kept_again l.mode f.mode) ∙ ap (λ (k : ℕ). let x : KeptLink = record l { start = k } in x) (start_again l.mode ∙ sym f.start)
 
 plain_found : (p sites place : ℕ) (l : KeptLink) → Fine p sites l → IsPlain (link_found place l)
-plain_found p sites place l f = record { prot = f.prot; mode = again_plain l.mode; bunker = f.bunker; trimmed = refl; map = λ volume region. refl }
+plain_found p sites place l f = record { prot = f.prot; mode = again_plain l.mode f.mode; bunker = f.bunker; trimmed = refl; map = λ volume region. refl }
 
 record Found (p sites : ℕ) (row : ℕ → Link) (ls : List KeptLink) : Type 0 where
   fits : RowFits p sites row
@@ -324,7 +332,7 @@ module _ (p sites : ℕ) where
   again_one : (row : ℕ → Link) (place : ℕ) (l : KeptLink) → IsAgain row → IsAgain (updated row l.site (link_found place l))
   again_one row place l again k =
       all_updated (λ (i : ℕ) (x : Link). is_linked x ≡ true → plain_link i x ≡ link_again (kept_link i x)) row l.site (link_found place l)
-      (λ _. ap (with_link_mode (plain_link l.site (link_found place l))) (sym (plain_again (mode_again l.mode) (again_plain l.mode)))) (λ i _. again i) k
+      (λ _. ap (with_link_mode (plain_link l.site (link_found place l))) (sym (again_twice l.mode))) (λ i _. again i) k
 
   rows_found : (ls : List KeptLink) (row : ℕ → Link) (place : ℕ) (before : List KeptLink) → Found p sites row before → links_in sites row ≡ place → IsAgain row → Leave row ls
       → are_fine p sites ls ≡ true → (Found p sites (row_with row place ls) (before ++ ls)) × (IsAgain (row_with row place ls))

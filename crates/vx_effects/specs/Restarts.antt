@@ -16,12 +16,12 @@ use Rattle.vx_model.specs.declared.state.KeptMode.TheVariants.{Log, Dcm, Replay,
 use Rattle.vx_order.specs.declared.facts.LinkFacts.{LinkFacts}
 use Rattle.vx_events.specs.LinkedFacts.{needed_by}
 
--- a link by the log goes by it again; any other waits for a replay
+-- a link by the log or by a map goes by it again, a replay falls back to its map, and a fork map is gathered from its beginning
 abbrev pub mode_again : KeptMode → Mode
 mode_again Log = mode.Log
-mode_again Dcm = mode.Stale
-mode_again Replay = mode.Stale
-mode_again Fork = mode.Stale
+mode_again Dcm = mode.Dcm
+mode_again Replay = mode.Dcm
+mode_again Fork = mode.Fork 0
 mode_again Stale = mode.Stale
 
 -- the link in memory: what was stored counts as acknowledged and as sent

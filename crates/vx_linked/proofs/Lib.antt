@@ -8,6 +8,8 @@ pub mod Moves
 pub mod Pumps
 pub mod Shown
 mod Loops
+mod EachLink
+mod ReplayHolds
 pub mod LeastHolds
 pub mod PartFacts
 pub mod Spelling

@@ -6,3 +6,4 @@ pub mod Disks
 pub mod Hearings
 pub mod Holds
 pub mod Making
+pub mod Converting

@@ -5,7 +5,9 @@
 //! memory.
 #![tactic(auto)]
 
+mod attaching;
 mod connecting;
+mod converting;
 mod cutting;
 mod greeting;
 mod growing;
@@ -26,7 +28,9 @@ mod ticking;
 mod turning;
 mod waiting;
 
+pub use attaching::{attach, detach, replay};
 pub use connecting::connect;
+pub use converting::{convert_links, map_places};
 pub use cutting::cut;
 pub use growing::note_links;
 pub use hearing::{hearing_link, keep_heard};

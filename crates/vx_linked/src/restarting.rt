@@ -60,7 +60,9 @@ fn mode_of(mode: KeptMode) -> Mode
 {
     match mode {
         KeptMode::Log => Mode::Log,
-        KeptMode::Dcm | KeptMode::Replay | KeptMode::Fork | KeptMode::Stale => Mode::Stale,
+        KeptMode::Dcm | KeptMode::Replay => Mode::Dcm,
+        KeptMode::Fork => Mode::Fork { maps: 0 },
+        KeptMode::Stale => Mode::Stale,
     }
 }
 

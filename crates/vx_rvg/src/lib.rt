@@ -13,6 +13,7 @@ mod change;
 mod create;
 mod group;
 mod header;
+mod joined;
 mod mark;
 mod marked;
 mod patch;
