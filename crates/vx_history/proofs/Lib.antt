@@ -14,3 +14,7 @@ pub mod Marking
 pub mod Copies
 pub mod Converting
 pub mod Advancing
+pub mod Blocks
+pub mod Replaying
+pub mod ReplayLinks
+pub mod ReplayMessages

@@ -1,5 +1,6 @@
 pub mod Admission
 pub mod ChangeMaps
+pub mod CopySteps
 pub mod DataLists
 pub mod Doubts
 pub mod Events

@@ -7,6 +7,7 @@ mod admission;
 mod event;
 pub mod laws;
 mod receiver;
+pub mod replay_laws;
 mod sender;
 mod states;
 mod volumes;

@@ -1,13 +1,17 @@
 -- What holds of a sound world, in the words of its laws.
-use Rattle.std.proofs.Common.{◌≡◌, inl, ℕ, ◌≤◌, List, length, take, drop, ap, sym, ◌∙◌, subst, arith, true}
+use Rattle.std.proofs.Common.{◌≡◌, inl, ℕ, ◌≤◌, List, length, take, drop, ap, sym, ◌∙◌, subst, arith, true, false}
 use Rattle.std.specs.Prelude.{slice_get, Some}
 use Rattle.std.proofs.lemmas.List.{length-take, take-append-drop}
 use Rattle.vx_model.specs.Content.{Write, Content, IsNumber, fold_writes}
-use Rattle.vx_history.specs.World.{World, Node, Packet, Promise, Message, Update}
+use Rattle.vx_history.specs.World.{World, History, Node, Link, Packet, Promise, Message, Update}
+use Rattle.vx_history.specs.GoodCopies.{GoodMode}
+use Rattle.vx_history.specs.Regions.{marks_block}
+use Rattle.vx_model.specs.declared.link.Mode.{Mode}
+use Rattle.vx_model.specs.declared.link.Mode.TheVariants.{Dcm}
 use Rattle.vx_model.specs.Sites.{is_origin}
 use Rattle.vx_history.specs.Good.{IsMade}
 use Rattle.vx_history.proofs.GoodLemmas.{fold_append}
-use Rattle.vx_history.specs.Sound.{Sound, GoodMessage, GoodPacket, GoodPromise, IsKept}
+use Rattle.vx_history.specs.Sound.{Sound, IsFollowed, GoodMessage, GoodPacket, GoodPromise, IsKept}
 use Rattle.vx_world.proofs.Lists.{each_found}
 
 -- the durable writes, and those above them
@@ -32,3 +36,11 @@ pub update_is : (w : World) (k number : ℕ) (p : Packet) (x : Write) → Sound 
 update_is w k number p x s found is =
     subst (λ (m : Message). GoodMessage (w.lines p.line).held (w.nodes p.source) p.line m) is
     (each_found (GoodPacket w.nodes w.links w.lines) w.packets k p found s.packets).said
+
+-- outside its change map a receiver has what the line holds
+pub maps_cover : (w : World) (p q volume block : ℕ) → Sound w → is_origin (w.nodes p).role ≡ true → IsFollowed (w.nodes p) (w.nodes q) (w.links p q) → (w.links p q).mode ≡ Dcm
+    → marks_block (w.links p q).map volume block ≡ false → (w.nodes q).base.block volume block ≡ (fold_writes (w.nodes q).start (w.lines (w.nodes p).line).held).block volume block
+maps_cover w p q volume block s origin follows is unmarked =
+    let h : History = w.lines (w.nodes p).line in
+    let l : Link = w.links p q in
+    (subst (λ (m : Mode). GoodMode h.held (h.replays q) (w.nodes q) l.map l.stored m) is ((s.links p q).says origin follows)).near volume block unmarked

@@ -9,7 +9,8 @@ ghost use Rattle.vx_history.specs.declared.event.Event.{Event};
 ghost use Rattle.vx_world.specs.Comings.{MayComeFirst};
 ghost use Rattle.vx_world.specs.Grown.{GrownWorld};
 ghost use Rattle.vx_history.specs.Settling.{MaySettle, IsMet, deliver_new, delivery, greeting_events, turn, settling};
-ghost use Rattle.vx_history.specs.Sound.{Sound, IsKept};
+ghost use Rattle.vx_history.specs.Regions.{marks_block};
+ghost use Rattle.vx_history.specs.Sound.{Sound, IsFollowed, IsKept};
 ghost use Rattle.vx_history.specs.GoodWorld.{GoodWorld};
 ghost use Rattle.vx_history.specs.Likes.{IsLike};
 ghost use Rattle.vx_history.specs.Looks.{AllLookSame, LooksSame};
@@ -19,6 +20,7 @@ ghost use Rattle.vx_history.specs.Events.{kept_of, packet_at};
 ghost use Rattle.vx_history.specs.Doubts.{After, Doubted, resolved, crashed_as, halved, happened};
 ghost use Rattle.vx_history.specs.declared.event.Event.TheVariants.{Attach, Deliver, Detach, Link, Set};
 ghost use Rattle.vx_history.specs.declared.event.LinkPart.TheVariants.{Joins, Made, Marked, Opened};
+ghost use Rattle.vx_model.specs.declared.link.Mode.TheVariants.{Dcm};
 ghost use Rattle.vx_model.specs.declared.link.Prot.{Prot};
 ghost use Rattle.vx_model.specs.declared.link.SyncMode.{SyncMode};
 ghost use Rattle.vx_model.specs.declared.site.SiteState.TheVariants.{Up};
@@ -57,13 +59,17 @@ pub fn looks_at_no_note()
 /// Whatever the network loses, repeats or reorders, and whenever sites crash: what a receiver has is a first part of what is durable at
 /// the origin of its line, and the volumes of each site hold its writes in order, and no others. An origin has on its disks every
 /// number that was answered on its line, and these are the writes that the line holds. Each promised number is kept, by the site's
-/// disks or in its session. Each update that was ever sent carries the write of its number.
+/// disks or in its session. Each update that was ever sent carries the write of its number. Where a link goes by a change map, the site that it leads to
+/// has in each block outside the map what the line holds there.
 pub fn in_order()
     ensures first_part { (w : World) (events : List Event) (i : ℕ) → Sound w → IsMade ((run w events).nodes i) → is_origin ((run w events).nodes i).role ≡ false → IsPrefixOf ((run w events).nodes i).log ((run w events).lines ((run w events).nodes i).line).held }
     ensures content { (w : World) (events : List Event) (i : ℕ) → Sound w → fold_writes ((run w events).nodes i).base (drop ((run w events).nodes i).safe ((run w events).nodes i).log) ≡ fold_writes ((run w events).nodes i).start ((run w events).nodes i).log }
     ensures durable { (w : World) (events : List Event) (i : ℕ) → Sound w → IsMade ((run w events).nodes i) → is_origin ((run w events).nodes i).role ≡ true → take ((run w events).nodes i).safe ((run w events).nodes i).log ≡ ((run w events).lines ((run w events).nodes i).line).held }
     ensures answered { (w : World) (events : List Event) (i : ℕ) → Sound w → IsMade ((run w events).nodes i) → is_origin ((run w events).nodes i).role ≡ true → ((run w events).lines ((run w events).nodes i).line).told ≤ ((run w events).nodes i).safe }
     ensures promised { (w : World) (events : List Event) (k : ℕ) (e : Promise) → Sound w → slice_get (run w events).promised k ≡ Some e → IsKept ((run w events).nodes e.site) e.line e.number e.surety }
+    ensures maps { (w : World) (events : List Event) (p s volume block : ℕ) → Sound w → is_origin ((run w events).nodes p).role ≡ true → IsFollowed ((run w events).nodes p) ((run w events).nodes s) ((run w events).links p s)
+        → ((run w events).links p s).mode ≡ Dcm → marks_block ((run w events).links p s).map volume block ≡ false
+        → ((run w events).nodes s).base.block volume block ≡ (fold_writes ((run w events).nodes s).start ((run w events).lines ((run w events).nodes p).line).held).block volume block }
     ensures updates { (w : World) (events : List Event) (k number : ℕ) (p : Packet) (x : Write) → Sound w → slice_get (run w events).packets k ≡ Some p → p.message ≡ Update number x → IsNumber ((run w events).lines p.line).held number x }
 {}
 
