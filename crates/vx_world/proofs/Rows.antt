@@ -83,9 +83,9 @@ abbrev site_of : ℕ → ℕ → List Event
 site_of name number = Site (name ∷ []) 3 64 ∷ Raw number ∷ []
 
 abbrev link_to : ℕ → List Event
-link_to s = Link 0 s NeverWaits Joins ∷ Link 0 s NeverWaits Made ∷ Link 0 s NeverWaits Marked ∷ Link 0 s NeverWaits Opened ∷ []
+link_to s = Link 0 s NeverWaits FailsWhenFull Joins ∷ Link 0 s NeverWaits FailsWhenFull Made ∷ Link 0 s NeverWaits FailsWhenFull Marked ∷ Link 0 s NeverWaits FailsWhenFull Opened ∷ []
 
-links_row : sayings (run empty_world (site_of 97 0 ++ site_of 98 1 ++ site_of 99 2 ++ site_of 100 3 ++ site_of 101 4 ++ site_of 102 5 ++ link_to 1 ++ link_to 2 ++ link_to 3 ++ link_to 4)) (Link 0 5 NeverWaits Joins ∷ [])
+links_row : sayings (run empty_world (site_of 97 0 ++ site_of 98 1 ++ site_of 99 2 ++ site_of 100 3 ++ site_of 101 4 ++ site_of 102 5 ++ link_to 1 ++ link_to 2 ++ link_to 3 ++ link_to 4)) (Link 0 5 NeverWaits FailsWhenFull Joins ∷ [])
     ≡ Refused (Limit Links 4) ∷ []
 unfolding is_raw_shape
 links_row = refl

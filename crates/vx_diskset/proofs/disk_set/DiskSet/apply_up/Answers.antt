@@ -5,9 +5,8 @@ use Rattle.vx_diskset.proofs.ApplyGroup.{applied_at}
 use Rattle.vx_diskset.proofs.RawSets.{up_there}
 use Rattle.vx_diskset.proofs.Blamed.{blamed_receiver, blamed_up}
 use Rattle.vx_diskset.proofs.CallsBurn.{called_by, called_up, is_done}
-use Rattle.std.proofs.Common.{refl, subst}
 use Rattle.vx_diskset.proofs.Receiving.{applied_received, durable_of, receiver_as}
-use Rattle.std.proofs.Common.{subst, sym}
+use Rattle.std.proofs.Common.{refl, subst, sym}
 use Rattle.vx_diskset.specs.DiskSets.{AppliedUp}
 use Rattle.vx_diskset.specs.Stands.{SiteStands}
 use Rattle.vx_diskset.specs.Asked.{IsRawSet}
