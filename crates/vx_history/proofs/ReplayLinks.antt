@@ -40,9 +40,6 @@ replays_begun held t id head less e good = record {
   rise = λ i j ij le. by_two i j ij le (leb i t.begun) (leb j t.begun) refl refl;
 }
   where
-    at : (i : ℕ) (p : Bool) (q : ℕ) → ℕ
-    at i p q = if p then q else head
-
     by_case : (i : ℕ) → i ≤ id → (p : Bool) → leb i t.begun ≡ p → ((if p then t.start i else head) ≤ (if p then t.read i else head)) × ((if p then t.read i else head) ≤ length held)
     by_case i le true p = good.spans i (grind (arith, nat_tests))
     by_case i le false p = (omega arith, omega (arith, e))
