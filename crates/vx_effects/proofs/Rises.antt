@@ -115,7 +115,7 @@ module _ (d : Doubted) (s : ℕ) where
 
   -- ---- settings
 
-  abbrev link_set : ℕ → SyncMode → Link
+  abbrev link_set : ℕ → SyncMode → Prot → Link
   link_set q sync prot = link_with sync prot (w.links s q)
 
   set_step : (q : ℕ) (sync : SyncMode) (prot : Prot) → (step w (Set s q sync prot)).said ≡ Done → outcome_of w (Set s q sync prot) ≡ done (with_link w s q (link_set q sync prot))

@@ -6,7 +6,7 @@ use Rattle.vx_model.specs.declared.link.Link.{Link}
 use Rattle.vx_model.specs.declared.link.Mode.{Mode}
 use Rattle.vx_model.specs.declared.link.Mode.TheVariants.{Dcm, Fork, Log, Replay, Stale}
 use Rattle.vx_model.specs.declared.link.Phase.TheVariants.{Done, Log as ByLogAgain, Regions, Start}
-use Rattle.vx_replay.specs.Primary.{AtPrimary, acked, begun, can_begin, done_heard, ends_at, mode_fallen, mode_read, primary_step, region_heard, start_heard, stored_up_to}
+use Rattle.vx_replay.specs.Primary.{AtPrimary, acked, as_it_was, begun, can_begin, done_heard, ends_at, in_mode, mode_fallen, mode_read, primary_step, region_heard, start_heard, stored_up_to}
 use Rattle.vx_replay.specs.declared.event.PAction.TheVariants as pact
 use Rattle.vx_replay.specs.declared.event.PEvent.{PEvent}
 use Rattle.vx_replay.specs.declared.event.PEvent.TheVariants.{Ack, Begin, Pump, Read, Restart, Stored}
@@ -82,7 +82,7 @@ begins_by Stale is = refl
 begun_hold : (l : Link) (id head regions : ℕ) (b : Bool) → can_begin l.mode ≡ b → is_holding l ≡ true → hold (begun l id head regions).link ≡ hold l
 begun_hold l id head regions true is held = absurd (not_held l.attached (sym (ap (λ (t : Bool). l.attached && t) (begins_by l.mode is)) ∙ held))
 begun_hold l id head regions false is held =
-    ap (λ (t : Bool). hold (if t then record { link = record l { mode = Replay id Start regions head head }; action = pact.SendStart } else record { link = l; action = pact.Nothing }).link) is
+    ap (λ (t : Bool). hold (if t then in_mode l (Replay id Start regions head head) pact.SendStart else as_it_was l pact.Nothing).link) is
 
 read_hold : (head : ℕ) (m : Mode) (stored : ℕ) → mode_hold (mode_read head m) stored ≡ mode_hold m stored
 read_hold head Log stored = refl
@@ -103,8 +103,8 @@ ends_hold number Stale stored is = refl
 
 stored_hold : (l : Link) (number : ℕ) (b : Bool) → ends_at number l.mode ≡ b → hold (stored_up_to l number).link ≡ hold l
 stored_hold l number true is =
-    ap (λ (t : Bool). hold (if t then record { link = record l { mode = Log }; action = pact.Finished } else record { link = l; action = pact.Nothing }).link) is ∙ ends_hold number l.mode l.stored is
-stored_hold l number false is = ap (λ (t : Bool). hold (if t then record { link = record l { mode = Log }; action = pact.Finished } else record { link = l; action = pact.Nothing }).link) is
+    ap (λ (t : Bool). hold (if t then in_mode l Log pact.Finished else as_it_was l pact.Nothing).link) is ∙ ends_hold number l.mode l.stored is
+stored_hold l number false is = ap (λ (t : Bool). hold (if t then in_mode l Log pact.Finished else as_it_was l pact.Nothing).link) is
 
 fallen_hold : (a : Bool) (m : Mode) (stored : ℕ) → (a && mode_holds (mode_fallen m)) ≡ true → mode_hold (mode_fallen m) stored ≡ mode_hold m stored
 fallen_hold a Log stored held = refl
