@@ -42,6 +42,9 @@ bit_few : (b : Bool) → (if b then 1 else 0) ≤ 1
 bit_few true = omega arith
 bit_few false = omega arith
 
+pub bit_small : (bit : ℕ) (b : Bool) → bit ≡ (if b then 1 else 0) → bit ≤ 1
+bit_small bit b is = omega (arith, is, bit_few b)
+
 -- one place more fits
 pub places_few : (places back bit : ℕ) (b : Bool) → bit ≡ (if b then 1 else 0) → places < 2 ^ back → 2 * places + bit < 2 ^ (back + 1)
 places_few places back bit b is low = rw (add-one back) (omega (arith, is, low, bit_few b, pow-succ' 2 back))
