@@ -90,7 +90,7 @@ unmoved_at w i q n here =
 
 -- a site that comes back has them
 back_room : (n : Node) → Unmoved n (Events.come_back n)
-back_room n = Nodes.back_by (λ (m : Node). Unmoved n m) n (λ mark _ _ _. record { ring = refl; volumes = refl; group = refl })
+back_room n = Nodes.back_by (λ (m : Node). Unmoved n m) n (λ mark _ _ _ _. record { ring = refl; volumes = refl; group = refl })
 
 -- A site without data volumes gets some by one event alone, and not where a disk halted it.
 abbrev pub GivesNone : Event → Node → Type 0
