@@ -1,5 +1,5 @@
 -- How the note of a site moves in a call on the replicated volume group over its group, up to the crash behind it.
-use Rattle.std.proofs.Common.{◌≡◌, ◌∙◌, ◌⊎◌, inl, inr, ℕ, Bool, true, false, List, ap, refl, subst, sym}
+use Rattle.std.proofs.Common.{◌≡◌, ◌∙◌, ◌⊎◌, inl, inr, ℕ, Bool, true, false, List, [], ap, refl, subst, sym}
 use Rattle.std.specs.Prelude.{Err, IsFalse, IsTrue, Ok, Option, Result, Some}
 use Rattle.vx_config.specs.Forms.{Reading}
 use Rattle.vx_config.specs.Table.{config}
