@@ -40,12 +40,15 @@ module _ {T U : Type 0} (f : U → T) where
     size = x.size;
     block = x.block;
     may = λ u. x.may (known_told new u);
+    opens = λ u. x.opens (known_told new u);
+    parts = λ u. x.parts (known_told new u);
     one = λ u. x.one (known_told new u);
     cut = x.cut;
+    inside = x.inside;
   }
 
   unread_told : (s : ℕ) (n : Node) (fails : Fails) (note new : GroupNode) → NotesUnread T s n fails note new → NotesUnread U s n fails note new
-  unread_told s n fails note new x = record { middle = x.middle; back = back_told s n fails note x.middle x.back; maps = λ u. x.maps (known_told x.middle u); is = x.is }
+  unread_told s n fails note new x = record { middle = x.middle; back = back_told s n fails note x.middle x.back; maps = λ u. x.maps (known_told x.middle u); cut = x.cut; is = x.is }
 
   kept_told : (x : Write) (next : GroupNode) (kept : Kept) → IsKeptOf T x next kept → IsKeptOf U x next kept
   kept_told x next kept k = record { volume = k.volume; is_volume = k.is_volume; name = k.name; block = k.block; many = k.many; each = λ u. k.each (known_told next u) }
@@ -87,4 +90,4 @@ module _ {T U : Type 0} (f : U → T) where
   group_told d line s fails said new (FindsNoGroup next why of brings knows other refused says left) = FindsNoGroup next why of brings (nothing_told (note_at (d.world.nodes s)) knows) other refused says left
 
   pub finds_told : (d : Doubted) (line : ScriptLine) (s : ℕ) (fails : Fails) (said : Said) (new : Doubted) → FindsKept T d line s fails said new → FindsKept U d line s fails said new
-  finds_told d line s fails said new x = record { untold = λ u. x.untold (f u); site = x.site; recovers = x.recovers; bare = x.bare; shows = x.shows; ends = group_told d line s fails said new x.ends }
+  finds_told d line s fails said new x = record { untold = λ u. x.untold (f u); site = x.site; recovers = x.recovers; bare = x.bare; shows = x.shows; up = x.up; ends = group_told d line s fails said new x.ends }

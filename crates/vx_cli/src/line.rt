@@ -29,6 +29,7 @@ fn is_built(line: &ScriptLine) -> bool
         | ScriptLine::Volume { .. }
         | ScriptLine::PlexDetach { .. }
         | ScriptLine::PlexAttach { .. }
+        | ScriptLine::Rvg { .. }
         | ScriptLine::Write { .. }
         | ScriptLine::Put { .. }
         | ScriptLine::Read { .. }

@@ -1,5 +1,5 @@
 -- What an apply leaves of a site that is up.
-use Rattle.std.proofs.Common.{◌≡◌, inl, ⊎_elim, ℕ, ◌≤◌, Option, Some, None, IsTrue, sym, ◌∙◌, ap, subst, arith}
+use Rattle.std.proofs.Common.{◌≡◌, inl, ⊎_elim, ℕ, ◌≤◌, length, Option, Some, None, IsTrue, sym, ◌∙◌, ap, subst, arith}
 use Rattle.std.specs.Prelude.{min, max, Result, Ok, Err, OnOk, IsFalse}
 use Rattle.vx_history.specs.Steps.{burned, worked}
 use Rattle.vx_history.specs.World.{Node}
@@ -11,14 +11,18 @@ use Rattle.vx_disk.specs.Moves.{Moves}
 use Rattle.vx_rvg.specs.Groups.{ApplyIs, Applies, Ended, halted_or, core_applied}
 use Rattle.vx_rvg.specs.Stands.{Resting, Rests}
 use Rattle.vx_rvg.specs.Views.{Core, IsSound, Waits, last_of}
-use Rattle.vx_diskset.specs.DiskSets.{CanApply, halted_at}
+use Rattle.vx_diskset.specs.DiskSets.{CanApply, halted_at, AppliedUp}
 use Rattle.vx_diskset.specs.Holds.{HasSite}
 use Rattle.vx_diskset.specs.Rooms.{AppliedAs}
-use Rattle.vx_grouped.specs.SetFuses.{HasFuse}
+use Rattle.vx_diskset.specs.Fuses.{FuseOn}
 use Rattle.vx_history.specs.Stops.{IsFused}
-use Rattle.vx_diskset.specs.Stands.{IsUpAt, IsHeldAt}
+use Rattle.vx_diskset.specs.Stands.{IsUpAt, IsHeldAt, IsUngrouped}
 use Rattle.vx_diskset.proofs.LastWrites.{rests_with, resting_found}
-use Rattle.vx_diskset.proofs.StaysUp.{told_now, never_both, left_moved, up_found, SameLog, up_with, held_moved, fused_by, fuse_moved}
+use Rattle.vx_diskset.proofs.StaysUp.{whole_held, told_now, never_both, left_moved, up_found, SameLog, up_with, held_moved, fused_by, fuse_moved}
+use Rattle.vx_diskset.specs.declared.disk_set.DiskSet.{DiskSet}
+use Rattle.vx_diskset.specs.declared.disk_set.DiskSet.TheVariants.{Up}
+use Rattle.vx_disk.specs.declared.shelf.Shelf.{Ghosts}
+use Rattle.vx_rvg.specs.declared.group.Rvg.{Rvg}
 
 -- a log with nothing changed beside
 pub applied_log : (c : Core) (number k : ℕ) (c' : Core) → c' ≡ core_applied c number k → SameLog c c'
@@ -41,7 +45,7 @@ module _ {beside : KeptBeside} (n : Node) (c c' : Core) (m new : Meaning) (up : 
       ⊎_elim (λ was. up.left i was) (λ resting. inl (up_found n c m i up can.running told (resting_found c n.log n.base m i resting (up.content can.running told))))
       (left_moved (Waits c m) (Resting c m) m new i lawful after moves now)
 
-  fuse : HasFuse (burned n.fuse) new
+  fuse : FuseOn (burned n.fuse) new
   fuse = fuse_moved n.fuse (Waits c m) (Resting c m) m new moves up.fuse
 
   -- it is up as before
@@ -90,3 +94,14 @@ pub applied_as : {beside : KeptBeside} (n : Node) (to : ℕ) (c c' : Core) (m ne
 applied_as n to c c' m new result up can sound lawful after still is rests moves =
     by_result n to c c' m new result up can sound lawful after still
     (subst (λ (o : Option ℕ). ApplyIs (halted_or o None) c to m new c' result) (up.halted ∙ can.running) is) rests moves
+
+module _ {R : Type 0} {g : Ghosts R} where
+  -- an apply over a rack
+  pub applied_at : (beside : KeptBeside) (n : Node) (to : ℕ) (old : DiskSet R g) (rvg new : Rvg R g) (result : Result ℕ No) → old ≡ Up rvg → IsUngrouped beside n → length n.log ≤ n.safe → AppliedAs beside n to new.core (g.meaning rvg.shelf) (g.meaning new.shelf) result → AppliedUp beside n to old (Up new) result
+  applied_at beside n to old rvg new result is raw whole it = subst (λ (e : DiskSet R g). AppliedUp beside n to e (Up new) result) (sym is) (by result it)
+    where
+      by : (r : Result ℕ No) → AppliedAs beside n to new.core (g.meaning rvg.shelf) (g.meaning new.shelf) r → AppliedUp beside n to (Up rvg) (Up new) r
+      by (Ok number) h = (h.0, h.1, (raw, h.2))
+      by (Err (Device disk)) h = ((raw, h.0), h.1)
+      by (Err Down) h = (h.0, (raw, whole_held n (g.meaning new.shelf) whole h.1))
+      by (Err other) h = h

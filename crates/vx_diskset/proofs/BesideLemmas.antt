@@ -6,7 +6,7 @@ use Rattle.vx_history.specs.Steps.{crashed}
 use Rattle.vx_disk.specs.Shelf.{Meaning, Image}
 use Rattle.vx_disk.specs.declared.shelf.Shelf.{Ghosts}
 use Rattle.vx_diskset.specs.declared.disk_set.DiskSet.{DiskSet}
-use Rattle.vx_diskset.specs.DiskSets.{CrashedAt}
+use Rattle.vx_diskset.specs.DiskSets.{CrashedAt, fell_to}
 use Rattle.vx_diskset.specs.Holds.{KeptBeside, HasDoubted, HasSite, HasWrites, KeptSite, MayBe, site_alone, itself, sure_of}
 use Rattle.vx_diskset.specs.Stands.{StandsAlone, SiteStands}
 use Rattle.vx_diskset.proofs.Laying.{lies_as}
@@ -62,6 +62,6 @@ module _ {R : Type 0} {g : Ghosts R} where
       never : {A : Type 0} {x : A} → None ≡ Some x → ⊥
       never e = cc
 
-      by : (k : KeptSite) → k ≡ itself site_alone n → (count : ℕ) → k.node.safe ≤ count → count ≤ length k.node.log → SiteStands (sure_of k) (crashed k.node count) new → FellAlone n new
-      by k is = subst (λ (x : KeptSite). (count : ℕ) → x.node.safe ≤ count → count ≤ length x.node.log → SiteStands (sure_of x) (crashed x.node count) new → FellAlone n new) (sym is)
+      by : (k : KeptSite) → k ≡ itself site_alone n → (count : ℕ) → k.node.safe ≤ count → count ≤ length k.node.log → SiteStands (sure_of k) (fell_to n k.node count) new → FellAlone n new
+      by k is = subst (λ (x : KeptSite). (count : ℕ) → x.node.safe ≤ count → count ≤ length x.node.log → SiteStands (sure_of x) (fell_to n x.node count) new → FellAlone n new) (sym is)
           (λ count least most stands. record { count = count; least = least; most = most; stands = stands })

@@ -4,6 +4,7 @@ use Rattle.std.specs.Prelude.{Option, Some, None, Result, Ok, Err, OnOk, IsFalse
 use Rattle.vx_model.specs.Answer.{is_too_large}
 use Rattle.vx_model.specs.declared.no.No.{No}
 use Rattle.vx_model.specs.declared.no.No.TheVariants.{Device, Size, Range, Limit, Down as IsDown}
+use Rattle.vx_diskset.specs.Shelves.{BurnsOn}
 use Rattle.vx_diskset.specs.Holds.{KeptBeside}
 use Rattle.vx_model.specs.declared.no.Counted.TheVariants.{Number}
 use Rattle.vx_model.specs.Content.{blocks_in}
@@ -31,6 +32,7 @@ use Rattle.vx_diskset.specs.Stands.{IsUpAt, SiteStands}
 use Rattle.vx_diskset.specs.declared.disk_set.DiskSet.{DiskSet}
 use Rattle.vx_diskset.specs.declared.disk_set.DiskSet.TheVariants.{Up}
 use Rattle.vx_diskset.proofs.StaysUp.{never_both}
+use Rattle.vx_diskset.proofs.RawSets.{up_there}
 
 -- ---- a shelf that is up behind a call of its group was not found down
 
@@ -243,7 +245,19 @@ off_result : (r : Result ℕ No) → said_by r ≡ Refused IsDown → r ≡ Err 
 off_result (Ok number) is = absurd (cc)
 off_result (Err why) is = let same : why ≡ IsDown = cc in ap (λ (k : No). let r : Result ℕ No = Err k in r) same
 
+-- a call on a group
+pub burns_by : (P : Disks → Disks → Type 0) (r : Result ℕ No) (old new : Meaning) → IsFalse old.down → OffIf r new.down → OnOk r (WithDisks old.disks new.disks P) → Spends old new → BurnsOn P (said_by r) old new
+burns_by P r old new up off done spends = record { told = burnt_on P old.size old.down new.down r old.disks new.disks up off done spends.told; sizes = spends.size }
+
+-- one that did nothing, and was not answered 6
+pub burns_still : (P : Disks → Disks → Type 0) (why : No) (m : Meaning) → is_off why ≡ false → BurnsOn P (Refused why) m m
+burns_still P why m on = record { told = still_by P why m.size m.disks on; sizes = λ u. refl }
+
 module _ {R : Type 0} {g : Ghosts R} where
+  -- the same of disk sets
+  pub burns_up : (P : Disks → Disks → Type 0) (said : Said) (old new : Rvg R g) → BurnsOn P said (g.meaning old.shelf) (g.meaning new.shelf) → LeavesFuse P said (Up old) (Up new)
+  burns_up P said old new burns = record { told = burns.told; sizes = burns.sizes }
+
   pub cut_short : (old mid : Rvg R g) (bytes : List ℕ) (new : Meaning) → mid ≡ old → (BodyFits mid.core.log bytes → FallsShort 4 (g.meaning mid.shelf) new) → BodyFits old.core.log bytes → IsFalse (g.meaning old.shelf).down → IsTrue new.down
       → RackIsShort 4 (g.meaning old.shelf).disks
   cut_short old mid bytes new same short fits up down =
@@ -258,7 +272,7 @@ module _ {R : Type 0} {g : Ghosts R} where
       → (IsFalse (g.meaning there.shelf).down → blocks_in bytes < free_of there.core.log → BodyFits there.core.log bytes → r ≡ Err IsDown → RackIsShort 4 (g.meaning there.shelf).disks) → CutsShort bytes (said_by r) e
   cuts_up beside n e there bytes r at stands cuts = record {
     short = λ rvg is hand fits said.
-        let up : IsUpAt beside n there.core (g.meaning there.shelf) = subst (λ (x : DiskSet R g). SiteStands beside n x) at stands in
+        let up : IsUpAt beside n there.core (g.meaning there.shelf) = (up_there beside n e there at stands).1 in
         let same : there ≡ rvg = up_same rvg there (sym at ∙ is) in
         subst (λ (k : Rvg R g). RackIsShort 4 (g.meaning k.shelf).disks) same
         (cuts up.up (subst (λ (k : Rvg R g). blocks_in bytes < free_of k.core.log) (sym same) hand) (subst (λ (k : Rvg R g). BodyFits k.core.log bytes) (sym same) fits) (off_result r said));
@@ -301,5 +315,4 @@ module _ {R : Type 0} {g : Ghosts R} where
   -- a call on the group of a site that is up
   pub called_up : (P : Disks → Disks → Type 0) (said : Said) (beside : KeptBeside) (n : Node) (e after : DiskSet R g) (rvg : Rvg R g) → e ≡ Up rvg → SiteStands beside n e → (IsUpAt beside n rvg.core (g.meaning rvg.shelf) → LeavesFuse P said (Up rvg) after) → LeavesFuse P said e after
   called_up P said beside n e after rvg is stands called =
-      let up : IsUpAt beside n rvg.core (g.meaning rvg.shelf) = subst (λ (x : DiskSet R g). SiteStands beside n x) is stands in
-      subst (λ (x : DiskSet R g). LeavesFuse P said x after) (sym is) (called up)
+      subst (λ (x : DiskSet R g). LeavesFuse P said x after) (sym is) (called (up_there beside n e rvg is stands).1)

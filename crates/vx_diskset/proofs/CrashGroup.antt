@@ -24,7 +24,7 @@ use Rattle.vx_disk.specs.declared.shelf.Shelf.{Ghosts}
 use Rattle.vx_diskset.specs.declared.disk_set.DiskSet.{DiskSet}
 use Rattle.vx_diskset.specs.declared.disk_set.DiskSet.TheVariants.{Up, Down}
 use Rattle.vx_rvg.specs.declared.group.Rvg.{Rvg}
-use Rattle.vx_diskset.specs.DiskSets.{CrashedAt, CrashedTo, WroteUp, WroteAt, AppliedUp, AppliedAt, with_first}
+use Rattle.vx_diskset.specs.DiskSets.{CrashedAt, CrashedTo, WroteUp, WroteAt, AppliedUp, AppliedAt, fell_to, with_first}
 use Rattle.vx_model.specs.declared.no.No.{No}
 use Rattle.vx_model.specs.declared.no.No.TheVariants.{Device, Limit, Down as Off}
 use Rattle.vx_model.proofs.Contents.{folded_size}
@@ -32,14 +32,15 @@ use Rattle.vx_grouped.specs.SiteEnds.{is_off}
 use Rattle.vx_events.specs.Facts.{values_from}
 use Rattle.vx_diskset.specs.Lasts.{FoundWith, LeftWith}
 use Rattle.vx_diskset.specs.Holds.{HasDoubted, HasWrites, KeptSite, itself, state_with, sure_of}
-use Rattle.vx_diskset.specs.Layouts.{LiesOn, raw_units, units_of}
+use Rattle.vx_diskset.specs.Layouts.{LiesOn, raw_units, units_of, LiesRaw}
 use Rattle.vx_diskset.specs.Holds.{most_with}
-use Rattle.vx_diskset.specs.Stands.{IsUpAt, IsHeldAt, IsDownAt, CutAt, IsToldAt, SiteStands}
-use Rattle.vx_diskset.proofs.Laying.{lies_as, lies_sized, sizes_of}
+use Rattle.vx_diskset.specs.Stands.{IsUpAt, IsHeldAt, IsDownAt, CutAt, IsToldAt, IsUngrouped, SiteStands}
+use Rattle.vx_diskset.proofs.Laying.{laid_in, lies_as, lies_sized, sizes_of, raw_sized, units_raw}
 use Rattle.vx_diskset.proofs.BesideLemmas.{doubted, writes_itself}
 use Rattle.vx_diskset.proofs.StaysUp.{held_up}
 use Rattle.vx_events.proofs.Places.{never_some, some_same}
 use Rattle.vx_events.proofs.Values.{length-values_from, slice_index-values_from}
+use Rattle.vx_diskset.proofs.RawSets.{cut_there}
 
 -- ---- a rack that crashed has one value in each block
 
@@ -54,7 +55,7 @@ one_value m i u b lawful rack down tells now = record {
 
 -- ---- one image says what is left
 
-keeps_option : (m : Meaning) (u b : ℕ) (here bytes : List ℕ) (o : Option (List ℕ)) → Keeps m u b here
+pub keeps_option : (m : Meaning) (u b : ℕ) (here bytes : List ℕ) (o : Option (List ℕ)) → Keeps m u b here
     → MatchOption o (here ≡ bytes) (λ new. new ≡ bytes) → MatchOption o (Keeps m u b bytes) (λ new. new ≡ bytes)
 keeps_option m u b here bytes (Some new) keeps is = is
 keeps_option m u b here bytes None keeps is = record { only = λ v left. keeps.only v left ∙ is }
@@ -93,7 +94,7 @@ found_left units ring state session stamp h m i tells one sizes found = record {
         (one (unit_of units.vols v) b) (found.content.each v b low);
   };
   maps = record {
-    size = length-values_from (λ b. i units.maps b) 0 (m.size units.maps);
+    size = (let long = length-values_from (λ b. i units.maps b) 0 (m.size units.maps) in omega (arith, long));
     each = λ b bytes there.
         let here : 0 + b ≡ b = omega arith in
         let is : i units.maps (0 + b) ≡ bytes = value_there (λ b. i units.maps b) 0 (m.size units.maps) b bytes there in
@@ -157,40 +158,44 @@ pub record Fell (beside : KeptBeside) (n : Node) (m : Meaning) : Type 0 where
   pub count : ℕ
   pub least : kept.node.safe ≤ count
   pub most : count ≤ length kept.node.log
-  pub down : IsDownAt (sure_of kept) (crashed kept.node count) m
+  pub down : IsDownAt (sure_of kept) (fell_to n kept.node count) m
 
-module _ (k : KeptSite) (m new : Meaning) (lies : LiesOn k.node m) (low : k.node.low ≡ 1) (begun : IsTrue m.tells → 0 < k.node.session) (lawful : Lawful new) (rack : IsRack new) (stopped : Stopped m new) where
+module _ (k : KeptSite) (other : Node) (none : other.group ≡ None) (raw : k.node.group ≡ None) (m new : Meaning) (lies : LiesOn k.node m) (low : k.node.low ≡ 1) (begun : IsTrue m.tells → 0 < k.node.session) (lawful : Lawful new) (rack : IsRack new) (stopped : Stopped m new) where
   abbrev n : Node
   n = k.node
 
   lies_at : (count : ℕ) → LiesOn (crashed n count) new
   lies_at count = lies_sized n (fold_writes n.base (drop n.safe (take count n.log))).size new (folded_size n.base (drop n.safe (take count n.log))) (lies_as n m new stopped.units stopped.size lies)
 
+  lies_down : (count : ℕ) → LiesRaw (crashed n count) new
+  lies_down count = raw_sized n (fold_writes n.base (drop n.safe (take count n.log))).size new raw (folded_size n.base (drop n.safe (take count n.log))) (lies_as n m new stopped.units stopped.size lies)
+
   left_at : (i : Image) (has : HasWrites (sure_of k) n i) → new.now i → IsTrue new.tells
       → LeftWith (units_of n) n.ring (state_with n k.links) n.session (most_with (sure_of k) n has.count) (take has.count n.log) (fold_writes n.base (drop n.safe (take has.count n.log))) new
   left_at i has now tells =
       found_left_with (units_of n) n.ring (state_with n k.links) n.session (most_with (sure_of k) n has.count) (take has.count n.log) (fold_writes n.base (drop n.safe (take has.count n.log))) new i tells
       (λ u b. one_value new i u b lawful rack stopped.down tells now)
-      (sizes_of (units_of n) n.ring n.volumes (fold_writes n.base (drop n.safe (take has.count n.log))) new (lies_at has.count).laid)
+      (sizes_of (units_of n) n.ring n.volumes (fold_writes n.base (drop n.safe (take has.count n.log))) new (laid_in (crashed n has.count) new (lies_at has.count)))
       has.found
 
   down_at : (count : ℕ) → n.safe ≤ count → count ≤ length n.log
       → (IsTrue new.tells → LeftWith (units_of n) n.ring (state_with n k.links) n.session (most_with (sure_of k) n count) (take count n.log) (fold_writes n.base (drop n.safe (take count n.log))) new)
-      → IsDownAt (sure_of k) (crashed n count) new
+      → IsDownAt (sure_of k) (fell_to other n count) new
   down_at count least most left = record {
     state = refl;
     unfused = refl;
     down = stopped.down;
     unarmed = stopped.unarmed;
     sure = refl;
-    lies = lies_at count;
+    raw = none;
+    lies = lies_down count;
     low = low;
     logged = omega (arith, length-take count n.log, most);
     begun = λ tells. begun (sym stopped.tells ∙ tells);
-    left = left;
+    left = λ tells. subst (λ (u : Units). LeftWith u n.ring (state_with n k.links) n.session (most_with (sure_of k) n count) (take count n.log) (fold_writes n.base (drop n.safe (take count n.log))) new) (units_raw n raw) (left tells);
   }
 
-module _ {beside : KeptBeside} (n : Node) (m new : Meaning) (up : IsHeldAt beside n m) (lawful : Lawful new) (rack : IsRack new) (stopped : Stopped m new) where
+module _ {beside : KeptBeside} (n : Node) (m new : Meaning) (raw : IsUngrouped beside n) (up : IsHeldAt beside n m) (lawful : Lawful new) (rack : IsRack new) (stopped : Stopped m new) where
   fell_itself : (i : Image) → HasWrites beside n i → new.now i → IsTrue new.tells → Fell beside n new
   fell_itself i has now tells =
       let own = writes_itself n i has in
@@ -200,7 +205,7 @@ module _ {beside : KeptBeside} (n : Node) (m new : Meaning) (up : IsHeldAt besid
         count = own.count;
         least = own.least;
         most = own.most;
-        down = down_at (itself beside n) m new up.lies up.low up.begun lawful rack stopped own.count own.least own.most (λ told. left_at (itself beside n) m new up.lies up.low up.begun lawful rack stopped i own now told);
+        down = down_at (itself beside n) n raw.0 raw.0 m new up.lies up.low up.begun lawful rack stopped own.count own.least own.most (λ told. left_at (itself beside n) n raw.0 raw.0 m new up.lies up.low up.begun lawful rack stopped i own now told);
       }
 
   fell_besides : (i : Image) → HasDoubted beside.doubt i → new.now i → IsTrue new.tells → Fell beside n new
@@ -214,7 +219,7 @@ module _ {beside : KeptBeside} (n : Node) (m new : Meaning) (up : IsHeldAt besid
         count = d.2.count;
         least = d.2.least;
         most = d.2.most;
-        down = down_at k m new may.lies may.low may.begun lawful rack stopped d.2.count d.2.least d.2.most (λ told. left_at k m new may.lies may.low may.begun lawful rack stopped i d.2 now told);
+        down = down_at k n raw.0 (raw.1 k d.1) m new may.lies may.low may.begun lawful rack stopped d.2.count d.2.least d.2.most (λ told. left_at k n raw.0 (raw.1 k d.1) m new may.lies may.low may.begun lawful rack stopped i d.2 now told);
       }
 
   fell_by : (b : Bool) → new.tells ≡ b → Fell beside n new
@@ -227,7 +232,7 @@ module _ {beside : KeptBeside} (n : Node) (m new : Meaning) (up : IsHeldAt besid
     count = n.safe;
     least = omega arith;
     most = up.logged;
-    down = down_at (itself beside n) m new up.lies up.low up.begun lawful rack stopped n.safe (omega arith) up.logged (λ tells. absurd (never tells untold));
+    down = down_at (itself beside n) n raw.0 raw.0 m new up.lies up.low up.begun lawful rack stopped n.safe (omega arith) up.logged (λ tells. absurd (never tells untold));
   }
     where
       never : {b : Bool} → b ≡ true → b ≡ false → ⊥
@@ -238,28 +243,30 @@ module _ {beside : KeptBeside} (n : Node) (m new : Meaning) (up : IsHeldAt besid
   crash_down = fell_by new.tells refl
 
 module _ {R : Type 0} {g : Ghosts R} where
-  pub held_crashed : {beside : KeptBeside} (n : Node) (old shelf new : R) → shelf ≡ old → IsHeldAt beside n (g.meaning old) → Lawful (g.meaning new) → IsRack (g.meaning new) → Stopped (g.meaning shelf) (g.meaning new) → CrashedAt {g = g} beside n (Down new)
-  held_crashed n old shelf new is held lawful rack stopped =
-      let k = crash_down n (g.meaning old) (g.meaning new) held lawful rack (subst (λ (r : R). Stopped (g.meaning r) (g.meaning new)) is stopped) in
+  pub held_crashed : {beside : KeptBeside} (n : Node) (old shelf new : R) → shelf ≡ old → IsUngrouped beside n → IsHeldAt beside n (g.meaning old) → Lawful (g.meaning new) → IsRack (g.meaning new) → Stopped (g.meaning shelf) (g.meaning new) → CrashedAt {g = g} beside n (Down new)
+  held_crashed n old shelf new is raw held lawful rack stopped =
+      let k = crash_down n (g.meaning old) (g.meaning new) raw held lawful rack (subst (λ (r : R). Stopped (g.meaning r) (g.meaning new)) is stopped) in
       record { kept = k.kept; is = k.is; count = k.count; least = k.least; most = k.most; stands = k.down }
 
   -- the disk set of a site that crashed
-  pub crashed_at : {beside : KeptBeside} (n : Node) (core : Core) (old shelf new : R) → shelf ≡ old → IsUpAt beside n core (g.meaning old) → Lawful (g.meaning new) → IsRack (g.meaning new) → Stopped (g.meaning shelf) (g.meaning new)
+  pub crashed_at : {beside : KeptBeside} (n : Node) (core : Core) (old shelf new : R) → shelf ≡ old → IsUngrouped beside n → IsUpAt beside n core (g.meaning old) → Lawful (g.meaning new) → IsRack (g.meaning new) → Stopped (g.meaning shelf) (g.meaning new)
       → CrashedAt {g = g} beside n (Down new)
-  crashed_at n core old shelf new is up lawful rack stopped = held_crashed n old shelf new is (held_up n core (g.meaning old) up) lawful rack stopped
+  crashed_at n core old shelf new is raw up lawful rack stopped = held_crashed n old shelf new is raw (held_up n core (g.meaning old) up) lawful rack stopped
 
   -- the same where its fuse ran out before
   pub cut_crashed : {beside : KeptBeside} (n : Node) (e : DiskSet R g) (rvg : Rvg R g) (shelf new : R) → e ≡ Up rvg → shelf ≡ rvg.shelf → CutAt beside n e → Lawful (g.meaning new) → IsRack (g.meaning new) → Stopped (g.meaning shelf) (g.meaning new)
       → CrashedAt {g = g} beside n (Down new)
-  cut_crashed {beside} n e rvg shelf new is same cut lawful rack stopped = held_crashed n rvg.shelf shelf new same (subst (CutAt beside n) is cut) lawful rack stopped
+  cut_crashed {beside} n e rvg shelf new is same cut lawful rack stopped =
+      let held = cut_there beside n e rvg is cut in
+      held_crashed n rvg.shelf shelf new same held.0 held.1 lawful rack stopped
 
   -- the crash of a site that has the first of its writes alone, as one of the site
-  pub fell_to : {beside : KeptBeside} (n : Node) (limit : ℕ) (new : DiskSet R g) → beside.doubt ≡ None → CrashedAt beside (with_first n limit) new → CrashedTo beside n limit new
-  fell_to {beside} n limit new sure fell = ⊎_elim (λ own. by fell.kept own fell.count fell.least fell.most fell.stands) (λ other. absurd (never_some (sym sure ∙ other))) fell.is
+  pub fell_within : {beside : KeptBeside} (n : Node) (limit : ℕ) (new : DiskSet R g) → beside.doubt ≡ None → CrashedAt beside (with_first n limit) new → CrashedTo beside n limit new
+  fell_within {beside} n limit new sure fell = ⊎_elim (λ own. by fell.kept own fell.count fell.least fell.most fell.stands) (λ other. absurd (never_some (sym sure ∙ other))) fell.is
     where
-      by : (k : KeptSite) → k ≡ itself beside (with_first n limit) → (count : ℕ) → k.node.safe ≤ count → count ≤ length k.node.log → SiteStands (sure_of k) (crashed k.node count) new → CrashedTo beside n limit new
+      by : (k : KeptSite) → k ≡ itself beside (with_first n limit) → (count : ℕ) → k.node.safe ≤ count → count ≤ length k.node.log → SiteStands (sure_of k) (fell_to (with_first n limit) k.node count) new → CrashedTo beside n limit new
       by k own =
-          subst (λ (x : KeptSite). (count : ℕ) → x.node.safe ≤ count → count ≤ length x.node.log → SiteStands (sure_of x) (crashed x.node count) new → CrashedTo beside n limit new) (sym own)
+          subst (λ (x : KeptSite). (count : ℕ) → x.node.safe ≤ count → count ≤ length x.node.log → SiteStands (sure_of x) (fell_to (with_first n limit) x.node count) new → CrashedTo beside n limit new) (sym own)
           (λ count least most stands.
           let few : count ≤ limit = omega (arith, most, length-take limit n.log) in
           record {
@@ -283,7 +290,7 @@ module _ {R : Type 0} {g : Ghosts R} where
 
   pub applied_off : {beside : KeptBeside} (n : Node) (to : ℕ) (old mid new : DiskSet R g) (why : No) → is_off why ≡ true → beside.doubt ≡ None → AppliedUp beside n to old mid (Err why)
       → (CutAt beside (with_first n n.safe) mid → CrashedAt beside (with_first n n.safe) new) → AppliedAt beside n to old new (Err why)
-  applied_off n to old mid new Off off sure is falls = (is.0, fell_to n n.safe new sure (falls is.1))
+  applied_off n to old mid new Off off sure is falls = (is.0, fell_within n n.safe new sure (falls is.1))
   applied_off n to old mid new other off sure is falls = absurd (cc)
 
   pub applied_on : (beside : KeptBeside) (n : Node) (to : ℕ) (old new : DiskSet R g) (why : No) → is_off why ≡ false → AppliedUp beside n to old new (Err why) → AppliedAt beside n to old new (Err why)

@@ -1,6 +1,6 @@
 -- How many calls a write is in a log that began empty and did not go round.
 use Rattle.std.proofs.Common.{◌≡◌, ◌∙◌, ◌+◌, ◌<◌, ◌≤◌, ◌-◌, ⊎_elim, ℕ, List, [], ◌∷◌, ◌++◌, length, drop, ap, sym, subst, refl, arith, IsTrue, true}
-use Rattle.std.specs.Prelude.{◌%◌, Option, Some, None, Result, Ok, Err, OnOk}
+use Rattle.std.specs.Prelude.{◌%◌, false, IsSome, Option, Some, None, Result, Ok, Err, OnOk}
 use Rattle.std.proofs.lemmas.List.{append-nil}
 use Rattle.std.proofs.Math.Nat.{mod-eq_of_lt}
 use Rattle.vx_model.specs.Content.{Content, Write, blocks_in}
@@ -26,7 +26,7 @@ use Rattle.vx_rvg.proofs.FetchGives.{widths_beside}
 use Rattle.vx_diskset.specs.Lasts.{StandsHolding}
 use Rattle.vx_rvg.specs.Groups.{core_with_write}
 use Rattle.vx_diskset.specs.Fuses.{IsFirstLog}
-use Rattle.vx_grouped.specs.SetFuses.{HasFuse, LetsPass}
+use Rattle.vx_diskset.specs.Fuses.{FuseOn, LetsOn}
 use Rattle.vx_events.specs.Fuses.{IsExact, KeepsAllWrites}
 use Rattle.vx_diskset.specs.Stands.{IsUpAt}
 
@@ -95,10 +95,10 @@ fewer_four calls pick (Some f) new is fewer =
     let same : f ≡ (calls, pick) = cc in
     omega (arith, fewer.0, ap (λ (p : ℕ × ℕ). p.0) same)
 
-four_of : (calls : ℕ) (old new : Option Disks) → WithDisks old new (λ o n. FewerLeft 4 o.fuse n.fuse) → LetsPass calls old → 4 ≤ calls
-four_of calls None new with lets = absurd lets
-four_of calls (Some o) None with lets = absurd with
-four_of calls (Some o) (Some n) with lets = fewer_four calls lets.0 o.fuse n.fuse lets.1 with
+four_of : (calls : ℕ) (old new : Option Disks) → IsSome old → WithDisks old new (λ o n. FewerLeft 4 o.fuse n.fuse) → LetsOn calls old → 4 ≤ calls
+four_of calls None new some with lets = let wrong : false ≡ true = some in absurd (cc)
+four_of calls (Some o) None some with lets = absurd with
+four_of calls (Some o) (Some n) some with lets = fewer_four calls lets.0 o.fuse n.fuse lets.1 with
 
 short_four : (calls pick : ℕ) (fuse : Option (ℕ × ℕ)) → fuse ≡ Some (calls, pick) → IsShort 4 fuse → calls < 4
 short_four calls pick None is short = absurd short
@@ -106,12 +106,18 @@ short_four calls pick (Some f) is short =
     let same : f ≡ (calls, pick) = cc in
     omega (arith, short, ap (λ (p : ℕ × ℕ). p.0) same)
 
-less_of : (calls : ℕ) (old : Option Disks) → RackIsShort 4 old → LetsPass calls old → calls < 4
-less_of calls None short lets = absurd lets
-less_of calls (Some o) short lets = short_four calls lets.0 o.fuse lets.1 short
+less_of : (calls : ℕ) (old : Option Disks) → IsSome old → RackIsShort 4 old → LetsOn calls old → calls < 4
+less_of calls None some short lets = let wrong : false ≡ true = some in absurd (cc)
+less_of calls (Some o) some short lets = short_four calls lets.0 o.fuse lets.1 short
 
-lets_pass : (n : Node) (m : Meaning) (calls : ℕ) → n.fuse ≡ FuseSet calls → HasFuse n.fuse m → LetsPass calls m.disks
-lets_pass n m calls set has = subst (λ (f : Fuse). HasFuse f m) set has
+-- a shelf that a call made no rack was none before
+pub rack_before : (old new : Option Disks) (P : Disks → Disks → Type 0) → WithDisks old new P → IsSome new → IsSome old
+rack_before None None P with some = some
+rack_before None (Some n) P with some = absurd with
+rack_before (Some o) new P with some = refl
+
+lets_pass : (n : Node) (m : Meaning) (calls : ℕ) → n.fuse ≡ FuseSet calls → FuseOn n.fuse m → LetsOn calls m.disks
+lets_pass n m calls set has = subst (λ (f : Fuse). FuseOn f m) set has
 
 -- a site that is up, and a write that is exactly four calls
 module _ {beside : KeptBeside} (n : Node) (c : Core) (m : Meaning) (volume start : ℕ) (bytes : List ℕ) (up : IsUpAt beside n c m) (none : n.halted ≡ None) (origin : is_origin n.role ≡ true) (sound : IsSound c m) (told : IsTrue m.tells) (some : 0 < blocks_in bytes)
@@ -132,11 +138,11 @@ module _ {beside : KeptBeside} (n : Node) (c : Core) (m : Meaning) (volume start
   pub pushed_here : (c' : Core) → c' ≡ core_with_write c volume start bytes → IsFirstLog c'.log (n.log ++ record { volume = volume; start = start; bytes = bytes } ∷ [])
   pushed_here c' is = first_pushed c c' n.log volume start bytes is idle first_here
 
-  pub four_here : (new : Meaning) (calls : ℕ) → n.fuse ≡ FuseSet calls → MakesCalls 4 m new → 4 ≤ calls
-  four_here new calls set made = four_of calls m.disks new.disks made.fuses (lets_pass n m calls set up.fuse)
+  pub four_here : (new : Meaning) (calls : ℕ) → IsSome new.disks → n.fuse ≡ FuseSet calls → MakesCalls 4 m new → 4 ≤ calls
+  four_here new calls some set made = four_of calls m.disks new.disks (rack_before m.disks new.disks _ made.fuses some) made.fuses (lets_pass n m calls set up.fuse)
 
-  pub less_here : (new : Meaning) (calls : ℕ) → n.fuse ≡ FuseSet calls → FallsShort 4 m new → IsTrue new.down → calls < 4
-  less_here new calls set falls down = less_of calls m.disks (falls.left up.up down) (lets_pass n m calls set up.fuse)
+  pub less_here : (new : Meaning) (calls : ℕ) → IsSome m.disks → n.fuse ≡ FuseSet calls → FallsShort 4 m new → IsTrue new.down → calls < 4
+  less_here new calls some set falls down = less_of calls m.disks some (falls.left up.up down) (lets_pass n m calls set up.fuse)
 
 -- ---- the same of a group before and behind the making of room, which changed nothing
 
@@ -149,25 +155,26 @@ module _ {beside : KeptBeside} {R : Type 0} {g : Ghosts R} (n : Node) (old mid :
   first_after keeps room idle =
       subst (λ (r : Rvg R g). IsFirstLog r.core.log n.log) (sym (at_once keeps room idle)) (first_here n old.core (g.meaning old.shelf) volume start bytes up none origin old.sound told some keeps room)
 
-  falls_less : (r : Rvg R g) → r ≡ old → (new : Meaning) (calls : ℕ) → IsExact n (record { volume = volume; start = start; bytes = bytes }) calls
+  falls_less : (r : Rvg R g) → r ≡ old → (new : Meaning) (calls : ℕ) → IsSome (g.meaning r.shelf).disks → IsExact n (record { volume = volume; start = start; bytes = bytes }) calls
       → (BodyFits r.core.log bytes → FallsShort 4 (g.meaning r.shelf) new) → IsTrue new.down → calls < 4
-  falls_less r same new calls exact short down =
+  falls_less r same new calls some_disks exact short down =
+      let rack : IsSome (g.meaning old.shelf).disks = subst (λ (k : Rvg R g). IsSome (g.meaning k.shelf).disks) same some_disks in
       let here : BodyFits old.core.log bytes → FallsShort 4 (g.meaning old.shelf) new = subst (λ (k : Rvg R g). BodyFits k.core.log bytes → FallsShort 4 (g.meaning k.shelf) new) same short in
-      less_here n old.core (g.meaning old.shelf) volume start bytes up none origin old.sound told some exact.keeps exact.room new calls exact.set
+      less_here n old.core (g.meaning old.shelf) volume start bytes up none origin old.sound told some exact.keeps exact.room new calls rack exact.set
       (here (fits_here n old.core (g.meaning old.shelf) volume start bytes up none origin old.sound told some exact.keeps exact.room)) down
 
-  pub cut_less : (new : Meaning) (calls : ℕ) → IsExact n (record { volume = volume; start = start; bytes = bytes }) calls → (blocks_in bytes < free_of old.core.log → mid ≡ old)
+  pub cut_less : (new : Meaning) (calls : ℕ) → IsSome (g.meaning mid.shelf).disks → IsExact n (record { volume = volume; start = start; bytes = bytes }) calls → (blocks_in bytes < free_of old.core.log → mid ≡ old)
       → (BodyFits mid.core.log bytes → FallsShort 4 (g.meaning mid.shelf) new) → IsTrue new.down → calls < 4
-  cut_less new calls exact idle short down = falls_less mid (at_once exact.keeps exact.room idle) new calls exact short down
+  cut_less new calls rack exact idle short down = falls_less mid (at_once exact.keeps exact.room idle) new calls rack exact short down
 
-  makes_four : (r : Rvg R g) → r ≡ old → (new : Meaning) (calls : ℕ) → IsExact n (record { volume = volume; start = start; bytes = bytes }) calls
+  makes_four : (r : Rvg R g) → r ≡ old → (new : Meaning) (calls : ℕ) → IsSome new.disks → IsExact n (record { volume = volume; start = start; bytes = bytes }) calls
       → (BodyFits r.core.log bytes → MakesCalls 4 (g.meaning r.shelf) new) → 4 ≤ calls
-  makes_four r same new calls exact made =
+  makes_four r same new calls rack exact made =
       let here : BodyFits old.core.log bytes → MakesCalls 4 (g.meaning old.shelf) new = subst (λ (k : Rvg R g). BodyFits k.core.log bytes → MakesCalls 4 (g.meaning k.shelf) new) same made in
-      four_here n old.core (g.meaning old.shelf) volume start bytes up none origin old.sound told some exact.keeps exact.room new calls exact.set
+      four_here n old.core (g.meaning old.shelf) volume start bytes up none origin old.sound told some exact.keeps exact.room new calls rack exact.set
       (here (fits_here n old.core (g.meaning old.shelf) volume start bytes up none origin old.sound told some exact.keeps exact.room))
 
-  pub exact_is : (new : Meaning) (calls : ℕ) → IsExact n (record { volume = volume; start = start; bytes = bytes }) calls → (blocks_in bytes < free_of old.core.log → mid ≡ old)
+  pub exact_is : (new : Meaning) (calls : ℕ) → IsSome new.disks → IsExact n (record { volume = volume; start = start; bytes = bytes }) calls → (blocks_in bytes < free_of old.core.log → mid ≡ old)
       → (result : Result ℕ No) → OnOk result (BodyFits mid.core.log bytes → MakesCalls 4 (g.meaning mid.shelf) new) → OnOk result (4 ≤ calls)
-  exact_is new calls exact idle (Ok number) made = makes_four mid (at_once exact.keeps exact.room idle) new calls exact made
-  exact_is new calls exact idle (Err why) made = tt
+  exact_is new calls rack exact idle (Ok number) made = makes_four mid (at_once exact.keeps exact.room idle) new calls rack exact made
+  exact_is new calls rack exact idle (Err why) made = tt

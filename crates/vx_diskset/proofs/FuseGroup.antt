@@ -1,6 +1,6 @@
 -- What the setting of the fuse leaves of a site.
-use Rattle.std.proofs.Common.{◌≡◌, ◌∙◌, ℕ, List, sym, refl, Option, Some, None, MatchOption}
-use Rattle.vx_history.specs.World.{Node, FuseSet}
+use Rattle.std.proofs.Common.{◌≡◌, ◌∙◌, ℕ, List, sym, refl, Option, Some, None, MatchOption, arith}
+use Rattle.vx_history.specs.World.{Fuse, FuseSet, Node}
 use Rattle.vx_diskset.specs.Holds.{KeptBeside}
 use Rattle.vx_disk.specs.Causes.{OnDisks}
 use Rattle.vx_disk.specs.Disks.{Disks, SameBlocks}
@@ -13,7 +13,7 @@ use Rattle.vx_rvg.specs.Holdings.{Holding}
 use Rattle.vx_rvg.specs.Stands.{Stands}
 use Rattle.vx_rvg.specs.Views.{Core, IsSound, unit_of}
 use Rattle.vx_rvg.proofs.WriteSound.{ended_sound}
-use Rattle.vx_grouped.specs.SetFuses.{LetsPass}
+use Rattle.vx_diskset.specs.Fuses.{FuseOn, LetsOn}
 use Rattle.vx_diskset.specs.Stands.{IsUpAt}
 use Rattle.vx_diskset.proofs.Laying.{lies_as}
 use Rattle.vx_diskset.proofs.BesideLemmas.{may_same, site_map}
@@ -39,7 +39,7 @@ alike_stands core m new alike h stands = record {
   low = stands.low;
   writes = stands.writes;
   place = stands.place;
-  maps = record { size = stands.maps.size ∙ sym (alike.contents.size core.units.maps); each = λ b bytes there. keeps_alike m new alike core.units.maps b bytes (stands.maps.each b bytes there) };
+  maps = record { size = (let least = stands.maps.size in let same = alike.contents.size core.units.maps in omega (arith, least, same)); each = λ b bytes there. keeps_alike m new alike core.units.maps b bytes (stands.maps.each b bytes there) };
   marks = stands.marks;
   ready = record {
     ring = record {
@@ -66,19 +66,18 @@ alike_stands core m new alike h stands = record {
     on : RingOn core.log stands.log m
     on = stands.ready.ring
 
-pub lets_by : (calls pick : ℕ) (old new : Option Disks) → OnDisks old new (λ o n. SameBlocks o n × (n.fuse ≡ Some (calls, pick))) → (d : Disks) → new ≡ Some d → LetsPass calls new
-lets_by calls pick None None with d is = absurd (cc)
+pub lets_by : (calls pick : ℕ) (old new : Option Disks) → OnDisks old new (λ o n. SameBlocks o n × (n.fuse ≡ Some (calls, pick))) → (d : Disks) → new ≡ Some d → LetsOn calls new
+lets_by calls pick None None with d is = tt
 lets_by calls pick None (Some n) with d is = absurd with
 lets_by calls pick (Some o) None with d is = absurd with
 lets_by calls pick (Some o) (Some n) with d is = (pick, with.0.1)
 
--- a site that is up, with its fuse
-pub up_fused : {beside : KeptBeside} (n : Node) (c : Core) (m new : Meaning) (calls pick : ℕ) → IsRack new → Alike m new → new.down ≡ m.down → OnDisks m.disks new.disks (λ o n. SameBlocks o n × (n.fuse ≡ Some (calls, pick)))
-    → IsUpAt beside n c m → IsUpAt beside (record n { fuse = FuseSet calls }) c new
-up_fused n c m new calls pick rack alike down disks up = record {
+-- a site that is up, on a shelf of which only the fuse changed
+pub up_alike : {beside : KeptBeside} (n : Node) (fuse : Fuse) (c : Core) (m new : Meaning) → Alike m new → new.down ≡ m.down → FuseOn fuse new → IsUpAt beside n c m → IsUpAt beside (record n { fuse = fuse }) c new
+up_alike n fuse c m new alike down on up = record {
   state = up.state;
   up = down ∙ up.up;
-  fuse = lets_by calls pick m.disks new.disks disks rack.told rack.is;
+  fuse = on;
   lies = lies_as n m new alike.contents.units alike.contents.size up.lies;
   units = up.units;
   ring = up.ring;
@@ -97,7 +96,12 @@ up_fused n c m new calls pick rack alike down disks up = record {
   durable = up.durable;
   takes = up.takes;
   content = λ none told. still_with c n.log n.base m new (alike_stands c m new alike) (up.content none (sym alike.contents.tells ∙ told));
-  left = λ i now. site_map n (record n { fuse = FuseSet calls }) i (λ has. record { count = has.count; least = has.least; most = has.most; found = has.found }) (up.left i (alike.contents.now i now));
+  left = λ i now. site_map n (record n { fuse = fuse }) i (λ has. record { count = has.count; least = has.least; most = has.most; found = has.found }) (up.left i (alike.contents.now i now));
   sure = up.sure;
   may = λ k is. may_same k m new alike.contents.units alike.contents.size alike.contents.tells (up.may k is);
 }
+
+-- a site that is up, with its fuse
+pub up_fused : {beside : KeptBeside} (n : Node) (c : Core) (m new : Meaning) (calls pick : ℕ) → IsRack new → Alike m new → new.down ≡ m.down → OnDisks m.disks new.disks (λ o n. SameBlocks o n × (n.fuse ≡ Some (calls, pick)))
+    → IsUpAt beside n c m → IsUpAt beside (record n { fuse = FuseSet calls }) c new
+up_fused n c m new calls pick rack alike down disks up = up_alike n (FuseSet calls) c m new alike down (lets_by calls pick m.disks new.disks disks rack.told rack.is) up

@@ -19,15 +19,15 @@ use Rattle.vx_diskset.specs.DiskSets.{Later}
 use Rattle.vx_diskset.specs.Recovers.{RisesSince}
 use Rattle.vx_grouped.specs.declared.group_site.GroupSite.{GroupSite}
 use Rattle.vx_grouped.specs.declared.group_site.GroupSite.TheVariants.{Up, Deported, Down, Marked, Gone}
-use Rattle.vx_diskset.specs.GroupCalls.{AtSite, bare_disks, cut_in}
+use Rattle.vx_diskset.specs.GroupCalls.{AtSite, bare_disks, cut_in, AtPlain}
 use Rattle.vx_diskset.specs.GroupSets.{cut_value, noted_cut}
 use Rattle.vx_diskset.specs.Holds.{KeptBeside}
-use Rattle.vx_diskset.specs.Stands.{IsBareAt, IsGroupSet, SiteStands, bare_with, IsToldAt}
+use Rattle.vx_diskset.specs.Stands.{IsBareAt, IsGroupSet, SiteStands, bare_with, IsRackTold}
 use Rattle.vx_diskset.specs.declared.disk_set.DiskSet.{DiskSet}
 use Rattle.vx_diskset.specs.declared.disk_set.DiskSet.TheVariants.{OfGroup}
 use Rattle.vx_diskset.specs.declared.group_set.CutWrite.{CutWrite}
 use Rattle.vx_diskset.specs.declared.group_set.GroupSet.{GroupSet}
-use Rattle.vx_diskset.proofs.GroupCalling.{HasDisks, IsSettled, OnGroup, failing_risen, fuse_risen, has_group, later_risen, on_group, rises_called, settled, up_settled, told_behind}
+use Rattle.vx_diskset.proofs.GroupCalling.{HasDisks, IsSettled, OnGroup, failing_risen, fuse_risen, later_risen, on_group, rises_called, settled, up_settled, told_behind, plain_set, at_both}
 use Rattle.vx_watched.specs.Traces.{TellsLess}
 
 -- ---- disks of which a group can be made
@@ -84,9 +84,9 @@ module _ {R : Type 0} {g : Ghosts R} where
     bare_ends site old s (Ok done) cut it = tt
     bare_ends site old s (Err stop) cut it = bare_stop site old s stop cut it
 
-    pub begun_stays : (site : ℕ) (old : Meaning) (new : DiskSet R g) (r : Result (Unit {0}) Stop) → cut_in new ≡ None → AtSite (λ e. BeginsGroup site n old e r) new → IfErr r (λ stop. SiteStands beside n new)
+    pub begun_stays : (site : ℕ) (old : Meaning) (new : DiskSet R g) (r : Result (Unit {0}) Stop) → cut_in new ≡ None → AtPlain (λ e. BeginsGroup site n old e r) new → IfErr r (λ stop. SiteStands beside n new)
     begun_stays site old new r cut it =
-        let on = on_group (λ e. BeginsGroup site n old e r) new it in
+        let on = plain_set (λ e. BeginsGroup site n old e r) new it in
         subst (λ (x : DiskSet R g). IfErr r (λ stop. SiteStands beside n x)) (sym on.is)
         (bare_ends site old on.set r (subst (λ (x : DiskSet R g). cut_in x ≡ None) on.is cut) on.has)
 
@@ -99,28 +99,28 @@ module _ {R : Type 0} {g : Ghosts R} where
     begun_settled site n old s (Err (Refused other)) it = absurd it
     begun_settled site n old s (Err OutOfMemory) it = settled rackful n s it
 
-    pub begin_settled : (site : ℕ) (n : Node) (old : Meaning) (new : DiskSet R g) (r : Result (Unit {0}) Stop) → AtSite (λ e. BeginsGroup site n old e r) new → AtSite IsSettled new
+    pub begin_settled : (site : ℕ) (n : Node) (old : Meaning) (new : DiskSet R g) (r : Result (Unit {0}) Stop) → AtPlain (λ e. BeginsGroup site n old e r) new → AtSite IsSettled new
     begin_settled site n old new r it =
-        let on = on_group (λ e. BeginsGroup site n old e r) new it in
+        let on = plain_set (λ e. BeginsGroup site n old e r) new it in
         subst (λ (x : DiskSet R g). AtSite IsSettled x) (sym on.is) (begun_settled site n old on.set.site r on.has)
 
   module _ (old new : DiskSet R g) (m : Meaning) (was : HasDisks old m) (since : AtSite (λ e. CalledSince m (site_disks e)) new) where
     now : OnGroup new (λ e. CalledSince m (site_disks e))
     now = on_group (λ e. CalledSince m (site_disks e)) new since
 
-    risen : RisesSince m (site_disks now.set.site)
-    risen = rises_called m (site_disks now.set.site) now.has
+    risen : RisesSince m (site_disks now.site)
+    risen = rises_called m (site_disks now.site) now.has
 
     pub begin_failing : SameFailing old new
-    begin_failing = failing_risen old new m (site_disks now.set.site) was (has_group new now.set now.is) risen
+    begin_failing = failing_risen old new m (site_disks now.site) was now.disks risen
 
-    pub begin_later : (below : Meaning) → (IsTrue below.tells → IsToldAt old) → AtSite (λ e. TellsLess below (site_below e)) new → Later old new
-    begin_later below was_told less = later_risen old new m (site_disks now.set.site) was (has_group new now.set now.is) risen (λ told. was_told (told_behind below new less told))
+    pub begin_later : (below : Meaning) → (IsTrue below.tells → IsRackTold old) → AtSite (λ e. TellsLess below (site_below e)) new → Later old new
+    begin_later below was_told less = later_risen old new m (site_disks now.site) was now.disks risen (λ told. was_told (told_behind below new less told))
 
     pub begin_fuse : AtSite IsSettled new → FuseGoesOn old new
     begin_fuse at =
-        let settled : IsSettled now.set.site = subst (λ (x : DiskSet R g). AtSite IsSettled x) now.is at in
-        fuse_risen old new m (site_disks now.set.site) was (has_group new now.set now.is) risen settled.rack settled.at
+        let on = on_group (λ e. CalledSince m (site_disks e) × IsSettled e) new (at_both (λ e. CalledSince m (site_disks e)) IsSettled new since at) in
+        fuse_risen old new m (site_disks on.site) was on.disks (rises_called m (site_disks on.site) on.has.0) on.has.1.rack on.has.1.at
 
   -- ---- the disks on which a group was begun before
 

@@ -22,7 +22,9 @@ use Rattle.vx_grouped.specs.SiteAdds.{LacksVolume, SiteAdded}
 use Rattle.vx_grouped.specs.SiteEnds.{AttCalled, DetCalled, LacksDeport, PlainRead, PlainWrote, SiteCalled, SiteDeported, is_plex_on, refuses_att, refuses_det}
 use Rattle.vx_grouped.specs.ConfigMoves.{AttCuts, AttDone, AttFails, DetCuts, DetDone, DetFails, LosesSome}
 use Rattle.vx_config.specs.declared.config.Config.{Config}
-use Rattle.vx_untold.specs.Shades.{shade_meaning, shade_rack}
+use Rattle.vx_untold.specs.Shades.{rack_of, shade_meaning, shade_rack}
+use Rattle.vx_untold.specs.declared.shade.Shade.{Shade}
+use Rattle.vx_untold.specs.declared.shade.Shade.TheVariants.{Bright, Dark}
 use Rattle.vx_layout.specs.declared.shape.Shape.{Shape}
 use Rattle.vx_grouped.specs.SiteReturns.{ReturnSince}
 use Rattle.vx_diskset.specs.Recovers.{RisesSince}
@@ -30,13 +32,15 @@ use Rattle.vx_grouped.specs.declared.group_site.GroupSite.{GroupSite}
 use Rattle.vx_grouped.specs.declared.group_site.GroupSite.TheVariants.{Up, Deported, Down, Marked, Gone}
 use Rattle.vx_diskset.specs.Asked.{FuseGoesOn, SameFailing, disks_told}
 use Rattle.vx_diskset.specs.DiskSets.{Later}
-use Rattle.vx_diskset.specs.GroupCalls.{AtSite, CalledOn, OnSites}
-use Rattle.vx_diskset.specs.Stands.{IsToldAt, faults_at}
+use Rattle.vx_diskset.specs.GroupCalls.{AtSite, CalledOn, OnSites, AtPlain}
+use Rattle.vx_diskset.specs.Stands.{IsRackTold, IsToldAt, faults_at}
 use Rattle.vx_diskset.specs.declared.disk_set.DiskSet.{DiskSet}
-use Rattle.vx_diskset.specs.declared.disk_set.DiskSet.TheVariants.{Bare, Spoiled, Up as UpSet, Receives, Down as DownSet, OfGroup, Gone as GoneSet}
+use Rattle.vx_diskset.specs.declared.disk_set.DiskSet.TheVariants.{Bare, Spoiled, Up as UpSet, Receives, Down as DownSet, OfGroup, Over, Gone as GoneSet}
 use Rattle.vx_diskset.specs.declared.group_set.GroupSet.{GroupSet}
 use Rattle.vx_diskset.proofs.StaysUp.{never_both, not_true}
 use Rattle.vx_watched.specs.Traces.{TellsLess}
+use Rattle.vx_diskset.specs.Aboves.{site_in}
+use Rattle.vx_diskset.specs.declared.over_set.OverSet.{OverSet}
 
 -- ---- two racks of which something is told
 
@@ -47,7 +51,7 @@ with_by P (Some x) None same each = absurd (let e : false ≡ true = same in cc)
 with_by P (Some x) (Some y) same each = each x y refl refl
 
 -- no fuse is set on a rack that has none
-never_set : (m : Meaning) → IsRack m → IsFalse m.armed → (y : Disks) → m.disks ≡ Some y → is_set y.fuse ≡ true → ⊥
+pub never_set : (m : Meaning) → IsRack m → IsFalse m.armed → (y : Disks) → m.disks ≡ Some y → is_set y.fuse ≡ true → ⊥
 never_set m rack unarmed y is on =
     let told : rack.told ≡ y = ap (λ (o : Option Disks). unwrap_or o y) (sym rack.is ∙ is) in
     let e : true ≡ false = sym on ∙ sym (ap (λ (d : Disks). is_set d.fuse) told) ∙ sym rack.armed ∙ unarmed in
@@ -111,11 +115,34 @@ module _ {R : Type 0} {g : Ghosts R} where
   pub has_spoiled : (e : DiskSet R g) (rack : R) → e ≡ Spoiled rack → HasDisks e (g.meaning rack)
   has_spoiled e rack is = subst (λ (x : DiskSet R g). HasDisks x (g.meaning rack)) (sym is) (record { disks = refl; faults = λ d. refl })
 
-  -- a disk set of a group, and its disks
+  -- a group below a disk set, and its disks
   pub record OnGroup (e : DiskSet R g) (P : GroupSite R g → Type 0) : Type 0 where
-    pub set : GroupSet R g
-    pub is : e ≡ OfGroup set
-    pub has : P set.site
+    pub site : GroupSite R g
+    pub has : P site
+    pub disks : HasDisks e (site_disks site)
+    pub told : IsRackTold e → IsTrue (site_below site).tells
+
+  shade_bright : (s : Shade R) → IsTrue (shade_meaning g.meaning s).tells → IsTrue (g.meaning (rack_of s)).tells
+  shade_bright (Bright rack) told = told
+  shade_bright (Dark rack) told = absurd (let wrong : false ≡ true = told in cc)
+
+  pub told_below : (s : GroupSite R g) → IsTrue (site_disks s).tells → IsTrue (site_below s).tells
+  told_below (Up laid) told = shade_bright laid.shelf told
+  told_below (Deported idle) told = shade_bright idle.rack told
+  told_below (Down idle) told = shade_bright idle.rack told
+  told_below (Marked rack) told = told
+  told_below Gone told = told
+
+  -- contents that are told are told by the rack
+  pub rack_tells : (e : DiskSet R g) → IsToldAt e → IsRackTold e
+  rack_tells (Bare rack) told = told
+  rack_tells (Spoiled rack) told = told
+  rack_tells (UpSet rvg) told = told
+  rack_tells (Receives s) told = told
+  rack_tells (DownSet rack) told = told
+  rack_tells (OfGroup s) told = told
+  rack_tells (Over s) told = told_below (site_in s) told
+  rack_tells GoneSet told = told
 
   pub on_group : (P : GroupSite R g → Type 0) (e : DiskSet R g) → AtSite P e → OnGroup e P
   on_group P (Bare rack) it = absurd it
@@ -123,7 +150,8 @@ module _ {R : Type 0} {g : Ghosts R} where
   on_group P (UpSet rvg) it = absurd it
   on_group P (Receives s) it = absurd it
   on_group P (DownSet rack) it = absurd it
-  on_group P (OfGroup s) it = record { set = s; is = refl; has = it }
+  on_group P (OfGroup s) it = record { site = s.site; has = it; disks = record { disks = refl; faults = λ d. refl }; told = λ told. told }
+  on_group P (Over s) it = record { site = site_in s; has = it; disks = record { disks = refl; faults = λ d. refl }; told = λ told. told }
   on_group P GoneSet it = absurd it
 
   -- ---- behind calls on them
@@ -136,7 +164,7 @@ module _ {R : Type 0} {g : Ghosts R} where
           (with_by (λ x y. (u : ℕ) → y.failing u ≡ x.failing u) m.disks m'.disks rack each));
     }
 
-    later_by : ((d : ℕ) → m.disk_faults d ≤ m'.disk_faults d) → (IsToldAt new → IsToldAt old) → Later old new
+    later_by : ((d : ℕ) → m.disk_faults d ≤ m'.disk_faults d) → (IsRackTold new → IsRackTold old) → Later old new
     later_by counts told = record {
       counts = λ d. omega (arith, was.faults d, now.faults d, counts d);
       told = told;
@@ -145,7 +173,7 @@ module _ {R : Type 0} {g : Ghosts R} where
     pub failing_risen : RisesSince m m' → SameFailing old new
     failing_risen since = failing_by since.rack since.failing
 
-    pub later_risen : RisesSince m m' → (IsToldAt new → IsToldAt old) → Later old new
+    pub later_risen : RisesSince m m' → (IsRackTold new → IsRackTold old) → Later old new
     later_risen since told = later_by since.counts told
 
     -- of disks that are up, or have no fuse
@@ -163,13 +191,13 @@ module _ {R : Type 0} {g : Ghosts R} where
   group_failing old o s is since = failing_risen old (OfGroup s) (site_disks o.site) (site_disks s.site) (has_group old o is) (has_group (OfGroup s) s refl) (rises_called (site_disks o.site) (site_disks s.site) since)
 
   -- what is told of them
-  pub told_before : (old : DiskSet R g) (o : GroupSet R g) → old ≡ OfGroup o → IsTrue (site_below o.site).tells → IsToldAt old
-  told_before old o is told = subst (λ (x : DiskSet R g). IsToldAt x) (sym is) told
+  pub told_before : (old : DiskSet R g) (o : GroupSet R g) → old ≡ OfGroup o → IsTrue (site_below o.site).tells → IsRackTold old
+  told_before old o is told = subst (λ (x : DiskSet R g). IsRackTold x) (sym is) told
 
-  pub told_behind : (m : Meaning) (new : DiskSet R g) → AtSite (λ e. TellsLess m (site_below e)) new → IsToldAt new → IsTrue m.tells
+  pub told_behind : (m : Meaning) (new : DiskSet R g) → AtSite (λ e. TellsLess m (site_below e)) new → IsRackTold new → IsTrue m.tells
   told_behind m new at told =
       let on = on_group (λ e. TellsLess m (site_below e)) new at in
-      on.has (subst (λ (x : DiskSet R g). IsToldAt x) on.is told)
+      on.has (on.told told)
 
   pub group_later : (old : DiskSet R g) (o s : GroupSet R g) → old ≡ OfGroup o → CalledSince (site_disks o.site) (site_disks s.site) → TellsLess (site_below o.site) (site_below s.site) → Later old (OfGroup s)
   group_later old o s is since less =
@@ -183,6 +211,7 @@ module _ {R : Type 0} {g : Ghosts R} where
   called_rest (Receives s) = tt
   called_rest (DownSet rack) = tt
   called_rest (OfGroup s) = since_none (site_disks s.site)
+  called_rest (Over s) = since_none (site_disks (site_in s))
   called_rest GoneSet = tt
 
   -- ---- facts of the site of a group hold of its disk set
@@ -193,8 +222,52 @@ module _ {R : Type 0} {g : Ghosts R} where
   pub on_sites : (P : GroupSite R g → Type 0) (Q : GroupSite R g → GroupSite R g → Type 0) (e : DiskSet R g) (o s : GroupSet R g) → e ≡ OfGroup o → (P o.site → Q o.site s.site) → AtSite P e → OnSites Q e (OfGroup s)
   on_sites P Q e o s is go it = subst (λ (x : DiskSet R g). OnSites Q x (OfGroup s)) (sym is) (at_sites P (Q o.site s.site) e o is go it)
 
-  pub at_none : (P : GroupSite R g → Type 0) (A : Type 0) (e : DiskSet R g) → ((o : GroupSet R g) → e ≡ OfGroup o → ⊥) → AtSite P e → A
-  at_none P A e never it = let on = on_group P e it in absurd (never on.set on.is)
+  pub at_none : (P : GroupSite R g → Type 0) (A : Type 0) (e : DiskSet R g) → ((o : GroupSet R g) → e ≡ OfGroup o → ⊥) → ((o : OverSet R g) → e ≡ Over o → ⊥) → AtSite P e → A
+  at_none P A (Bare rack) never other it = absurd it
+  at_none P A (Spoiled rack) never other it = absurd it
+  at_none P A (UpSet rvg) never other it = absurd it
+  at_none P A (Receives s) never other it = absurd it
+  at_none P A (DownSet rack) never other it = absurd it
+  at_none P A (OfGroup s) never other it = absurd (never s refl)
+  at_none P A (Over s) never other it = absurd (other s refl)
+  at_none P A GoneSet never other it = absurd it
+
+  -- a group without a replicated volume group
+  pub record IsPlainSet (e : DiskSet R g) (P : GroupSite R g → Type 0) : Type 0 where
+    pub set : GroupSet R g
+    pub is : e ≡ OfGroup set
+    pub has : P set.site
+
+  pub plain_set : (P : GroupSite R g → Type 0) (e : DiskSet R g) → AtPlain P e → IsPlainSet e P
+  plain_set P (Bare rack) it = absurd it
+  plain_set P (Spoiled rack) it = absurd it
+  plain_set P (UpSet rvg) it = absurd it
+  plain_set P (Receives s) it = absurd it
+  plain_set P (DownSet rack) it = absurd it
+  plain_set P (OfGroup s) it = record { set = s; is = refl; has = it }
+  plain_set P (Over s) it = absurd it
+  plain_set P GoneSet it = absurd it
+
+  pub at_both : (P Q : GroupSite R g → Type 0) (e : DiskSet R g) → AtSite P e → AtSite Q e → AtSite (λ s. P s × Q s) e
+  at_both P Q (Bare rack) it other = absurd it
+  at_both P Q (Spoiled rack) it other = absurd it
+  at_both P Q (UpSet rvg) it other = absurd it
+  at_both P Q (Receives s) it other = absurd it
+  at_both P Q (DownSet rack) it other = absurd it
+  at_both P Q (OfGroup s) it other = (it, other)
+  at_both P Q (Over s) it other = (it, other)
+  at_both P Q GoneSet it other = absurd it
+
+  -- of both kinds
+  pub at_map : (P Q : GroupSite R g → Type 0) → ((s : GroupSite R g) → P s → Q s) → (e : DiskSet R g) → AtSite P e → AtSite Q e
+  at_map P Q each (Bare rack) it = absurd it
+  at_map P Q each (Spoiled rack) it = absurd it
+  at_map P Q each (UpSet rvg) it = absurd it
+  at_map P Q each (Receives s) it = absurd it
+  at_map P Q each (DownSet rack) it = absurd it
+  at_map P Q each (OfGroup s) it = each s.site it
+  at_map P Q each (Over s) it = each (site_in s) it
+  at_map P Q each GoneSet it = absurd it
 
   -- the other plexes
   pub others_on : {T : Type 0} (r : Result T Stop) (e : DiskSet R g) (o s : GroupSet R g) → e ≡ OfGroup o → (v p : ℕ)

@@ -30,7 +30,7 @@ use Rattle.vx_diskset.specs.declared.disk_set.DiskSet.TheVariants.{OfGroup}
 use Rattle.vx_diskset.specs.declared.group_set.CutWrite.{CutWrite}
 use Rattle.vx_diskset.specs.declared.group_set.GroupSet.{GroupSet}
 use Rattle.vx_diskset.specs.declared.group_set.KeptWrite.{KeptWrite}
-use Rattle.vx_diskset.proofs.GroupCalling.{IsSettled, OnGroup, away_settled, down_settled, failing_risen, fuse_risen, has_group, later_risen, on_group, rises_fell, up_settled, told_before, told_behind}
+use Rattle.vx_diskset.proofs.GroupCalling.{IsSettled, OnGroup, away_settled, down_settled, failing_risen, fuse_risen, has_group, later_risen, on_group, rises_fell, up_settled, told_before, told_behind, at_map, at_both}
 use Rattle.vx_grouped.specs.GroupNotes.{note_dimmed}
 use Rattle.vx_watched.specs.Traces.{TellsLess}
 
@@ -124,26 +124,26 @@ module _ {R : Type 0} {g : Ghosts R} where
     now = on_group (λ e. RisesSince (site_disks o.site) (site_disks e)) new since
 
     pub rise_failing : SameFailing old new
-    rise_failing = failing_risen old new (site_disks o.site) (site_disks now.set.site) (has_group old o is) (has_group new now.set now.is) now.has
+    rise_failing = failing_risen old new (site_disks o.site) (site_disks now.site) (has_group old o is) now.disks now.has
 
     pub rise_later : Later old new
     rise_later =
-        later_risen old new (site_disks o.site) (site_disks now.set.site) (has_group old o is) (has_group new now.set now.is) now.has (λ told. told_before old o is (told_behind (site_below o.site) new less told))
+        later_risen old new (site_disks o.site) (site_disks now.site) (has_group old o is) now.disks now.has (λ told. told_before old o is (told_behind (site_below o.site) new less told))
 
     pub rise_fuse : AtSite IsSettled new → FuseGoesOn old new
     rise_fuse at =
-        let settled : IsSettled now.set.site = subst (λ (x : DiskSet R g). AtSite IsSettled x) now.is at in
-        fuse_risen old new (site_disks o.site) (site_disks now.set.site) (has_group old o is) (has_group new now.set now.is) now.has settled.rack settled.at
+        let on = on_group (λ e. RisesSince (site_disks o.site) (site_disks e) × IsSettled e) new (at_both (λ e. RisesSince (site_disks o.site) (site_disks e)) IsSettled new since at) in
+        fuse_risen old new (site_disks o.site) (site_disks on.site) (has_group old o is) on.disks on.has.0 on.has.1.rack on.has.1.at
 
   module _ (rackful : (r : R) → IsRack (g.meaning r)) where
     at_settled : (P : GroupSite R g → Type 0) (new : DiskSet R g) → ((s : GroupSite R g) → P s → IsSettled s) → AtSite P new → AtSite IsSettled new
-    at_settled P new each it = let on = on_group P new it in subst (λ (x : DiskSet R g). AtSite IsSettled x) (sym on.is) (each on.set.site on.has)
+    at_settled P new each it = at_map P IsSettled each new it
 
     refused_settled : (off : Bool) (n : Node) (note : GroupNode) (m : Meaning) (stop : Stop) (s : GroupSite R g) → ImportRefused off n note m s stop → IsSettled s
     refused_settled true n note m stop s it = down_settled rackful (crashed (returned_with (note_dimmed true note) n) 0) (note_dimmed true note) s it.0
     refused_settled false n note m stop s it = away_settled rackful (worked (dimmed_site (not (stops_early stop)) note n)) (note_dimmed (not (stops_early stop)) note) s it.0
 
-    imported_settled : (n : Node) (note : GroupNode) (o s : GroupSite R g) (r : Result (Unit {0}) Stop) → SiteImports n note o s r → IsSettled s
+    pub imported_settled : (n : Node) (note : GroupNode) (o s : GroupSite R g) (r : Result (Unit {0}) Stop) → SiteImports n note o s r → IsSettled s
     imported_settled n note o s (Ok done) it = up_settled rackful (returned_with it.0.0 n) it.0.0 s it.0.2
     imported_settled n note o s (Err stop) it = refused_settled (stops_down stop) (dimmed_site (is_dimmed o) note n) (note_dimmed (is_dimmed o) note) (as_imported o) stop s it
 

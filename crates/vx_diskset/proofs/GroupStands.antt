@@ -155,6 +155,10 @@ noted_over n note it =
     ap (λ (o : Option GroupNode). is_some o && eqb (length n.volumes) 0) it.is
     ∙ ap (λ (vs : List Volume). eqb (length vs) 0) it.none.volumes
 
+-- one without a group is not
+pub none_apart : (n : Node) → n.group ≡ None → is_over_group n ≡ false
+none_apart n none = ap (λ (o : Option GroupNode). is_some o && eqb (length n.volumes) 0) none
+
 module _ {R : Type 0} {g : Ghosts R} where
   pub set_burned : (beside : KeptBeside) (n : Node) (s : GroupSet R g) → IsGroupSet beside n s → IsGroupSet beside (record n { fuse = burned n.fuse }) s
   set_burned beside n s it =

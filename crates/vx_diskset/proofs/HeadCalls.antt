@@ -1,6 +1,6 @@
 -- The calls of a header on the disks of a site: how many, and what they leave of the fuse.
 use Rattle.std.proofs.Common.{◌≡◌, ◌∙◌, ℕ, ap, arith, sym, subst, refl, true, false}
-use Rattle.std.specs.Prelude.{Option, Result, Ok, Err, OnOk, IsFalse}
+use Rattle.std.specs.Prelude.{Option, None, Result, Ok, Err, OnOk, IsFalse}
 use Rattle.vx_model.specs.declared.no.No.{No}
 use Rattle.vx_model.specs.declared.no.No.TheVariants.{Down as IsDown}
 use Rattle.vx_model.specs.declared.units.Units.{Units}
@@ -18,17 +18,20 @@ use Rattle.vx_secondary.specs.declared.secondary.Secondary.{Secondary}
 use Rattle.vx_events.specs.declared.said.Said.{Said}
 use Rattle.vx_events.specs.declared.said.Said.TheVariants.{Done, Refused}
 use Rattle.vx_history.specs.World.{Node}
+use Rattle.vx_diskset.specs.Aboves.{site_in}
 use Rattle.vx_diskset.specs.Asked.{HeadUnder, LeavesFuse, MayCrash, ShortBy, TakesBy, WorksBy, disks_told}
 use Rattle.vx_diskset.specs.Burning.{NoMore, OffIf}
 use Rattle.vx_diskset.specs.Holds.{KeptBeside}
 use Rattle.vx_diskset.specs.Keeps.{done_by}
 use Rattle.vx_diskset.specs.Layouts.{units_of}
 use Rattle.vx_diskset.specs.Received.{reached_by}
-use Rattle.vx_diskset.specs.Stands.{IsReceiverAt, IsUpAt, SiteStands}
+use Rattle.vx_diskset.specs.Stands.{IsReceiverAt, IsUpAt, SiteStands, IsUngrouped}
 use Rattle.vx_diskset.specs.declared.receivers.Reached.{Reached}
 use Rattle.vx_diskset.specs.declared.disk_set.DiskSet.{DiskSet}
-use Rattle.vx_diskset.specs.declared.disk_set.DiskSet.TheVariants.{Bare, Spoiled, Up, Receives, Down, OfGroup, Gone}
+use Rattle.vx_diskset.specs.declared.disk_set.DiskSet.TheVariants.{Bare, Spoiled, Up, Receives, Down, OfGroup, Over, Gone}
 use Rattle.vx_diskset.proofs.CallsBurn.{called_by, called_cut, called_still, done_called, is_done, still_on}
+use Rattle.vx_diskset.proofs.RawSets.{up_there, receiver_there}
+use Rattle.vx_diskset.proofs.Laying.{units_raw}
 
 -- an answer says how many
 takes_by : (k : ℕ) (r : Result (Unit {0}) No) (m new : Meaning) → OnOk r (MakesCalls k m new) → TakesBy k (done_by r) m.disks new.disks
@@ -53,8 +56,8 @@ works_by k (Err why) o unit is works = tt
 
 module _ {R : Type 0} {g : Ghosts R} where
   -- the log of a raw set lies on its first disk
-  pub log_place : (rvg : Rvg R g) (n : Node) → rvg.core.units ≡ units_of n → rvg.core.log.unit ≡ 0
-  log_place rvg n units = rvg.sound.log_unit ∙ ap (λ (u : Units). u.srl) units
+  pub log_place : (rvg : Rvg R g) (n : Node) → n.group ≡ None → rvg.core.units ≡ units_of n → rvg.core.log.unit ≡ 0
+  log_place rvg n raw units = rvg.sound.log_unit ∙ ap (λ (u : Units). u.srl) (units ∙ units_raw n raw)
 
   -- a call on a group that is up
   pub head_called : (k : ℕ) (r : Result (Unit {0}) No) (old new : Rvg R g) → old.core.log.unit ≡ 0 → IsFalse (g.meaning old.shelf).down → OffIf r (g.meaning new.shelf).down → OnOk r (MakesCalls k (g.meaning old.shelf) (g.meaning new.shelf))
@@ -68,18 +71,18 @@ module _ {R : Type 0} {g : Ghosts R} where
       }
 
   -- of a site that is up
-  pub head_up : (k : ℕ) (said : Said) (beside : KeptBeside) (n : Node) (e after : DiskSet R g) (rvg : Rvg R g) → e ≡ Up rvg → SiteStands beside n e → (IsUpAt beside n rvg.core (g.meaning rvg.shelf) → HeadUnder k said (Up rvg) after)
+  pub head_up : (k : ℕ) (said : Said) (beside : KeptBeside) (n : Node) (e after : DiskSet R g) (rvg : Rvg R g) → e ≡ Up rvg → SiteStands beside n e → (IsUngrouped beside n → IsUpAt beside n rvg.core (g.meaning rvg.shelf) → HeadUnder k said (Up rvg) after)
       → HeadUnder k said e after
   head_up k said beside n e after rvg is stands headed =
-      let up : IsUpAt beside n rvg.core (g.meaning rvg.shelf) = subst (λ (x : DiskSet R g). SiteStands beside n x) is stands in
-      subst (λ (x : DiskSet R g). HeadUnder k said x after) (sym is) (headed up)
+      let at = up_there beside n e rvg is stands in
+      subst (λ (x : DiskSet R g). HeadUnder k said x after) (sym is) (headed at.0 at.1)
 
   -- of a site that receives
   pub head_received : (k : ℕ) (said : Said) (beside : KeptBeside) (n : Node) (e : DiskSet R g) (s s' : Secondary R g) → e ≡ Receives s → SiteStands beside n e
-      → (IsReceiverAt beside n s.rvg.core s.waiting (g.meaning s.rvg.shelf) → HeadUnder k said (Up s.rvg) (Up s'.rvg)) → HeadUnder k said e (Receives s')
+      → (IsUngrouped beside n → IsReceiverAt beside n s.rvg.core s.waiting (g.meaning s.rvg.shelf) → HeadUnder k said (Up s.rvg) (Up s'.rvg)) → HeadUnder k said e (Receives s')
   head_received k said beside n e s s' is stands headed =
-      let at : IsReceiverAt beside n s.rvg.core s.waiting (g.meaning s.rvg.shelf) = subst (λ (x : DiskSet R g). SiteStands beside n x) is stands in
-      let here = headed at in
+      let at = receiver_there beside n e s is stands in
+      let here = headed at.0 at.1 in
       subst (λ (x : DiskSet R g). HeadUnder k said x (Receives s')) (sym is) (record { burns = record { told = here.burns.told; sizes = here.burns.sizes }; takes = here.takes; short = here.short; works = here.works })
 
   -- one in which the fuse ran out, and behind which the disks crashed
@@ -102,6 +105,7 @@ module _ {R : Type 0} {g : Ghosts R} where
   none_taken (Receives s) = (no_calls (g.meaning s.rvg.shelf) 0 refl).fuses
   none_taken (Down rack) = (no_calls (g.meaning rack) 0 refl).fuses
   none_taken (OfGroup s) = (no_calls (site_disks s.site) 0 refl).fuses
+  none_taken (Over s) = (no_calls (site_disks (site_in s)) 0 refl).fuses
   none_taken Gone = tt
 
   -- no call
@@ -118,6 +122,6 @@ module _ {R : Type 0} {g : Ghosts R} where
   pub called_received : (said : Said) (beside : KeptBeside) (n : Node) (e : DiskSet R g) (s s' : Secondary R g) → e ≡ Receives s → SiteStands beside n e
       → (IsFalse (g.meaning s.rvg.shelf).down → LeavesFuse NoMore said (Up s.rvg) (Up s'.rvg)) → LeavesFuse NoMore said e (Receives s')
   called_received said beside n e s s' is stands called =
-      let at : IsReceiverAt beside n s.rvg.core s.waiting (g.meaning s.rvg.shelf) = subst (λ (x : DiskSet R g). SiteStands beside n x) is stands in
+      let at : IsReceiverAt beside n s.rvg.core s.waiting (g.meaning s.rvg.shelf) = (receiver_there beside n e s is stands).1 in
       let here = called at.up in
       subst (λ (x : DiskSet R g). LeavesFuse NoMore said x (Receives s')) (sym is) (record { told = here.told; sizes = here.sizes })

@@ -13,7 +13,6 @@ use Rattle.vx_srlfmt.specs.declared.header.Header.{Header}
 use Rattle.vx_disk.specs.Causes.{BlamesUnit}
 use Rattle.vx_srl.specs.Views.{most_number}
 use Rattle.vx_srl.specs.declared.kept.Kept.{Kept as KeptRecord}
-use Rattle.vx_disk.specs.Counts.{Rose}
 use Rattle.vx_disk.specs.Moves.{Moves, Run}
 use Rattle.vx_disk.specs.Racks.{IsRack}
 use Rattle.vx_disk.specs.Shelf.{Image, Lawful, Meaning}
@@ -24,34 +23,28 @@ use Rattle.vx_rvg.specs.Stands.{FoundAs, Retains, Saving, Stands}
 use Rattle.vx_rvg.specs.Views.{Core}
 use Rattle.vx_rvg.proofs.ContentFacts.{kept_all}
 use Rattle.vx_events.proofs.Places.{some_same}
-use Rattle.vx_events.specs.Fails.{IsLogDisk}
 use Rattle.vx_disk.specs.declared.shelf.Shelf.{Ghosts}
 use Rattle.vx_rvg.specs.declared.group.Rvg.{Rvg}
 use Rattle.vx_diskset.specs.declared.disk_set.DiskSet.{DiskSet}
 use Rattle.vx_diskset.specs.declared.disk_set.DiskSet.TheVariants.{Up}
 use Rattle.vx_diskset.specs.DiskSets.{CrashedAt, halted_at, no_number}
-use Rattle.vx_grouped.specs.SetFuses.{HasFuse}
+use Rattle.vx_diskset.specs.Fuses.{FuseOn}
 use Rattle.vx_grouped.specs.SiteEnds.{is_off}
-use Rattle.vx_diskset.specs.Holds.{KeptBeside, HasSite, HasWrites, KeptSite, MayBe, most_header, most_with, state_with, sure_of}
+use Rattle.vx_diskset.specs.Holds.{KeptBeside, HasSite, HasWrites, KeptSite, MayBe, most_with, state_with, sure_of}
 use Rattle.vx_diskset.specs.Keeps.{CanKeep, KeptAt, KeptUp, doubting, kept_anew, restated}
 use Rattle.vx_diskset.specs.Lasts.{StandsHolding}
 use Rattle.vx_diskset.specs.Layouts.{LiesOn}
 use Rattle.vx_diskset.specs.Needs.{NoneNeeds, hold_of, is_needing}
-use Rattle.vx_diskset.specs.Stands.{CutAt, IsHeldAt, IsUpAt}
+use Rattle.vx_diskset.specs.Stands.{CutAt, IsHeldAt, IsUpAt, IsUngrouped}
+use Rattle.vx_diskset.specs.Shelves.{KeptAs}
+use Rattle.vx_diskset.proofs.Blamed.{disks_are}
 use Rattle.vx_diskset.proofs.BesideLemmas.{never_besides, site_sure}
 use Rattle.vx_diskset.proofs.Laying.{lies_moved}
 use Rattle.vx_diskset.proofs.LogDisks.{log_disk}
 use Rattle.vx_diskset.proofs.LastWrites.{stands_with}
 use Rattle.vx_diskset.proofs.NeedLemmas.{takes_same}
 use Rattle.vx_diskset.proofs.StaysUp.{found_below, fuse_moved, fused_by, kept_whole, left_moved, never_both, told_now, up_found, writes_found}
-
--- what a state that is kept answers of a group
-abbrev pub KeptAs : KeptBeside → Node → State → Meaning → Core → Meaning → Result (Unit {0}) No → Type 0
-KeptAs beside n s m c' new (Ok done) = IsUpAt (sure_of (kept_anew beside n s)) (worked (restated n s)) c' new
-KeptAs beside n s m c' new (Err (Device disk)) = IsUpAt (doubting beside n s disk) (halted_at n disk) c' new × Rose (m.disk_faults disk) (new.disk_faults disk) × IsLogDisk n disk
-KeptAs beside n s m c' new (Err (Limit what most)) = (Limit what most ≡ no_number) × (IsTrue new.tells → most_number ≤ most_header beside n) × IsUpAt beside n c' new
-KeptAs beside n s m c' new (Err IsOff) = IsFused n.fuse × IsHeldAt (doubting beside n s 0) (halted_at n 0) new
-KeptAs beside n s m c' new (Err other) = ⊥
+use Rattle.vx_diskset.proofs.RawSets.{raw_sure, raw_doubting}
 
 -- an image with the site's writes has them of one that is halted, whose log may have one header more
 has_halted : {beside : KeptBeside} (n : Node) (s : State) (disk : ℕ) (i : Image) → HasWrites beside n i → HasWrites (doubting beside n s disk) (halted_at n disk) i
@@ -106,7 +99,7 @@ module _ {beside : KeptBeside} (n : Node) (c : Core) (m : Meaning) (s : State) (
 
 module _ {beside : KeptBeside} (n : Node) (c c' : Core) (m new : Meaning) (s : State) (up : IsUpAt beside n c m) (can : CanKeep beside n s) (lawful : Lawful m) (after : Lawful new)
     (moves : Moves (Run c.units.srl 0 (c.log.ring + 2)) (Saving c (with_new_state c s) m) m new) where
-  fuse_here : HasFuse (burned n.fuse) new
+  fuse_here : FuseOn (burned n.fuse) new
   fuse_here = fuse_moved n.fuse (Run c.units.srl 0 (c.log.ring + 2)) (Saving c (with_new_state c s) m) m new moves up.fuse
 
   lies_here : LiesOn n new
@@ -133,7 +126,7 @@ module _ {beside : KeptBeside} (n : Node) (c c' : Core) (m new : Meaning) (s : S
     record { lies = lies_here; low = up.low; logged = up.logged; begun = λ told. up.begun (sym moves.tells ∙ told); left = either_left 0; may = may_be 0 },
   )
 
-  module _ (still : IsFalse new.down) (unit_is : c'.log.unit ≡ c'.units.srl) (place : c.log.unit ≡ c.units.srl) (rack : IsRack m) where
+  module _ (still : IsFalse new.down) (unit_is : c'.log.unit ≡ c'.units.srl) (place : c.log.unit ≡ c.units.srl) where
     -- the state is durable
     kept_up : c' ≡ with_new_state c s → Retains c c' m new → IsUpAt (sure_of (kept_anew beside n s)) (worked (restated n s)) c' new
     kept_up is retains = subst (λ (k : Core). Retains c k m new → k.log.unit ≡ k.units.srl → IsUpAt (sure_of (kept_anew beside n s)) (worked (restated n s)) k new) (sym is) (λ rests unit. by rests unit) retains unit_is
@@ -227,7 +220,7 @@ module _ {beside : KeptBeside} (n : Node) (c c' : Core) (m new : Meaning) (s : S
           subst (λ (k : Core). IsUpAt beside n k new) (sym is.1) (subst (λ (k : Meaning). IsUpAt beside n c k) (sym stays) up),
         )
     by_refusal false some (Ok done) is unchanged rests blames = kept_up is rests
-    by_refusal false some (Err (Device disk)) is unchanged rests blames = (kept_halted disk is.0, is.1, log_disk n c m disk up.units place rack blames)
+    by_refusal false some (Err (Device disk)) is unchanged rests blames = (kept_halted disk is.0, is.1, λ rack. log_disk n c m disk up.units place rack blames)
     by_refusal false some (Err IsOff) is unchanged rests blames = absurd (never_both new.down is.1 still)
     by_refusal false some (Err (Limit what most)) is unchanged rests blames = absurd is
     by_refusal false some (Err other) is unchanged rests blames = is
@@ -242,12 +235,12 @@ module _ {beside : KeptBeside} (n : Node) (c c' : Core) (m new : Meaning) (s : S
         (subst (λ (h : Option ℕ). IsSome (halted_or h (if leb most_number c.log.header.stamp then Some no_number else None)) → new ≡ m) runs unchanged) rests blames
 
 module _ {R : Type 0} {g : Ghosts R} where
-  pub kept_at : (beside : KeptBeside) (n : Node) (s : State) (old new : Rvg R g) (result : Result (Unit {0}) No) → KeptAs beside n s (g.meaning old.shelf) new.core (g.meaning new.shelf) result → KeptUp beside n s (Up old) (Up new) result
-  kept_at beside n s old new (Ok done) is = is
-  kept_at beside n s old new (Err (Device disk)) is = is
-  kept_at beside n s old new (Err (Limit what most)) is = is
-  kept_at beside n s old new (Err IsOff) is = is
-  kept_at beside n s old new (Err other) is = is
+  pub kept_at : (beside : KeptBeside) (n : Node) (s : State) (old new : Rvg R g) (result : Result (Unit {0}) No) → IsUngrouped beside n → IsRack (g.meaning old.shelf) → KeptAs beside n s (g.meaning old.shelf) new.core (g.meaning new.shelf) result → KeptUp beside n s (Up old) (Up new) result
+  kept_at beside n s old new (Ok done) raw rack is = (raw_sure (kept_anew beside n s) (worked (restated n s)) raw.0, is)
+  kept_at beside n s old new (Err (Device disk)) raw rack is = ((raw_doubting beside n s disk raw.0, is.0), is.1, is.2 (λ none. disks_are (g.meaning old.shelf) rack))
+  kept_at beside n s old new (Err (Limit what most)) raw rack is = (is.0, is.1, (raw, is.2))
+  kept_at beside n s old new (Err IsOff) raw rack is = (is.0, (raw_doubting beside n s 0 raw.0, is.1))
+  kept_at beside n s old new (Err other) raw rack is = is
 
   -- a state whose keeping the fuse cut, and the crash behind it
   pub kept_off : (beside : KeptBeside) (n : Node) (s : State) (old mid new : DiskSet R g) (why : No) → is_off why ≡ true → KeptUp beside n s old mid (Err why) → (CutAt (doubting beside n s 0) (halted_at n 0) mid → CrashedAt (doubting beside n s 0) (halted_at n 0) new)

@@ -1,16 +1,14 @@
 -- A refusal 7 of the log of a site names the disk on which that lies.
-use Rattle.std.proofs.Common.{◌≡◌, ◌∙◌, ℕ, ap, refl, subst, sym}
-use Rattle.std.specs.Prelude.{IsSome, Option}
+use Rattle.std.proofs.Common.{◌≡◌, ◌∙◌, ℕ, ap}
 use Rattle.vx_model.specs.declared.no.No.TheVariants.{Device}
 use Rattle.vx_model.specs.declared.units.Units.{Units}
 use Rattle.vx_history.specs.World.{Node}
-use Rattle.vx_disk.specs.Disks.{Disks}
-use Rattle.vx_disk.specs.Racks.{IsRack}
 use Rattle.vx_disk.specs.Shelf.{Meaning}
 use Rattle.vx_disk.specs.Causes.{BlamesUnit}
 use Rattle.vx_rvg.specs.Views.{Core}
 use Rattle.vx_events.specs.Fails.{IsLogDisk}
+use Rattle.vx_diskset.specs.Shelves.{IsRackOf}
 use Rattle.vx_diskset.specs.Layouts.{units_of}
 
-pub log_disk : (n : Node) (c : Core) (m : Meaning) (disk : ℕ) → c.units ≡ units_of n → c.log.unit ≡ c.units.srl → IsRack m → BlamesUnit m.disks c.log.unit (Device disk) → IsLogDisk n disk
-log_disk n c m disk units place rack blames = λ none. blames (subst (λ (o : Option Disks). IsSome o) (sym rack.is) refl) ∙ place ∙ ap (λ (u : Units). u.srl) units
+pub log_disk : (n : Node) (c : Core) (m : Meaning) (disk : ℕ) → c.units ≡ units_of n → c.log.unit ≡ c.units.srl → IsRackOf n m → BlamesUnit m.disks c.log.unit (Device disk) → IsLogDisk n disk
+log_disk n c m disk units place rack blames = λ none. blames (rack none) ∙ place ∙ ap (λ (u : Units). u.srl) units

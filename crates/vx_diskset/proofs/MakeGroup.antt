@@ -5,8 +5,7 @@ use Rattle.std.proofs.lemmas.List.{length-replicate}
 use Rattle.vx_disk.specs.Maps.{maps_of}
 use Rattle.vx_diskset.specs.Holds.{KeptBeside}
 use Rattle.vx_disk.specs.Causes.{WithDisks, OnDisks}
-use Rattle.vx_disk.specs.Disks.{Disks, Untouched, is_set}
-use Rattle.vx_disk.specs.Racks.{IsRack}
+use Rattle.vx_disk.specs.Disks.{Disks, Untouched}
 use Rattle.std.proofs.lemmas.Bool.{cases_lt}
 use Rattle.vx_history.specs.World.{Node, Fuse, NoFuse, FuseSet, FuseLit}
 use Rattle.vx_model.specs.Content.{Content, zero_block}
@@ -43,9 +42,9 @@ use Rattle.vx_diskset.proofs.LastWrites.{stands_with, still_with}
 use Rattle.vx_diskset.proofs.NeedLemmas.{none_of, takes_none}
 use Rattle.vx_diskset.proofs.StaysUp.{never_both, told_now, fitted_moved, stays_up, writes_found}
 use Rattle.vx_diskset.specs.Holds.{site_alone, state_with}
-use Rattle.vx_diskset.specs.Layouts.{raw_units, CanBeRaw}
-use Rattle.vx_diskset.proofs.Laying.{lies_as, raw_lies, raw_size, raw_none}
-use Rattle.vx_grouped.specs.SetFuses.{HasFuse, LetsPass}
+use Rattle.vx_diskset.specs.Layouts.{raw_units, CanBeRaw, units_of}
+use Rattle.vx_diskset.proofs.Laying.{laid_in, lies_as, raw_lies, raw_none, raw_on, raw_size, units_raw}
+use Rattle.vx_diskset.specs.Fuses.{FuseOn, LetsOn}
 use Rattle.vx_diskset.specs.Stands.{IsFitted, IsBareAt, bare_with, IsUpAt, faults_at}
 use Rattle.vx_events.proofs.Places.{never_some, some_same}
 use Rattle.vx_events.proofs.Values.{length-values_from, slice_index-values_from}
@@ -60,28 +59,23 @@ fitted_still disks blocks m new goes down fitted = record {
   up = down ∙ fitted.up;
 }
 
-lets_still : (calls : ℕ) (old new : Option Disks) (P : Disks → Disks → Type 0) → ((o n : Disks) → P o n → n.fuse ≡ o.fuse) → WithDisks old new P → LetsPass calls old → LetsPass calls new
-lets_still calls None new P same with lets = absurd lets
+lets_still : (calls : ℕ) (old new : Option Disks) (P : Disks → Disks → Type 0) → ((o n : Disks) → P o n → n.fuse ≡ o.fuse) → WithDisks old new P → LetsOn calls old → LetsOn calls new
+lets_still calls None None P same with lets = tt
+lets_still calls None (Some n) P same with lets = absurd with
 lets_still calls (Some o) None P same with lets = absurd with
 lets_still calls (Some o) (Some n) P same with lets = (lets.0, same o n with ∙ lets.1)
 
 -- a fuse that no call touched
-pub fuse_still : (f : Fuse) (m new : Meaning) (P : Disks → Disks → Type 0) → ((o n : Disks) → P o n → n.fuse ≡ o.fuse) → new.armed ≡ m.armed → WithDisks m.disks new.disks P → HasFuse f m → HasFuse f new
+pub fuse_still : (f : Fuse) (m new : Meaning) (P : Disks → Disks → Type 0) → ((o n : Disks) → P o n → n.fuse ≡ o.fuse) → new.armed ≡ m.armed → WithDisks m.disks new.disks P → FuseOn f m → FuseOn f new
 fuse_still NoFuse m new P same armed with has = armed ∙ has
 fuse_still (FuseSet calls) m new P same armed with has = lets_still calls m.disks new.disks P same with has
 fuse_still (FuseLit most) m new P same armed with has = tt
 
 -- behind a call that only reads
-pub fuse_untouched : (f : Fuse) (m new : Meaning) → OnDisks m.disks new.disks Untouched → IsRack m → IsRack new → HasFuse f m → HasFuse f new
-fuse_untouched f m new disks rack rack' has =
-    fuse_still f m new (λ o n. Untouched o n × ((u : ℕ) → n.failing u ≡ o.failing u)) (λ o n is. is.0.fuse) armed disks has
-  where
-    told : WithDisks (Some rack.told) (Some rack'.told) (λ o n. Untouched o n × ((u : ℕ) → n.failing u ≡ o.failing u))
-    told = subst (λ (o : Option Disks). WithDisks (Some rack.told) o (λ o n. Untouched o n × ((u : ℕ) → n.failing u ≡ o.failing u))) rack'.is
-        (subst (λ (o : Option Disks). WithDisks o new.disks (λ o n. Untouched o n × ((u : ℕ) → n.failing u ≡ o.failing u))) rack.is disks)
-
-    armed : new.armed ≡ m.armed
-    armed = rack'.armed ∙ ap (λ (f : Option (ℕ × ℕ)). is_set f) told.0.fuse ∙ sym rack.armed
+pub fuse_untouched : (f : Fuse) (m new : Meaning) → OnDisks m.disks new.disks Untouched → (IsFalse m.armed → IsFalse new.armed) → FuseOn f m → FuseOn f new
+fuse_untouched NoFuse m new disks unarmed has = unarmed has
+fuse_untouched (FuseSet calls) m new disks unarmed has = lets_still calls m.disks new.disks (λ o n. Untouched o n × ((u : ℕ) → n.failing u ≡ o.failing u)) (λ o n is. is.0.fuse) disks has
+fuse_untouched (FuseLit most) m new disks unarmed has = tt
 
 pub bare_still : (n : Node) (m new : Meaning) → Goes Nothing m new → new.down ≡ m.down → new.armed ≡ m.armed → IsBareAt n m → IsBareAt n new
 bare_still n m new goes down armed bare = record {
@@ -94,7 +88,7 @@ bare_still n m new goes down armed bare = record {
 }
 
 -- a site that is up stays so over calls that change no contents
-pub up_still : {beside : KeptBeside} (n : Node) (c : Core) (m new : Meaning) → Goes Nothing m new → ((i : Image) → new.now i → m.now i) → new.down ≡ m.down → HasFuse n.fuse new → IsUpAt beside n c m → IsUpAt beside n c new
+pub up_still : {beside : KeptBeside} (n : Node) (c : Core) (m new : Meaning) → Goes Nothing m new → ((i : Image) → new.now i → m.now i) → new.down ≡ m.down → FuseOn n.fuse new → IsUpAt beside n c m → IsUpAt beside n c new
 up_still n c m new goes now down fuse up =
     let still : IsFalse new.down = down ∙ up.up in
     record {
@@ -126,7 +120,7 @@ up_still n c m new goes now down fuse up =
 
 -- the volumes of a group are those of its site
 pub up_volumes : {beside : KeptBeside} (n : Node) (c : Core) (m : Meaning) → IsUpAt beside n c m → length c.units.vols ≡ length n.volumes
-up_volumes n c m up = ap (λ (u : Units). length u.vols) up.units ∙ up.lies.laid.count
+up_volumes n c m up = ap (λ (u : Units). length u.vols) up.units ∙ (laid_in n m up.lies).count
 
 -- what was done to disk 0 alone leaves a bare site bare
 pub bare_moved : (n : Node) (count : ℕ) (m new : Meaning) → Moves (Run 0 0 count) Anything m new → IsBareAt n m → IsBareAt n new
@@ -189,7 +183,7 @@ raw_holds n m bare some = record {
       (λ past. absurd (omega (arith, below, raw_none n.disks n.blocks v past)))
       (cases_lt v (n.disks - 2));
   maps_are = record {
-    size = length-replicate {A = List ℕ} n.blocks zero_block ∙ sym (bare.fitted.size (n.disks - 1) (omega (arith, some)));
+    size = (let long = length-replicate {A = List ℕ} n.blocks zero_block in let same = bare.fitted.size (n.disks - 1) (omega (arith, some)) in omega (arith, long, same));
     each = λ b bytes there.
         let one = one_of_all n.blocks b bytes there in
         subst (λ (v : List ℕ). Keeps m (n.disks - 1) b v) one.1 (bare.blank (n.disks - 1) b (omega (arith, some)) (omega (arith, some)) one.0);
@@ -202,9 +196,9 @@ pub raw_stands : (site : ℕ) (n : Node) (c : Core) (m new : Meaning) → Lawful
 raw_stands site n c m new lawful unit_is bare can is moves stands = record {
   state = refl;
   up = stays_up (Run 0 0 (ring_of (m.size 0) + 2)) Anything m new moves bare.unarmed bare.fitted.up;
-  fuse = subst (λ (k : Node). HasFuse k.fuse new) (sym bare.is) (moves.unarmed bare.unarmed);
-  lies = raw_lies n.disks n.blocks new can bare.few bare.some (moves.units ∙ bare.fitted.units) (λ u there. moves.size u ∙ bare.fitted.size u there);
-  units = ap (λ (k : Core). k.units) is;
+  fuse = subst (λ (k : Node). FuseOn k.fuse new) (sym bare.is) (moves.unarmed bare.unarmed);
+  lies = raw_on (raw_set site n) new (ap (λ (k : Node). k.group) bare.is) (raw_lies n.disks n.blocks new can bare.few bare.some (moves.units ∙ bare.fitted.units) (λ u there. moves.size u ∙ bare.fitted.size u there));
+  units = units_here;
   ring = ring_here;
   low = ap (λ (k : Node). k.low) bare.is;
   found = [];
@@ -225,10 +219,13 @@ raw_stands site n c m new lawful unit_is bare can is moves stands = record {
   may = never_besides None new refl;
   left = λ i now.
       let told = told_now new i lawful now in
-      inl (writes_found (raw_set site n) c i (ap (λ (k : Core). k.units) is) ring_here kept_here (ap (λ (k : Core). k.log.header.incarnation) is)
+      inl (writes_found (raw_set site n) c i units_here ring_here kept_here (ap (λ (k : Core). k.log.header.incarnation) is)
       (omega (arith, ap (λ (k : Core). k.log.header.stamp) is)) refl (stands_with c [] (raw_content n.disks n.blocks) new i unit_is lawful (content told) now));
 }
   where
+    units_here : c.units ≡ units_of (raw_set site n)
+    units_here = ap (λ (k : Core). k.units) is ∙ sym (units_raw (raw_set site n) (ap (λ (k : Node). k.group) bare.is))
+
     ring_here : c.log.ring ≡ ring_of n.blocks
     ring_here = ap (λ (k : Core). k.log.ring) is ∙ ap ring_of (bare.fitted.size 0 (omega (arith, can.some)))
 

@@ -31,7 +31,7 @@ use Rattle.vx_rvg.specs.Views.{Core, IsSound}
 use Rattle.vx_diskset.specs.DiskSets.{no_number, halted_at}
 use Rattle.vx_diskset.specs.Holds.{HasSite, HasWrites}
 use Rattle.vx_diskset.specs.Rooms.{AppliedAs, IsRoomy, RoomIs}
-use Rattle.vx_grouped.specs.SetFuses.{HasFuse}
+use Rattle.vx_diskset.specs.Fuses.{FuseOn}
 use Rattle.vx_history.specs.Stops.{IsFused}
 use Rattle.vx_history.proofs.Fuses.{burned_twice, fused_before}
 use Rattle.vx_diskset.specs.Stands.{IsUpAt, IsHeldAt}
@@ -183,7 +183,7 @@ module _ {beside : KeptBeside} (n : Node) (c : Core) (m : Meaning) (to : ℕ) (u
 
 module _ {beside : KeptBeside} (n : Node) (c c' : Core) (m new : Meaning) (to : ℕ) (up : IsUpAt beside n c m) (below : to ≤ n.safe) (unneeded : NoneNeeds beside.links to) (none : n.halted ≡ None) (less : free_of c.log ≤ MOST_CALL_BLOCKS) (lawful : Lawful m) (after : Lawful new)
     (moves : Moves (Run c.units.srl 0 (c.log.ring + 2)) (Saving c (reclaimed c to) m) m new) (still : IsFalse new.down) where
-  fuse_here : HasFuse (burned n.fuse) new
+  fuse_here : FuseOn (burned n.fuse) new
   fuse_here = fuse_moved n.fuse (Run c.units.srl 0 (c.log.ring + 2)) (Saving c (reclaimed c to) m) m new moves up.fuse
 
   abbrev given : GivenUp c.log (log_without c.log to) to
@@ -336,7 +336,7 @@ roomy_again : {beside : KeptBeside} (n : Node) (c : Core) (m : Meaning) → IsRo
 roomy_again n c m roomy = record {
   up = roomy.up;
   lies = roomy.lies;
-  fuse = subst (λ (f : Fuse). HasFuse f m) (burned_twice n.fuse) roomy.fuse;
+  fuse = subst (λ (f : Fuse). FuseOn f m) (burned_twice n.fuse) roomy.fuse;
   units = roomy.units;
   ring = roomy.ring;
   found = roomy.found;

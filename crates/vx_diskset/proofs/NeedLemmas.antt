@@ -21,12 +21,14 @@ use Rattle.vx_history.specs.World.{Node}
 use Rattle.vx_model.specs.declared.site.SiteState.TheVariants.{Bare as IsBare, Up as IsUp, Down as IsDown}
 use Rattle.vx_disk.specs.declared.shelf.Shelf.{Ghosts}
 use Rattle.vx_diskset.specs.declared.disk_set.DiskSet.{DiskSet}
-use Rattle.vx_diskset.specs.declared.disk_set.DiskSet.TheVariants.{Bare, Spoiled, Up, Receives, Down, OfGroup, Gone}
+use Rattle.vx_diskset.specs.declared.disk_set.DiskSet.TheVariants.{Bare, Spoiled, Up, Receives, Down, OfGroup, Over, Gone}
+use Rattle.vx_diskset.specs.declared.over_set.OverSite.{OverSite}
+use Rattle.vx_diskset.specs.declared.over_set.OverSite.TheVariants.{Origin as OriginSite, Receiver as ReceiverSite, Deported as GroupAway, Down as GroupFell, Gone as NoGroup}
 use Rattle.vx_diskset.specs.DiskSets.{CanWrite}
 use Rattle.vx_diskset.specs.Needs.{HasRoom, NoneNeeds, TakesAs, hold_of, is_needing}
 use Rattle.vx_model.specs.declared.state.State.{State}
 use Rattle.vx_rvg.specs.declared.group.Rvg.{Rvg}
-use Rattle.vx_diskset.specs.Stands.{IsUpAt, StandsAlone}
+use Rattle.vx_diskset.specs.Stands.{IsUpAt, StandsAlone, OverStands}
 use Rattle.vx_diskset.proofs.GroupStands.{up_has_none}
 use Rattle.vx_diskset.proofs.ExactWrite.{taken_push, taken_same}
 
@@ -167,15 +169,23 @@ takes_ins l some = record {
 -- ---- a site without links has room beside none of its numbers
 
 module _ {R : Type 0} {g : Ghosts R} where
+  over_durable : (n : Node) (s : OverSite R g) → OverStands site_alone n s → is_origin n.role ≡ true → n.state ≡ IsUp → n.halted ≡ None → length n.log ≡ n.safe
+  over_durable n (OriginSite f) h origin up none = omega (arith, h.logged, h.durable none)
+  over_durable n (ReceiverSite f) h origin up none = let e : true ≡ false = sym origin ∙ h.role in absurd (cc)
+  over_durable n (GroupAway idle) h origin up none = h.1.logged
+  over_durable n (GroupFell idle) h origin up none = h.2.logged
+  over_durable n NoGroup h origin up none = absurd h
+
   all_durable : (n : Node) (e : DiskSet R g) → StandsAlone n e → is_origin n.role ≡ true → n.state ≡ IsUp → n.halted ≡ None → length n.log ≡ n.safe
   all_durable n (Bare rack) h origin up none = let e : IsBare ≡ IsUp = sym (ap (λ (x : Node). x.state) h.bare.is) ∙ up in absurd (cc)
   all_durable n (Spoiled rack) h origin up none = let e : IsBare ≡ IsUp = sym (ap (λ (x : Node). x.state) h.is) ∙ up in absurd (cc)
-  all_durable n (Up rvg) h origin up none = omega (arith, h.logged, h.durable none)
-  all_durable n (Receives s) h origin up none = let e : true ≡ false = sym origin ∙ h.role in absurd (cc)
+  all_durable n (Up rvg) h origin up none = omega (arith, h.1.logged, h.1.durable none)
+  all_durable n (Receives s) h origin up none = let e : true ≡ false = sym origin ∙ h.1.role in absurd (cc)
   all_durable n (Down rack) h origin up none = let e : IsDown ≡ IsUp = sym h.state ∙ up in absurd (cc)
   all_durable n (OfGroup s) h origin up none =
       let has = up_has_none site_alone n s h up in
       ap (λ (xs : List Write). length xs) has.log ∙ sym has.safe
+  all_durable n (Over s) h origin up none = over_durable n s.site h.1 origin up none
   all_durable n Gone h origin up none = absurd h
 
   pub all_room : (n : Node) (volume start count hold : ℕ) (e : DiskSet R g) → StandsAlone n e → CanWrite n volume start count → hold ≡ n.safe → HasRoom [] n hold count

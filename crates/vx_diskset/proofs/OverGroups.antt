@@ -149,7 +149,7 @@ module _ {R : Type 0} {g : Ghosts R} where
       subst (λ (x : GroupSite R g). OnDisks (site_disks s).disks (site_disks x).disks (λ o n. Crashed (site_disks s).size pick o n ⊎ Untouched o n) × ((u : ℕ) → (site_disks x).size u ≡ (site_disks s).size u)) (sym is)
       (none.told, none.sizes)
 
-  may_by : (pick : ℕ) (s site : GroupSite R g) → MayCrashSite pick s site
+  pub may_by : (pick : ℕ) (s site : GroupSite R g) → MayCrashSite pick s site
       → OnDisks (site_disks s).disks (site_disks site).disks (λ o n. Crashed (site_disks s).size pick o n ⊎ Untouched o n) × ((u : ℕ) → (site_disks site).size u ≡ (site_disks s).size u)
   may_by pick (Up group) site it = (may_crash (laid_disks group).size pick (laid_disks group).disks (site_disks site).disks it.1, it.0.size)
   may_by pick other site it = same_site pick other site it

@@ -18,7 +18,6 @@ use Rattle.vx_history.specs.World.{Link, Node, World}
 use Rattle.vx_history.specs.declared.sender.Action.TheVariants.{Nothing as SendsNothing}
 use Rattle.vx_history.specs.declared.sender.SEvent.TheVariants.{Pump}
 use Rattle.vx_courier.specs.UnderWay.{FlightStands}
-use Rattle.vx_disk.specs.Racks.{IsRack}
 use Rattle.vx_disk.specs.Shelf.{Meaning}
 use Rattle.vx_disk.specs.declared.shelf.Shelf.{Ghosts}
 use Rattle.vx_net.specs.Flights.{Flying}
@@ -31,6 +30,7 @@ use Rattle.vx_diskset.specs.Pumps.{PumpStop, PumpedIs}
 use Rattle.vx_peers.specs.Senders.{BlamesStop, SendsBy, pump_asks, way_from}
 use Rattle.vx_model.specs.declared.history.Line.{Line}
 use Rattle.vx_diskset.specs.Stands.{IsUpAt}
+use Rattle.vx_diskset.specs.Shelves.{IsRackOf}
 use Rattle.vx_diskset.proofs.LogDisks.{log_disk}
 use Rattle.vx_diskset.proofs.NeedLemmas.{low_needed}
 use Rattle.vx_diskset.proofs.StaysUp.{all_taken, never_both}
@@ -84,7 +84,7 @@ pumped_is d site c m new link l f f' (Err (Refused (Damaged unit block stored co
 pumped_is d site c m new link l f f' (Err (Refused other)) up none told down is flight moved cause = absurd cause
 
 -- whether contents are told or not
-pub pump_stops : {beside : KeptBeside} (n : Node) (c : Core) (m new : Meaning) (l : PlainLink) (result : Result (Unit {0}) Stop) → IsUpAt beside n c m → c.log.unit ≡ c.units.srl → IsRack m → new.down ≡ m.down → IfErr result (ReadCause c m new)
+pub pump_stops : {beside : KeptBeside} (n : Node) (c : Core) (m new : Meaning) (l : PlainLink) (result : Result (Unit {0}) Stop) → IsUpAt beside n c m → c.log.unit ≡ c.units.srl → IsRackOf n m → new.down ≡ m.down → IfErr result (ReadCause c m new)
     → OnErr result (pump_asks l (last_of c) ≢ SendsNothing) → IfErr result (BlamesStop m.disks c.log.unit) → IfErr result (PumpStop n (pump_asks l n.safe) m.disk_faults new.disk_faults)
 pump_stops n c m new l (Ok done) up place rack down cause asks blames = tt
 pump_stops n c m new l (Err OutOfMemory) up place rack down cause asks blames = tt

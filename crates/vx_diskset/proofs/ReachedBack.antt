@@ -8,7 +8,7 @@ use Rattle.vx_history.specs.Steps.{burned, worked}
 use Rattle.vx_history.specs.World.{Node, Fuse}
 use Rattle.vx_history.proofs.Fuses.{burned_twice}
 use Rattle.vx_disk.specs.Shelf.{Image, Meaning}
-use Rattle.vx_grouped.specs.SetFuses.{HasFuse}
+use Rattle.vx_diskset.specs.Fuses.{FuseOn}
 use Rattle.vx_rvg.specs.Views.{Core}
 use Rattle.vx_diskset.specs.DiskSets.{halted_at, with_first}
 use Rattle.vx_diskset.specs.Holds.{KeptBeside, HasWrites, most_with, state_with}
@@ -112,7 +112,7 @@ back_halted {beside} n number disk c us m le r = record {
   state = r.state;
   role = r.role;
   up = r.up;
-  fuse = subst (λ (f : Fuse). HasFuse f m) (burned_twice n.fuse) r.fuse;
+  fuse = subst (λ (f : Fuse). FuseOn f m) (burned_twice n.fuse) r.fuse;
   lies = lies_sized (reached n number) n.base.size m (λ v. sym (folded_size n.base (drop n.safe (take number n.log)) v)) r.lies;
   low = r.low;
   units = r.units;

@@ -28,8 +28,10 @@ use Rattle.vx_secondary.proofs.Writings.{can_parts}
 use Rattle.vx_diskset.specs.declared.receivers.Reached.{Reached}
 use Rattle.vx_diskset.specs.declared.disk_set.DiskSet.{DiskSet}
 use Rattle.vx_diskset.specs.declared.disk_set.DiskSet.TheVariants.{Up, Receives}
-use Rattle.vx_diskset.specs.DiskSets.{CanLog, LoggedUp, halted_at, halted_with, CrashedAt, with_first}
-use Rattle.vx_grouped.specs.SetFuses.{HasFuse}
+use Rattle.vx_diskset.specs.Shelves.{LoggedAs, MovesOn}
+use Rattle.vx_diskset.proofs.RvgMoves.{no_moves, then_moves}
+use Rattle.vx_diskset.specs.DiskSets.{CanLog, halted_at, halted_with, CrashedAt, with_first}
+use Rattle.vx_diskset.specs.Fuses.{FuseOn}
 use Rattle.vx_grouped.specs.SiteEnds.{is_off}
 use Rattle.vx_diskset.specs.Holds.{KeptBeside, HasWrites, most_with, state_with}
 use Rattle.vx_diskset.specs.Lasts.{FoundWith}
@@ -41,17 +43,19 @@ use Rattle.vx_rvg.specs.Groups.{has_numbers}
 use Rattle.vx_srl.specs.Views.{most_number}
 use Rattle.vx_diskset.specs.Rooms.{AppliedAs, HasNumbers, IsMore, NeverLimit}
 use Rattle.vx_diskset.proofs.LeavesNumbers.{lacks_them}
-use Rattle.vx_diskset.specs.Stands.{IsHeldAt, IsReceiverAt, IsUpAt, CutAt, SiteStands}
+use Rattle.vx_diskset.specs.Stands.{IsHeldAt, IsReceiverAt, IsUpAt, CutAt, SiteStands, IsUngrouped}
 use Rattle.vx_diskset.proofs.BesideLemmas.{never_besides, site_map}
 use Rattle.vx_disk.specs.Spends.{Spends}
 use Rattle.vx_disk.proofs.Spending.{spends_none, then_spends}
 use Rattle.vx_diskset.proofs.MakeRoom.{rose_later}
 use Rattle.vx_diskset.proofs.Mores.{more_none, more_then, wait_more}
+use Rattle.vx_diskset.proofs.Laying.{laid_in}
 use Rattle.vx_diskset.proofs.NeedLemmas.{needs_less}
-use Rattle.vx_diskset.proofs.CrashGroup.{fell_to}
+use Rattle.vx_diskset.proofs.CrashGroup.{fell_within}
 use Rattle.vx_diskset.proofs.ReachedBack.{back_first, back_halted, held_first, like, reached_more, reached_none, receiver_burned}
 use Rattle.vx_diskset.proofs.Receiving.{as_receiver, durable_of, never_some, receiver_volumes, up_receiver}
 use Rattle.vx_diskset.proofs.StaysUp.{drop-take_none, up_worked}
+use Rattle.vx_diskset.proofs.RawSets.{receiver_there, up_there}
 
 -- ---- lists
 
@@ -63,13 +67,13 @@ next_of (suc k) (y ∷ ys) x rest is = let r = next_of k ys x rest is in (ap (λ
 
 -- ---- the oldest of what waits is logged
 
-fuse_less : (k : ℕ) (f : Fuse) (m : Meaning) → HasFuse (spent k f) m → HasFuse (burned f) m
+fuse_less : (k : ℕ) (f : Fuse) (m : Meaning) → FuseOn (spent k f) m → FuseOn (burned f) m
 fuse_less k NoFuse m has = has
 fuse_less k (FuseSet calls) m has = tt
 fuse_less k (FuseLit most) m has = tt
 
 -- a site that is up, with a like content and a fuse of which less is known
-up_like : {beside : KeptBeside} (n : Node) (b : Content) (f : Fuse) (c : Core) (m : Meaning) → n.base ≡ b → HasFuse f m → IsUpAt beside n c m → IsUpAt beside (record n { base = b; fuse = f }) c m
+up_like : {beside : KeptBeside} (n : Node) (b : Content) (f : Fuse) (c : Core) (m : Meaning) → n.base ≡ b → FuseOn f m → IsUpAt beside n c m → IsUpAt beside (record n { base = b; fuse = f }) c m
 up_like {beside} n b f c m eb fuse up = subst (λ (x : Content). IsUpAt beside (record n { base = x; fuse = f }) c m) eb (record {
   state = up.state;
   up = up.up;
@@ -145,7 +149,7 @@ module _ {beside : KeptBeside} (n : Node) (c : Core) (us rest : List Update) (u 
   can_next wait =
       let parts = can_parts c m.size u (wait.fits 0 u (ap (λ (vs : List Update). slice_get vs 0) front)) in
       let volume : u.vol < length n.volumes = omega (arith, parts.0, receiver_volumes n c us m r) in
-      let size = ap (λ (w : Units). m.size (unit_of w.vols u.vol)) r.units ∙ sym (r.lies.laid.each u.vol volume) in
+      let size = ap (λ (w : Units). m.size (unit_of w.vols u.vol)) r.units ∙ sym ((laid_in n m r.lies).each u.vol volume) in
       record { up = r.state; running = can.running; volume_exists = volume; fits = omega (arith, parts.1.0, r.ring); within = omega (arith, parts.1.1, size) }
 
   pub room_next : CanLog (durable_of n) u.vol u.block (blocks_in u.bytes) → (hold : ℕ) → hold ≡ last_of c → HasRoom beside.links (durable_of n) hold (blocks_in u.bytes)
@@ -197,15 +201,15 @@ module _ {beside : KeptBeside} (n : Node) (c : Core) (us rest : List Update) (u 
   held_next : (new : Meaning) → IsHeldAt beside (half_begun (durable_of n) x) new → IsHeldAt beside (with_first n (n.safe + 1)) new
   held_next new held = subst (λ (ws : List Write). IsHeldAt beside (let m : Node = record n { log = ws } in m) new) front_next held
 
-  module _ {R : Type 0} {g : Ghosts R} (old new : Rvg R g) where
-    pub next_failed : (why : No) → NeverLimit (let result : Result ℕ No = Err why in result) → LoggedUp beside (durable_of n) x (Up old) (Up new) (Err why) → LoggedTo beside n 1 us new.core (g.meaning old.shelf) (g.meaning new.shelf) (Err why)
-    next_failed (Device disk) never h = (halted_receiver disk new.core (g.meaning new.shelf) h.0, h.1)
+  module _ (c' : Core) (new : Meaning) where
+    pub next_failed : (why : No) → NeverLimit (let result : Result ℕ No = Err why in result) → LoggedAs beside (durable_of n) x m c' new (Err why) → LoggedTo beside n 1 us c' m new (Err why)
+    next_failed (Device disk) never h = (halted_receiver disk c' new h.0, h.1)
     next_failed (Limit what most) never h = absurd never
-    next_failed IsOff never h = (h.0, held_next (g.meaning new.shelf) h.1)
+    next_failed IsOff never h = (h.0, held_next new h.1)
     next_failed other never h = h
 
-    pub next_done : (number : ℕ) → LoggedUp beside (durable_of n) x (Up old) (Up new) (Ok number) → IsReceiverAt beside (reached n (n.safe + 1)) new.core rest (g.meaning new.shelf)
-    next_done number h = next_receiver new.core (g.meaning new.shelf) h.2
+    pub next_done : (number : ℕ) → LoggedAs beside (durable_of n) x m c' new (Ok number) → IsReceiverAt beside (reached n (n.safe + 1)) c' rest new
+    next_done number h = next_receiver c' new h.2
 
 -- ---- several of them
 
@@ -226,6 +230,7 @@ pub record LoggedSo (us : List Update) (k : ℕ) (c d : Core) (m mid : Meaning) 
   pub up : IsFalse m.down → IsFalse mid.down
   pub counts : (disk : ℕ) → m.disk_faults disk ≤ mid.disk_faults disk
   pub told : IsTrue mid.tells → IsTrue m.tells
+  pub moves : MovesOn c m mid
 
 pub logged_none : (us : List Update) (c : Core) (m : Meaning) → LoggedSo us 0 c c m m us
 logged_none us c m = record {
@@ -237,6 +242,7 @@ logged_none us c m = record {
   up = λ up. up;
   counts = λ disk. omega arith;
   told = λ told. told;
+  moves = no_moves c m;
 }
 
 module _ (us : List Update) (k : ℕ) (c d e : Core) (m mid new : Meaning) (left : List Update) (at : LoggedSo us k c d m mid left) where
@@ -250,9 +256,9 @@ module _ (us : List Update) (k : ℕ) (c d e : Core) (m mid new : Meaning) (left
   numbers_left count low has = record { stamps = omega (arith, at.stamp, low, has.stamps); numbers = omega (arith, at.more.last, low, has.numbers) }
 
   pub logged_more : (after : List Update) → ((beside : KeptBeside) (n : Node) → IsReceiverAt beside n d left mid → CanReceive beside n → IsReceiverAt beside (reached n (n.safe + 1)) e after new)
-      → after ≡ drop 1 left → IsMore 1 d e → e.log.header.stamp ≤ d.log.header.stamp + 1 → Spends mid new → (IsFalse mid.down → IsFalse new.down) → ((disk : ℕ) → mid.disk_faults disk ≤ new.disk_faults disk) → (IsTrue new.tells → IsTrue mid.tells)
+      → after ≡ drop 1 left → IsMore 1 d e → e.log.header.stamp ≤ d.log.header.stamp + 1 → Spends mid new → (IsFalse mid.down → IsFalse new.down) → ((disk : ℕ) → mid.disk_faults disk ≤ new.disk_faults disk) → (IsTrue new.tells → IsTrue mid.tells) → MovesOn d mid new
       → LoggedSo us (k + 1) c e m new after
-  logged_more after next left_is more stamp spends up counts told = record {
+  logged_more after next left_is more stamp spends up counts told moves = record {
     each = λ beside n r can.
         let here = at.each beside n r can in
         let there = next beside (reached n (n.safe + k)) here (next_can n (n.safe + k) can) in
@@ -265,6 +271,7 @@ module _ (us : List Update) (k : ℕ) (c d e : Core) (m mid new : Meaning) (left
     up = λ here. up (at.up here);
     counts = λ disk. let one = at.counts disk in let two = counts disk in omega (arith, one, two);
     told = λ here. at.told (told here);
+    moves = then_moves c d m mid new at.more.units at.moves moves;
   }
 
   -- what a later call answers of the site
@@ -305,7 +312,7 @@ module _ {beside : KeptBeside} (n : Node) (number : ℕ) (c d : Core) (us : List
 
 -- ---- what the rule of receivers says
 
-rule_none : (n : Node) (count : ℕ) → min count (length n.log - n.safe) ≡ 0 → (received_step (plain_receiver n) (Applied count)).action ≡ DoesNothing
+pub rule_none : (n : Node) (count : ℕ) → min count (length n.log - n.safe) ≡ 0 → (received_step (plain_receiver n) (Applied count)).action ≡ DoesNothing
 rule_none n count is = by (eqb (min count (length n.log - n.safe)) 0) refl
   where
     by : (b : Bool) → eqb (min count (length n.log - n.safe)) 0 ≡ b
@@ -316,7 +323,7 @@ rule_none n count is = by (eqb (min count (length n.log - n.safe)) 0) refl
         never : true ≡ false → ⊥
         never e = cc
 
-rule_some : (n : Node) (count few : ℕ) → few ≡ min count (length n.log - n.safe) → 0 < few → n.safe ≤ length n.log → (received_step (plain_receiver n) (Applied count)).action ≡ DataAck (n.safe + few)
+pub rule_some : (n : Node) (count few : ℕ) → few ≡ min count (length n.log - n.safe) → 0 < few → n.safe ≤ length n.log → (received_step (plain_receiver n) (Applied count)).action ≡ DataAck (n.safe + few)
 rule_some n count few is some low = by (eqb (min count (length n.log - n.safe)) 0) refl
   where
     by : (b : Bool) → eqb (min count (length n.log - n.safe)) 0 ≡ b
@@ -330,57 +337,61 @@ module _ {R : Type 0} {g : Ghosts R} where
   count_waits : {beside : KeptBeside} (n : Node) (s : Secondary R g) → IsReceiverAt beside n s.rvg.core s.waiting (g.meaning s.rvg.shelf) → n.halted ≡ None → length s.waiting ≡ length n.log - n.safe
   count_waits n s r running = omega (arith, ap (λ (ws : List Write). length ws) r.waits, length-map s.waiting write_of_update, length-drop (last_of s.rvg.core) n.log, r.head running)
 
-  by_result : (beside : KeptBeside) (n : Node) (count few : ℕ) (s new : Secondary R g) (result : Result Reached No) → IsReceiverAt beside n s.rvg.core s.waiting (g.meaning s.rvg.shelf) → n.halted ≡ None → few ≡ min count (length s.waiting) → 0 < few
+  by_result : (beside : KeptBeside) (n : Node) (count few : ℕ) (s new : Secondary R g) (result : Result Reached No) → IsUngrouped beside n → IsReceiverAt beside n s.rvg.core s.waiting (g.meaning s.rvg.shelf) → n.halted ≡ None → few ≡ min count (length s.waiting) → 0 < few
       → ReachedTo beside n few new.waiting new.rvg.core (g.meaning s.rvg.shelf) (g.meaning new.rvg.shelf) result → ReachedUp beside n count (Receives s) (Receives new) result
-  by_result beside n count few s new (Ok r) here running is some h =
-      subst (λ (a : RAction). ReachedBy a beside n r (Receives new)) (sym (rule_some n count few (is ∙ ap (λ (k : ℕ). min count k) (count_waits n s here running)) some (omega (arith, here.least, here.most)))) h
-  by_result beside n count few s new (Err (Device disk)) here running is some h = h
-  by_result beside n count few s new (Err (Limit what most)) here running is some h = absurd h
-  by_result beside n count few s new (Err IsOff) here running is some h = (h.0, held_first n (n.safe + few) (n.safe + count) (g.meaning new.rvg.shelf) (omega (arith, is)) h.1)
-  by_result beside n count few s new (Err other) here running is some h = h
+  by_result beside n count few s new (Ok r) raw here running is some h =
+      subst (λ (a : RAction). ReachedBy a beside n r (Receives new)) (sym (rule_some n count few (is ∙ ap (λ (k : ℕ). min count k) (count_waits n s here running)) some (omega (arith, here.least, here.most)))) (h.0, h.1, (raw, h.2))
+  by_result beside n count few s new (Err (Device disk)) raw here running is some h = ((raw, h.0), h.1)
+  by_result beside n count few s new (Err (Limit what most)) raw here running is some h = absurd h
+  by_result beside n count few s new (Err IsOff) raw here running is some h = (h.0, (raw, held_first n (n.safe + few) (n.safe + count) (g.meaning new.rvg.shelf) (omega (arith, is)) h.1))
+  by_result beside n count few s new (Err other) raw here running is some h = h
 
   pub reached_up : (beside : KeptBeside) (n : Node) (count few : ℕ) (old : DiskSet R g) (s new : Secondary R g) (result : Result Reached No) → old ≡ Receives s → few ≡ min count (length s.waiting) → 0 < few
       → (IsReceiverAt beside n s.rvg.core s.waiting (g.meaning s.rvg.shelf) → CanReceive beside n → ReachedTo beside n few new.waiting new.rvg.core (g.meaning s.rvg.shelf) (g.meaning new.rvg.shelf) result)
       → SiteStands beside n old → CanReceive beside n → ReachedUp beside n count old (Receives new) result
   reached_up beside n count few old s new result is few_is some reaches stands can =
-      let here = (let r : IsReceiverAt beside n s.rvg.core s.waiting (g.meaning s.rvg.shelf) = subst (λ (e : DiskSet R g). SiteStands beside n e) is stands in r) in
-      subst (λ (e : DiskSet R g). ReachedUp beside n count e (Receives new) result) (sym is) (by_result beside n count few s new result here can.running few_is some (reaches here can))
+      let at = receiver_there beside n old s is stands in
+      let here = at.1 in
+      subst (λ (e : DiskSet R g). ReachedUp beside n count e (Receives new) result) (sym is) (by_result beside n count few s new result at.0 here can.running few_is some (reaches here can))
 
   -- nothing is asked for, or nothing waits
   pub reached_idle : (beside : KeptBeside) (n : Node) (count few head : ℕ) (old : DiskSet R g) (s : Secondary R g) → old ≡ Receives s → few ≡ min count (length s.waiting) → few ≡ 0 → head ≡ last_of s.rvg.core → SiteStands beside n old → CanReceive beside n
       → ReachedUp beside n count old (Receives s) (Ok (record { number = head; acks = false }))
   reached_idle beside n count few head old s is few_is none head_is stands can =
-      let here = (let r : IsReceiverAt beside n s.rvg.core s.waiting (g.meaning s.rvg.shelf) = subst (λ (e : DiskSet R g). SiteStands beside n e) is stands in r) in
+      let at = receiver_there beside n old s is stands in
+      let here = at.1 in
       subst (λ (a : RAction). ReachedBy a beside n (record { number = head; acks = false }) (Receives s))
       (sym (rule_none n count (sym (ap (λ (k : ℕ). min count k) (count_waits n s here can.running)) ∙ sym few_is ∙ none)))
-      (head_is ∙ here.head can.running, refl, receiver_burned n s.rvg.core s.waiting (g.meaning s.rvg.shelf) here)
+      (head_is ∙ here.head can.running, refl, (at.0, receiver_burned n s.rvg.core s.waiting (g.meaning s.rvg.shelf) here))
 
   -- no number is left for all of them
   pub reached_full : (beside : KeptBeside) (n : Node) (count few : ℕ) (old : DiskSet R g) (s : Secondary R g) → old ≡ Receives s → few ≡ min count (length s.waiting) → has_numbers s.rvg.core few ≡ false → SiteStands beside n old → CanReceive beside n
       → ReachedUp beside n count old (Receives s) (Err (Limit Number most_number))
   reached_full beside n count few old s is few_is full stands can =
-      let here = (let r : IsReceiverAt beside n s.rvg.core s.waiting (g.meaning s.rvg.shelf) = subst (λ (e : DiskSet R g). SiteStands beside n e) is stands in r) in
+      let at = receiver_there beside n old s is stands in
+      let here = at.1 in
       let long = count_waits n s here can.running in (
         refl,
         (λ told.
             let stamp = here.stamp told can.running in
             ⊎_elim (λ one. omega (arith, one, stamp, few_is, long, here.least, here.most)) (λ two. omega (arith, two, few_is, long, here.least, here.most, here.head can.running)) (lacks_them s.rvg.core few full)),
-        here,
+        (at.0, here),
       )
 
   -- nothing waits at a site that was not started as one that receives
   pub reached_none_up : (beside : KeptBeside) (n : Node) (count head : ℕ) (old : DiskSet R g) (rvg : Rvg R g) → old ≡ Up rvg → head ≡ last_of rvg.core → SiteStands beside n old → CanReceive beside n
       → ReachedUp beside n count old (Up rvg) (Ok (record { number = head; acks = false }))
   reached_none_up beside n count head old rvg is head_is stands can =
-      let here = (let r : IsUpAt beside n rvg.core (g.meaning rvg.shelf) = subst (λ (e : DiskSet R g). SiteStands beside n e) is stands in r) in
+      let at = up_there beside n old rvg is stands in
+      let here = at.1 in
       let whole = here.durable can.running in
       subst (λ (a : RAction). ReachedBy a beside n (record { number = head; acks = false }) (Up rvg)) (sym (rule_none n count (omega (arith, whole))))
-      (head_is ∙ here.head, refl, up_worked n rvg.core (g.meaning rvg.shelf) here)
+      (head_is ∙ here.head, refl, (at.0, up_worked n rvg.core (g.meaning rvg.shelf) here))
 
   -- an apply whose fuse ran out, and the crash behind it
   pub reached_off : {beside : KeptBeside} (n : Node) (count : ℕ) (old mid new : DiskSet R g) (why : No) → is_off why ≡ true → beside.doubt ≡ None → ReachedUp beside n count old mid (Err why)
       → (CutAt beside (with_first n (n.safe + count)) mid → CrashedAt beside (with_first n (n.safe + count)) new) → ReachedAt beside n count old new (Err why)
-  reached_off n count old mid new IsOff off sure is falls = (is.0, fell_to n (n.safe + count) new sure (falls is.1))
+  reached_off n count old mid new IsOff off sure is falls = (is.0, fell_within n (n.safe + count) new sure (falls is.1))
   reached_off n count old mid new other off sure is falls = absurd (cc)
 
   pub reached_on : (beside : KeptBeside) (n : Node) (count : ℕ) (old new : DiskSet R g) (why : No) → is_off why ≡ false → ReachedUp beside n count old new (Err why) → ReachedAt beside n count old new (Err why)

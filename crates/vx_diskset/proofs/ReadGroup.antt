@@ -9,11 +9,9 @@ use Rattle.vx_model.specs.declared.no.No.{No}
 use Rattle.vx_model.specs.declared.no.No.TheVariants.{Range, Device, Down as IsOff}
 use Rattle.vx_model.specs.declared.units.Units.{Units}
 use Rattle.vx_diskset.specs.Holds.{KeptBeside}
-use Rattle.vx_disk.specs.Counts.{Rose}
 use Rattle.vx_disk.specs.Moves.{Moves, Anything, Nowhere}
 use Rattle.vx_disk.specs.Causes.{OnDisks}
 use Rattle.vx_disk.specs.Disks.{Untouched}
-use Rattle.vx_disk.specs.Racks.{IsRack}
 use Rattle.vx_disk.specs.Shelf.{Meaning, Image, Lawful, Goes, Nothing}
 use Rattle.vx_disk.specs.declared.shelf.Shelf.{Ghosts}
 use Rattle.vx_disk.proofs.Moving.{of_nothing}
@@ -29,22 +27,19 @@ use Rattle.vx_diskset.specs.declared.disk_set.DiskSet.TheVariants.{Up}
 use Rattle.vx_diskset.specs.DiskSets.{CanRead, ReadAt}
 use Rattle.vx_diskset.specs.Fetching.{Gave, GaveAt}
 use Rattle.vx_diskset.specs.Holds.{HasSite}
-use Rattle.vx_grouped.specs.SetFuses.{HasFuse}
-use Rattle.vx_diskset.specs.Stands.{IsUpAt, SiteStands}
+use Rattle.vx_diskset.specs.Fuses.{FuseOn}
+use Rattle.vx_diskset.specs.Stands.{IsUpAt, SiteStands, IsUngrouped}
 use Rattle.vx_diskset.specs.Lasts.{StandsHolding}
+use Rattle.vx_diskset.specs.Shelves.{ReadAs}
+use Rattle.vx_diskset.proofs.Laying.{laid_in}
 use Rattle.vx_diskset.proofs.LastWrites.{stands_with, still_with}
 use Rattle.vx_diskset.proofs.MakeGroup.{fuse_untouched}
 use Rattle.vx_diskset.proofs.StaysUp.{told_now, never_both, up_found, up_with}
+use Rattle.vx_diskset.proofs.RawSets.{up_there}
 
 -- what was written over a list of the same length is all of it
 pub written_over : (len : ℕ) (xs rest : List ℕ) → len ≡ length xs → take len (xs ++ rest) ≡ xs
 written_over len xs rest is = take-append-le len xs rest (omega (arith, is)) ∙ take_all len xs (omega (arith, is))
-
--- what a read answers of a site
-abbrev pub ReadAs : KeptBeside → Node → ℕ → ℕ → ℕ → List ℕ → Core → Meaning → Meaning → Result (Unit {0}) No → Type 0
-ReadAs beside n volume start count bytes c' m new (Ok done) = (IsTrue new.tells → ShowsContent n.base volume start count bytes) × IsUpAt beside n c' new
-ReadAs beside n volume start count bytes c' m new (Err (Device disk)) = IsUpAt beside n c' new × Rose (m.disk_faults disk) (new.disk_faults disk)
-ReadAs beside n volume start count bytes c' m new (Err other) = ⊥
 
 range_by : (b : Bool) → b ≡ false → (if b then Some Range else None) ≡ None
 range_by false e = refl
@@ -55,7 +50,7 @@ in_range size last within = range_by (ltb size last) (grind (arith, nat_tests))
 
 -- a site that is up stays so over a call that only reads
 module _ {beside : KeptBeside} (n : Node) (c : Core) (m new : Meaning) (running : n.halted ≡ None) (up : IsUpAt beside n c m) (lawful : Lawful m) (after : Lawful new) (unit_is : c.log.unit ≡ c.units.srl) (goes : Goes Nothing m new)
-    (down : new.down ≡ m.down) (fuse : HasFuse n.fuse new) where
+    (down : new.down ≡ m.down) (fuse : FuseOn n.fuse new) where
   moves : Moves Nowhere Anything m new
   moves = of_nothing m new goes
 
@@ -71,7 +66,7 @@ module _ {beside : KeptBeside} (n : Node) (c : Core) (m new : Meaning) (running 
   reads_up = up_with n c c m new n.halted n.fuse Nowhere Anything moves (down ∙ up.up) fuse up (record { units = refl; ring = refl; header = refl; held = refl }) up.halted (λ none. none) (λ none told. content_on told) left_on
 
 module _ {beside : KeptBeside} (n : Node) (c : Core) (m new : Meaning) (volume start count : ℕ) (bytes : List ℕ) (up : IsUpAt beside n c m) (can : CanRead n volume start count) (lawful : Lawful m) (after : Lawful new)
-    (unit_is : c.log.unit ≡ c.units.srl) (goes : Goes Nothing m new) (down : new.down ≡ m.down) (fuse : HasFuse n.fuse new) where
+    (unit_is : c.log.unit ≡ c.units.srl) (goes : Goes Nothing m new) (down : new.down ≡ m.down) (fuse : FuseOn n.fuse new) where
   still : IsFalse new.down
   still = down ∙ up.up
 
@@ -79,7 +74,7 @@ module _ {beside : KeptBeside} (n : Node) (c : Core) (m new : Meaning) (volume s
   read_up = reads_up n c m new can.running up lawful after unit_is goes down fuse
 
   size : m.size (unit_of c.units.vols volume) ≡ n.base.size volume
-  size = ap (λ (u : Units). m.size (unit_of u.vols volume)) up.units ∙ sym (up.lies.laid.each volume can.volume_exists)
+  size = ap (λ (u : Units). m.size (unit_of u.vols volume)) up.units ∙ sym ((laid_in n m up.lies).each volume can.volume_exists)
 
   by_reads : (result : Result (Unit {0}) No) → ReadsGroup m new result → OnOk result ((h : Holding) → Stands c h m → IsTrue m.tells → ShowsContent h.content volume start count bytes) → ReadAs beside n volume start count bytes c m new result
   by_reads (Ok done) reads gives = (
@@ -101,11 +96,11 @@ module _ {beside : KeptBeside} (n : Node) (c : Core) (m new : Meaning) (volume s
       by_reads result (subst (λ (o : Option No). ReadIs o m new result) refusal is) gives
 
 module _ {R : Type 0} {g : Ghosts R} where
-  by_disk_set : (beside : KeptBeside) (n : Node) (volume start count : ℕ) (bytes : List ℕ) (rvg new : Rvg R g) (result : Result (Unit {0}) No)
+  by_disk_set : (beside : KeptBeside) (n : Node) (volume start count : ℕ) (bytes : List ℕ) (rvg new : Rvg R g) (result : Result (Unit {0}) No) → IsUngrouped beside n
       → ReadAs beside n volume start count bytes new.core (g.meaning rvg.shelf) (g.meaning new.shelf) result → ReadAt beside n volume start count bytes (Up rvg) (Up new) result
-  by_disk_set beside n volume start count bytes rvg new (Ok done) h = h
-  by_disk_set beside n volume start count bytes rvg new (Err (Device disk)) h = h
-  by_disk_set beside n volume start count bytes rvg new (Err other) h = h
+  by_disk_set beside n volume start count bytes rvg new (Ok done) raw h = (h.0, (raw, h.1))
+  by_disk_set beside n volume start count bytes rvg new (Err (Device disk)) raw h = ((raw, h.0), h.1)
+  by_disk_set beside n volume start count bytes rvg new (Err other) raw h = h
 
   -- the disk set of a site whose blocks are read
   pub read_at : (beside : KeptBeside) (n : Node) (volume start count : ℕ) (bytes : List ℕ) (old : DiskSet R g) (rvg new : Rvg R g) (result : Result (Unit {0}) No) → old ≡ Up rvg → SiteStands beside n old
@@ -113,13 +108,13 @@ module _ {R : Type 0} {g : Ghosts R} where
       → ReadIs (read_refusal rvg.core ((g.meaning rvg.shelf).size (unit_of rvg.core.units.vols volume)) start count) (g.meaning rvg.shelf) (g.meaning new.shelf) result
       → OnOk result ((h : Holding) → Stands rvg.core h (g.meaning rvg.shelf) → IsTrue (g.meaning rvg.shelf).tells → ShowsContent h.content volume start count bytes)
       → Goes Nothing (g.meaning rvg.shelf) (g.meaning new.shelf) → (g.meaning new.shelf).down ≡ (g.meaning rvg.shelf).down
-      → OnDisks (g.meaning rvg.shelf).disks (g.meaning new.shelf).disks Untouched → IsRack (g.meaning rvg.shelf) → IsRack (g.meaning new.shelf) → ReadAt beside n volume start count bytes old (Up new) result
-  read_at beside n volume start count bytes old rvg new result is stands can lawful after same answers gives goes down disks rack rack' =
-      let up = subst (SiteStands beside n) is stands in
+      → OnDisks (g.meaning rvg.shelf).disks (g.meaning new.shelf).disks Untouched → ReadAt beside n volume start count bytes old (Up new) result
+  read_at beside n volume start count bytes old rvg new result is stands can lawful after same answers gives goes down disks =
+      let at = up_there beside n old rvg is stands in
       subst (λ (e : DiskSet R g). ReadAt beside n volume start count bytes e (Up new) result) (sym is)
-      (by_disk_set beside n volume start count bytes rvg new result
+      (by_disk_set beside n volume start count bytes rvg new result at.0
       (subst (λ (k : Core). ReadAs beside n volume start count bytes k (g.meaning rvg.shelf) (g.meaning new.shelf) result) (sym same)
-      (read_as n rvg.core (g.meaning rvg.shelf) (g.meaning new.shelf) volume start count bytes up can lawful after rvg.sound.log_unit goes down (fuse_untouched n.fuse (g.meaning rvg.shelf) (g.meaning new.shelf) disks rack rack' up.fuse) result answers gives)))
+      (read_as n rvg.core (g.meaning rvg.shelf) (g.meaning new.shelf) volume start count bytes at.1 can lawful after rvg.sound.log_unit goes down (fuse_untouched n.fuse (g.meaning rvg.shelf) (g.meaning new.shelf) disks goes.unarmed at.1.fuse) result answers gives)))
 
   -- the same with the blocks in a place for them
   pub gave_blocks : (beside : KeptBeside) (n : Node) (volume start count k : ℕ) (bytes items : List ℕ) (old new : DiskSet R g) (done : Unit {0}) → count ≡ k → items ≡ bytes → length bytes ≡ 512 * count

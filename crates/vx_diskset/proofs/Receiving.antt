@@ -1,9 +1,9 @@
 -- A receiver that runs, seen as a site whose writes end with those that are durable; and what waits behind its group, past calls.
 use Rattle.std.proofs.Common.{◌≡◌, ◌∙◌, inl, inr, ⊎_elim, ℕ, ◌+◌, ◌≤◌, true, false, List, [], length, take, drop, ap, sym, subst, refl, arith}
+use Rattle.std.specs.Prelude.{IsFalse, Option, Some, None, Result, Ok, Err}
 use Rattle.std.proofs.lemmas.Bool.{both_ways}
-use Rattle.std.specs.Prelude.{IsFalse, Option, Some, None, Result, Ok, Err, OnOk, IsTrue}
 use Rattle.std.proofs.lemmas.List.{drop_all, length-take, take_all}
-use Rattle.vx_model.specs.Content.{Write, fold_writes, Content}
+use Rattle.vx_model.specs.Content.{Write, fold_writes}
 use Rattle.vx_model.specs.Sites.{is_origin}
 use Rattle.vx_model.specs.declared.call.Update.{Update}
 use Rattle.vx_model.specs.declared.no.No.{No}
@@ -11,36 +11,29 @@ use Rattle.vx_model.specs.declared.no.No.TheVariants.{Device, Limit, Down as IsO
 use Rattle.vx_model.specs.declared.state.KeptLink.{KeptLink}
 use Rattle.vx_model.specs.declared.state.State.{State}
 use Rattle.vx_model.specs.declared.units.Units.{Units}
-use Rattle.vx_rvg.specs.Contents.{ShowsContent}
-use Rattle.vx_rvg.specs.Holdings.{Holding}
-use Rattle.vx_rvg.specs.Stands.{Stands}
 use Rattle.vx_rvg.specs.declared.group.Rvg.{Rvg}
 use Rattle.vx_history.specs.World.{Node, Fuse, FuseSet}
 use Rattle.vx_srlfmt.specs.declared.header.Header.{Header}
 use Rattle.vx_srl.specs.declared.kept.Kept.{Kept as KeptRecord}
 use Rattle.vx_disk.specs.Causes.{OnDisks}
-use Rattle.vx_disk.specs.Disks.{SameBlocks, Untouched}
+use Rattle.vx_disk.specs.Disks.{SameBlocks}
 use Rattle.vx_disk.specs.Racks.{Alike, IsRack}
 use Rattle.vx_disk.specs.Shelf.{Goes, Image, Lawful, Meaning, Nothing}
-use Rattle.vx_rvg.specs.Groups.{ApplyIs, GroupFails, ReadIs, read_refusal}
+use Rattle.vx_rvg.specs.Groups.{ApplyIs, GroupFails}
 use Rattle.vx_rvg.specs.Saves.{SaveIs, with_new_state}
-use Rattle.vx_rvg.specs.Views.{Core, last_of, unit_of}
+use Rattle.vx_rvg.specs.Views.{Core, last_of}
 use Rattle.vx_rvg.proofs.ReadStands.{rest_stands}
 use Rattle.vx_secondary.specs.Receivers.{Wait, writes_of_updates}
 use Rattle.vx_secondary.proofs.Writings.{can_same}
-use Rattle.vx_diskset.proofs.MakeGroup.{fuse_untouched}
-use Rattle.vx_diskset.proofs.ReadGroup.{ReadAs, read_as, reads_up}
-use Rattle.vx_events.specs.Sayings.{received_content}
-use Rattle.vx_diskset.specs.Received.{ShowedAt}
-use Rattle.vx_grouped.specs.SetFuses.{HasFuse}
+use Rattle.vx_diskset.specs.Fuses.{FuseOn}
 use Rattle.vx_diskset.specs.Holds.{KeptBeside, HasDoubted, HasWrites, KeptSite, MayBe, site_alone, most_with, state_with}
 use Rattle.vx_diskset.specs.Lasts.{FoundWith, StandsHolding}
 use Rattle.vx_diskset.specs.Layouts.{units_of}
 use Rattle.vx_diskset.specs.Needs.{TakesAs}
-use Rattle.vx_diskset.specs.Stands.{IsHeldAt, IsReceiverAt, IsUpAt, RoleIs, SiteStands, IsToldAt}
+use Rattle.vx_diskset.specs.Stands.{IsHeldAt, IsReceiverAt, IsUpAt, RoleIs, SiteStands, IsToldAt, IsUngrouped}
 use Rattle.vx_diskset.specs.Rooms.{AppliedAs}
-use Rattle.vx_diskset.specs.DiskSets.{AppliedUp, ReadAt, halted_at, BareUp, BareUpBy, CameUp, CameUpBy, CanRead}
-use Rattle.vx_diskset.specs.Keeps.{KeptUp, doubting, restated}
+use Rattle.vx_diskset.specs.DiskSets.{AppliedUp, ReadAt, halted_at, BareUp, BareUpBy, CameUp, CameUpBy}
+use Rattle.vx_diskset.specs.Keeps.{KeptUp, doubting, restated, kept_anew}
 use Rattle.vx_diskset.specs.declared.disk_set.DiskSet.{DiskSet}
 use Rattle.vx_diskset.specs.declared.disk_set.DiskSet.TheVariants.{Up, Receives}
 use Rattle.vx_disk.specs.declared.shelf.Shelf.{Ghosts}
@@ -51,8 +44,9 @@ use Rattle.vx_diskset.proofs.ApplyGroup.{applied_log, ended_log}
 use Rattle.vx_diskset.proofs.BesideLemmas.{may_same, never_besides, site_map}
 use Rattle.vx_diskset.proofs.FuseGroup.{alike_stands, lets_by}
 use Rattle.vx_diskset.proofs.LastWrites.{stands_with, still_with}
-use Rattle.vx_diskset.proofs.Laying.{lies_as}
+use Rattle.vx_diskset.proofs.Laying.{laid_in, lies_as}
 use Rattle.vx_diskset.proofs.StaysUp.{SameLog, told_now, writes_found}
+use Rattle.vx_diskset.proofs.RawSets.{receiver_there, up_there, raw_sure, raw_doubting}
 
 -- ---- what waits behind a group
 
@@ -207,7 +201,7 @@ held_receiver {beside} doubt k log m front most same may held = record {
 pub receiver_held : {beside : KeptBeside} (n : Node) (c : Core) (us : List Update) (m : Meaning) → IsReceiverAt beside n c us m → IsHeldAt beside n m
 receiver_held n c us m r = record { lies = r.lies; low = r.low; logged = omega (arith, r.least, r.most); begun = r.begun; left = r.left; may = r.may }
 
-pub receiver_still : {beside : KeptBeside} (n : Node) (c : Core) (us : List Update) (m new : Meaning) → Goes Nothing m new → ((i : Image) → new.now i → m.now i) → new.down ≡ m.down → HasFuse n.fuse new
+pub receiver_still : {beside : KeptBeside} (n : Node) (c : Core) (us : List Update) (m new : Meaning) → Goes Nothing m new → ((i : Image) → new.now i → m.now i) → new.down ≡ m.down → FuseOn n.fuse new
     → IsReceiverAt beside n c us m → IsReceiverAt beside n c us new
 receiver_still n c us m new goes now down fuse r =
     let still : IsFalse new.down = down ∙ r.up in
@@ -239,14 +233,14 @@ receiver_still n c us m new goes now down fuse r =
       may = λ k is. may_same k m new goes.units goes.size goes.tells (r.may k is);
     }
 
--- with its fuse
-pub receiver_fused : {beside : KeptBeside} (n : Node) (c : Core) (us : List Update) (m new : Meaning) (calls pick : ℕ) → IsRack new → Alike m new → new.down ≡ m.down → OnDisks m.disks new.disks (λ o n. SameBlocks o n × (n.fuse ≡ Some (calls, pick)))
-    → IsReceiverAt beside n c us m → IsReceiverAt beside (record n { fuse = FuseSet calls }) c us new
-receiver_fused n c us m new calls pick rack alike down disks r = record {
+-- on a shelf of which only the fuse changed
+pub receiver_alike : {beside : KeptBeside} (n : Node) (fuse : Fuse) (c : Core) (us : List Update) (m new : Meaning) → Alike m new → new.down ≡ m.down → FuseOn fuse new
+    → IsReceiverAt beside n c us m → IsReceiverAt beside (record n { fuse = fuse }) c us new
+receiver_alike n fuse c us m new alike down on r = record {
   state = r.state;
   role = r.role;
   up = down ∙ r.up;
-  fuse = lets_by calls pick m.disks new.disks disks rack.told rack.is;
+  fuse = on;
   lies = lies_as n m new alike.contents.units alike.contents.size r.lies;
   low = r.low;
   units = r.units;
@@ -265,14 +259,19 @@ receiver_fused n c us m new calls pick rack alike down disks r = record {
   waits = r.waits;
   takes = r.takes;
   content = λ none told. still_with c (take n.safe n.log) n.base m new (alike_stands c m new alike) (r.content none (sym alike.contents.tells ∙ told));
-  left = λ i now. site_map n (record n { fuse = FuseSet calls }) i (λ has. record { count = has.count; least = has.least; most = has.most; found = has.found }) (r.left i (alike.contents.now i now));
+  left = λ i now. site_map n (record n { fuse = fuse }) i (λ has. record { count = has.count; least = has.least; most = has.most; found = has.found }) (r.left i (alike.contents.now i now));
   sure = r.sure;
   may = λ k is. may_same k m new alike.contents.units alike.contents.size alike.contents.tells (r.may k is);
 }
 
+-- with its fuse
+pub receiver_fused : {beside : KeptBeside} (n : Node) (c : Core) (us : List Update) (m new : Meaning) (calls pick : ℕ) → IsRack new → Alike m new → new.down ≡ m.down → OnDisks m.disks new.disks (λ o n. SameBlocks o n × (n.fuse ≡ Some (calls, pick)))
+    → IsReceiverAt beside n c us m → IsReceiverAt beside (record n { fuse = FuseSet calls }) c us new
+receiver_fused n c us m new calls pick rack alike down disks r = receiver_alike n (FuseSet calls) c us m new alike down (lets_by calls pick m.disks new.disks disks rack.told rack.is) r
+
 -- the volumes of its group are those of the site
 pub receiver_volumes : {beside : KeptBeside} (n : Node) (c : Core) (us : List Update) (m : Meaning) → IsReceiverAt beside n c us m → length c.units.vols ≡ length n.volumes
-receiver_volumes n c us m r = ap (λ (u : Units). length u.vols) r.units ∙ r.lies.laid.count
+receiver_volumes n c us m r = ap (λ (u : Units). length u.vols) r.units ∙ (laid_in n m r.lies).count
 
 -- ---- what calls on a receiver that runs leave of it
 
@@ -284,6 +283,23 @@ pub as_receiver : {beside : KeptBeside} (n : Node) (us : List Update) (halted : 
     → IsUpAt beside (record (durable_of n) { halted = halted; fuse = fuse }) c m → IsReceiverAt beside (record n { halted = halted; fuse = fuse }) c us m
 as_receiver {beside} n us halted fuse c m sure role most waits up =
     up_receiver beside.doubt (record (durable_of n) { halted = halted; fuse = fuse }) n.log c us m role refl most waits (λ i has. has) (never_may beside m sure) (λ none. sure) up
+
+pub as_held : {beside : KeptBeside} (n : Node) (m : Meaning) → beside.doubt ≡ None → n.safe ≤ length n.log → IsHeldAt beside (durable_of n) m → IsHeldAt beside n m
+as_held {beside} n m sure most held = held_receiver beside.doubt (durable_of n) n.log m refl most (λ i has. has) (never_may beside m sure) held
+
+-- ---- a header that a receiver may have written, or not
+
+module _ (beside : KeptBeside) (n : Node) (k : State) (long : n.safe ≤ length n.log) where
+  abbrev pub doubted : ℕ → KeptSite
+  doubted disk = record { node = halted_at (restated n k) disk; links = k.links; headers = beside.headers + 1 }
+
+  pub has_doubted : (disk : ℕ) (i : Image) → HasDoubted (doubting beside (durable_of n) k disk).doubt i → HasDoubted (Some (doubted disk)) i
+  has_doubted disk i has = more_writes (halted_at (restated (durable_of n) k) disk) n.log i refl long has
+
+  pub may_doubted : (disk : ℕ) (m : Meaning) → ((x : KeptSite) → (doubting beside (durable_of n) k disk).doubt ≡ Some x → MayBe x m) → (x : KeptSite) → Some (doubted disk) ≡ Some x → MayBe x m
+  may_doubted disk m may x is =
+      let own = may (record { node = halted_at (restated (durable_of n) k) disk; links = k.links; headers = beside.headers + 1 }) refl in
+      subst (λ (y : KeptSite). MayBe y m) (some_same is) (record { state = own.state; lies = own.lies; low = own.low; logged = long; begun = own.begun })
 
 -- ---- the same of disk sets
 
@@ -306,11 +322,14 @@ module _ {R : Type 0} {g : Ghosts R} where
   -- as a site with its durable writes
   pub receiver_as : (beside : KeptBeside) (n : Node) (old : DiskSet R g) (s : Secondary R g) → old ≡ Receives s → SiteStands beside n old → n.halted ≡ None → Lawful (g.meaning s.rvg.shelf) → IsUpAt beside (durable_of n) s.rvg.core (g.meaning s.rvg.shelf)
   receiver_as beside n old s is stands running lawful =
-      receiver_up n s.rvg.core s.waiting (g.meaning s.rvg.shelf) (subst (λ (e : DiskSet R g). SiteStands beside n e) is stands) running lawful s.rvg.sound.log_unit
+      receiver_up n s.rvg.core s.waiting (g.meaning s.rvg.shelf) (receiver_there beside n old s is stands).1 running lawful s.rvg.sound.log_unit
 
   module _ (beside : KeptBeside) (n : Node) (old : DiskSet R g) (s new : Secondary R g) (is : old ≡ Receives s) (stands : SiteStands beside n old) (running : n.halted ≡ None) (waiting : new.waiting ≡ s.waiting) where
+    raw : IsUngrouped beside n
+    raw = (receiver_there beside n old s is stands).0
+
     here : At beside n s
-    here = subst (λ (e : DiskSet R g). SiteStands beside n e) is stands
+    here = (receiver_there beside n old s is stands).1
 
     waits_new : writes_of_updates new.waiting ≡ drop n.safe n.log
     waits_new = ap (λ (us : List Update). writes_of_updates us) waiting ∙ waits_safe n s here running
@@ -323,8 +342,8 @@ module _ {R : Type 0} {g : Ghosts R} where
 
     -- a read
     by_read : (volume start count : ℕ) (bytes : List ℕ) (result : Result (Unit {0}) No) → ReadAt beside (durable_of n) volume start count bytes (Up s.rvg) (Up new.rvg) result → ReadAt beside n volume start count bytes (Receives s) (Receives new) result
-    by_read volume start count bytes (Ok done) h = (h.0, receives n.halted n.fuse h.1)
-    by_read volume start count bytes (Err (Device disk)) h = (receives n.halted n.fuse h.0, h.1)
+    by_read volume start count bytes (Ok done) h = (h.0, (raw, receives n.halted n.fuse h.1.1))
+    by_read volume start count bytes (Err (Device disk)) h = ((raw, receives n.halted n.fuse h.0.1), h.1)
     by_read volume start count bytes (Err other) h = h
 
     pub read_received : (volume start count : ℕ) (bytes : List ℕ) (result : Result (Unit {0}) No) → ReadAt beside (durable_of n) volume start count bytes (Up s.rvg) (Up new.rvg) result → ReadAt beside n volume start count bytes old (Receives new) result
@@ -333,9 +352,9 @@ module _ {R : Type 0} {g : Ghosts R} where
 
     -- an apply of what is logged
     by_apply : (to : ℕ) (result : Result ℕ No) → AppliedAs beside (durable_of n) to new.rvg.core (g.meaning s.rvg.shelf) (g.meaning new.rvg.shelf) result → AppliedUp beside n to (Receives s) (Receives new) result
-    by_apply to (Ok number) h = (h.0, h.1, receives n.halted (burned n.fuse) h.2)
-    by_apply to (Err (Device disk)) h = (receives (Some disk) (burned n.fuse) h.0, h.1)
-    by_apply to (Err IsOff) h = h
+    by_apply to (Ok number) h = (h.0, h.1, (raw, receives n.halted (burned n.fuse) h.2))
+    by_apply to (Err (Device disk)) h = ((raw, receives (Some disk) (burned n.fuse) h.0), h.1)
+    by_apply to (Err IsOff) h = (h.0, (raw, h.1))
     by_apply to (Err other) h = h
 
     pub applied_received : (to : ℕ) (result : Result ℕ No) → AppliedAs beside (durable_of n) to new.rvg.core (g.meaning s.rvg.shelf) (g.meaning new.rvg.shelf) result → AppliedUp beside n to old (Receives new) result
@@ -343,99 +362,26 @@ module _ {R : Type 0} {g : Ghosts R} where
 
     -- a state that is kept
     module _ (k : State) (same_role : is_origin k.role ≡ is_origin n.role) where
-      abbrev doubted : ℕ → KeptSite
-      doubted disk = record { node = halted_at (restated n k) disk; links = k.links; headers = beside.headers + 1 }
-
-      has_doubted : (disk : ℕ) (i : Image) → HasDoubted (doubting beside (durable_of n) k disk).doubt i → HasDoubted (Some (doubted disk)) i
-      has_doubted disk i has = more_writes (halted_at (restated (durable_of n) k) disk) n.log i refl long has
-
-      may_doubted : (disk : ℕ) (m : Meaning) → ((x : KeptSite) → (doubting beside (durable_of n) k disk).doubt ≡ Some x → MayBe x m) → (x : KeptSite) → Some (doubted disk) ≡ Some x → MayBe x m
-      may_doubted disk m may x is =
-          let own = may (record { node = halted_at (restated (durable_of n) k) disk; links = k.links; headers = beside.headers + 1 }) refl in
-          subst (λ (y : KeptSite). MayBe y m) (some_same is) (record { state = own.state; lies = own.lies; low = own.low; logged = long; begun = own.begun })
-
       by_keep : (result : Result (Unit {0}) No) → KeptUp beside (durable_of n) k (Up s.rvg) (Up new.rvg) result → KeptUp beside n k (Receives s) (Receives new) result
-      by_keep (Ok done) h =
-          up_receiver None (worked (restated (durable_of n) k)) n.log new.rvg.core new.waiting (g.meaning new.rvg.shelf) (same_role ∙ here.role) refl long waits_new (λ i has. has) (λ x none. absurd (never_some (sym none))) (λ none. refl) h
+      by_keep (Ok done) h = (
+        raw_sure (kept_anew beside n k) (worked (restated n k)) raw.0,
+        up_receiver None (worked (restated (durable_of n) k)) n.log new.rvg.core new.waiting (g.meaning new.rvg.shelf) (same_role ∙ here.role) refl long waits_new (λ i has. has) (λ x none. absurd (never_some (sym none))) (λ none. refl) h.1,
+      )
       by_keep (Err (Device disk)) h = (
-        up_receiver (Some (doubted disk)) (halted_at (durable_of n) disk) n.log new.rvg.core new.waiting (g.meaning new.rvg.shelf) here.role refl long waits_new (has_doubted disk) (may_doubted disk (g.meaning new.rvg.shelf) h.0.may)
-            (λ none. absurd (never_some none)) h.0,
+        (
+          raw_doubting beside n k disk raw.0,
+          up_receiver (Some (doubted beside n k long disk)) (halted_at (durable_of n) disk) n.log new.rvg.core new.waiting (g.meaning new.rvg.shelf) here.role refl long waits_new (has_doubted beside n k long disk) (may_doubted beside n k long disk (g.meaning new.rvg.shelf) h.0.1.may)
+              (λ none. absurd (never_some none)) h.0.1,
+        ),
         h.1,
         h.2,
       )
-      by_keep (Err (Limit what most)) h = (h.0, h.1, receives n.halted n.fuse h.2)
-      by_keep (Err IsOff) h = (h.0, held_receiver (Some (doubted 0)) (halted_at (durable_of n) 0) n.log (g.meaning new.rvg.shelf) refl long (has_doubted 0) (may_doubted 0 (g.meaning new.rvg.shelf) h.1.may) h.1)
+      by_keep (Err (Limit what most)) h = (h.0, h.1, (raw, receives n.halted n.fuse h.2.1))
+      by_keep (Err IsOff) h = (h.0, (raw_doubting beside n k 0 raw.0, held_receiver (Some (doubted beside n k long 0)) (halted_at (durable_of n) 0) n.log (g.meaning new.rvg.shelf) refl long (has_doubted beside n k long 0) (may_doubted beside n k long 0 (g.meaning new.rvg.shelf) h.1.1.may) h.1.1))
       by_keep (Err other) h = h
 
       pub kept_received : (result : Result (Unit {0}) No) → KeptUp beside (durable_of n) k (Up s.rvg) (Up new.rvg) result → KeptUp beside n k old (Receives new) result
       kept_received result h = subst (λ (e : DiskSet R g). KeptUp beside n k e (Receives new) result) (sym is) (by_keep result h)
-
--- ---- what is shown of a receiver
-
-module _ {R : Type 0} {g : Ghosts R} where
-  module _ (beside : KeptBeside) (n : Node) (s new : Secondary R g) (volume start count : ℕ) (bytes : List ℕ) (r : IsReceiverAt beside n s.rvg.core s.waiting (g.meaning s.rvg.shelf)) (can : CanRead n volume start count)
-      (lawful : Lawful (g.meaning s.rvg.shelf)) (after : Lawful (g.meaning new.rvg.shelf)) (same : new.rvg.core ≡ s.rvg.core) (waiting : new.waiting ≡ s.waiting) (goes : Goes Nothing (g.meaning s.rvg.shelf) (g.meaning new.rvg.shelf))
-      (down : (g.meaning new.rvg.shelf).down ≡ (g.meaning s.rvg.shelf).down) (disks : OnDisks (g.meaning s.rvg.shelf).disks (g.meaning new.rvg.shelf).disks Untouched) (rack : IsRack (g.meaning s.rvg.shelf)) (rack' : IsRack (g.meaning new.rvg.shelf)) where
-    up : IsUpAt beside (durable_of n) s.rvg.core (g.meaning s.rvg.shelf)
-    up = receiver_up n s.rvg.core s.waiting (g.meaning s.rvg.shelf) r can.running lawful s.rvg.sound.log_unit
-
-    fuse : HasFuse n.fuse (g.meaning new.rvg.shelf)
-    fuse = fuse_untouched n.fuse (g.meaning s.rvg.shelf) (g.meaning new.rvg.shelf) disks rack rack' r.fuse
-
-    waits : writes_of_updates s.waiting ≡ drop n.safe n.log
-    waits = r.waits ∙ ap (λ (k : ℕ). drop k n.log) (r.head can.running)
-
-    shown_with : (c : Core) → c ≡ s.rvg.core → IsUpAt beside (durable_of n) c (g.meaning new.rvg.shelf) → IsReceiverAt beside n c new.waiting (g.meaning new.rvg.shelf)
-    shown_with c is here =
-        as_receiver n new.waiting n.halted n.fuse c (g.meaning new.rvg.shelf) (r.sure can.running) r.role (omega (arith, r.least, r.most)) (ap (λ (us : List Update). writes_of_updates us) waiting ∙ waits) here
-
-    stands : IsReceiverAt beside n new.rvg.core new.waiting (g.meaning new.rvg.shelf)
-    stands = shown_with new.rvg.core same (subst (λ (c : Core). IsUpAt beside (durable_of n) c (g.meaning new.rvg.shelf)) (sym same)
-        (reads_up (durable_of n) s.rvg.core (g.meaning s.rvg.shelf) (g.meaning new.rvg.shelf) can.running up lawful after s.rvg.sound.log_unit goes down fuse))
-
-    -- a read that was refused
-    refused : (why : No) → ReadIs (read_refusal s.rvg.core ((g.meaning s.rvg.shelf).size (unit_of s.rvg.core.units.vols volume)) start count) (g.meaning s.rvg.shelf) (g.meaning new.rvg.shelf) (Err why)
-        → ReadAs beside (durable_of n) volume start count bytes s.rvg.core (g.meaning s.rvg.shelf) (g.meaning new.rvg.shelf) (Err why)
-    refused why is =
-        read_as (durable_of n) s.rvg.core (g.meaning s.rvg.shelf) (g.meaning new.rvg.shelf) volume start count bytes up
-        (record { up = can.up; running = can.running; volume_exists = can.volume_exists; within = can.within }) lawful after s.rvg.sound.log_unit goes down fuse (Err why) is tt
-
-    by_why : (why : No) → ReadAs beside (durable_of n) volume start count bytes s.rvg.core (g.meaning s.rvg.shelf) (g.meaning new.rvg.shelf) (Err why) → ShowedAt beside n volume start count bytes (Receives s) (Receives new) (Err why)
-    by_why (Device disk) is = (stands, is.1)
-    by_why other is = is
-
-    pub showed : (result : Result (Unit {0}) No) → ReadIs (read_refusal s.rvg.core ((g.meaning s.rvg.shelf).size (unit_of s.rvg.core.units.vols volume)) start count) (g.meaning s.rvg.shelf) (g.meaning new.rvg.shelf) result
-        → OnOk result ((h : Holding) → Stands s.rvg.core h (g.meaning s.rvg.shelf) → IsTrue (g.meaning s.rvg.shelf).tells → ShowsContent (fold_writes h.content (writes_of_updates s.waiting)) volume start count bytes)
-        → ShowedAt beside n volume start count bytes (Receives s) (Receives new) result
-    showed (Ok done) is gives = (
-      (λ told.
-          let here : IsTrue (g.meaning s.rvg.shelf).tells = sym goes.tells ∙ told in
-          let stood = r.content can.running here in
-          subst (λ (c : Content). ShowsContent c volume start count bytes) (ap (λ (c : Content). fold_writes c (writes_of_updates s.waiting)) stood.has.content ∙ ap (λ (xs : List Write). fold_writes n.base xs) waits) (gives stood.held stood.stands here)),
-      stands,
-    )
-    showed (Err why) is gives = by_why why (refused why is)
-
-  pub showed_at : (beside : KeptBeside) (n : Node) (old new : DiskSet R g) (s : Secondary R g) (volume start count : ℕ) (bytes : List ℕ) (result : Result (Unit {0}) No) → old ≡ Receives s
-      → (IsReceiverAt beside n s.rvg.core s.waiting (g.meaning s.rvg.shelf) → ShowedAt beside n volume start count bytes (Receives s) new result) → SiteStands beside n old → ShowedAt beside n volume start count bytes old new result
-  showed_at beside n old new s volume start count bytes result is shows stands =
-      subst (λ (e : DiskSet R g). ShowedAt beside n volume start count bytes e new result) (sym is) (shows (subst (λ (e : DiskSet R g). SiteStands beside n e) is stands))
-
-  -- nothing waits at a site that does not receive
-  pub read_showed : (beside : KeptBeside) (n : Node) (old new : DiskSet R g) (rvg : Rvg R g) (volume start count : ℕ) (bytes : List ℕ) (result : Result (Unit {0}) No) → old ≡ Up rvg → SiteStands beside n old → n.halted ≡ None
-      → ReadAt beside n volume start count bytes old new result → ShowedAt beside n volume start count bytes old new result
-  read_showed beside n old new rvg volume start count bytes result is stands running read = by result read
-    where
-      up : IsUpAt beside n rvg.core (g.meaning rvg.shelf)
-      up = subst (λ (e : DiskSet R g). SiteStands beside n e) is stands
-
-      same : n.base ≡ received_content n
-      same = ap (λ (xs : List Write). fold_writes n.base xs) (sym (drop_all n.safe n.log (up.durable running)))
-
-      by : (result : Result (Unit {0}) No) → ReadAt beside n volume start count bytes old new result → ShowedAt beside n volume start count bytes old new result
-      by (Ok done) h = ((λ told. subst (λ (c : Content). ShowsContent c volume start count bytes) same (h.0 told)), h.1)
-      by (Err (Device disk)) h = h
-      by (Err other) h = h
 
 -- ---- a site that came up
 
@@ -447,16 +393,18 @@ risen_receiver {beside} n c m up running whole role =
 
 module _ {R : Type 0} {g : Ghosts R} where
   pub risen_at : (beside : KeptBeside) (n : Node) (old : DiskSet R g) (rvg : Rvg R g) (s : Secondary R g) → old ≡ Up rvg → s.rvg ≡ rvg → s.waiting ≡ [] → is_origin rvg.core.log.header.state.role ≡ false → SiteStands beside n old → n.halted ≡ None → length n.log ≡ n.safe
-      → IsReceiverAt beside n s.rvg.core s.waiting (g.meaning s.rvg.shelf)
+      → IsUngrouped beside n × IsReceiverAt beside n s.rvg.core s.waiting (g.meaning s.rvg.shelf)
   risen_at beside n old rvg s is group none role stands running whole =
-      subst (λ (us : List Update). IsReceiverAt beside n s.rvg.core us (g.meaning s.rvg.shelf)) (sym none)
-      (subst (λ (k : Rvg R g). IsReceiverAt beside n k.core [] (g.meaning k.shelf)) (sym group)
-      (risen_receiver n rvg.core (g.meaning rvg.shelf) (subst (λ (e : DiskSet R g). SiteStands beside n e) is stands) running whole role))
+      let at = up_there beside n old rvg is stands in (
+        at.0,
+        subst (λ (us : List Update). IsReceiverAt beside n s.rvg.core us (g.meaning s.rvg.shelf)) (sym none)
+            (subst (λ (k : Rvg R g). IsReceiverAt beside n k.core [] (g.meaning k.shelf)) (sym group) (risen_receiver n rvg.core (g.meaning rvg.shelf) at.1 running whole role)),
+      )
 
   -- by its role it is an origin
   pub risen_origin : (beside : KeptBeside) (n : Node) (e : DiskSet R g) (rvg : Rvg R g) → e ≡ Up rvg → is_origin rvg.core.log.header.state.role ≡ true → SiteStands beside n e → is_origin n.role ≡ true
   risen_origin beside n e rvg is role stands =
-      let up : IsUpAt beside n rvg.core (g.meaning rvg.shelf) = subst (λ (x : DiskSet R g). SiteStands beside n x) is stands in
+      let up : IsUpAt beside n rvg.core (g.meaning rvg.shelf) = (up_there beside n e rvg is stands).1 in
       sym (ap (λ (s : State). is_origin s.role) up.kept) ∙ role
 
   pub came_role : {beside : KeptBeside} (n : Node) (mid new : DiskSet R g) → CameUp beside n mid → ((k : Node) → SiteStands beside k mid → k.halted ≡ None → length k.log ≡ k.safe → SiteStands beside k new) → ((k : Node) → SiteStands beside k mid → RoleIs k new)

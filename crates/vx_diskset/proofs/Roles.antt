@@ -5,9 +5,22 @@ use Rattle.vx_history.specs.World.{Node}
 use Rattle.vx_disk.specs.declared.shelf.Shelf.{Ghosts}
 use Rattle.vx_rvg.specs.declared.group.Rvg.{Rvg}
 use Rattle.vx_secondary.specs.declared.secondary.Secondary.{Secondary}
-use Rattle.vx_diskset.specs.Stands.{KeepsRole, RoleIs}
+use Rattle.vx_diskset.specs.Aboves.{above_in}
+use Rattle.vx_diskset.specs.Stands.{KeepsRole, RoleBy, RoleIs}
+use Rattle.vx_diskset.specs.declared.above.Above.{Above}
+use Rattle.vx_diskset.specs.declared.above.Above.TheVariants.{Nothing, Origin, Receiver}
 use Rattle.vx_diskset.specs.declared.disk_set.DiskSet.{DiskSet}
-use Rattle.vx_diskset.specs.declared.disk_set.DiskSet.TheVariants.{Bare, Spoiled, Up, Receives, Down, OfGroup, Gone}
+use Rattle.vx_diskset.specs.declared.disk_set.DiskSet.TheVariants.{Bare, Spoiled, Up, Receives, Down, OfGroup, Over, Gone}
+
+above_origin : (n : Node) (a : Above) → is_origin n.role ≡ true → RoleBy n a
+above_origin n Nothing origin = tt
+above_origin n (Origin core) origin = origin
+above_origin n (Receiver core waiting) origin = tt
+
+above_like : (n k : Node) (a : Above) → is_origin k.role ≡ is_origin n.role → RoleBy n a → RoleBy k a
+above_like n k Nothing same role = tt
+above_like n k (Origin core) same role = same ∙ role
+above_like n k (Receiver core waiting) same role = tt
 
 module _ {R : Type 0} {g : Ghosts R} where
   -- an origin needs none
@@ -18,6 +31,7 @@ module _ {R : Type 0} {g : Ghosts R} where
   role_origin n (Receives s) origin = tt
   role_origin n (Down rack) origin = tt
   role_origin n (OfGroup s) origin = tt
+  role_origin n (Over s) origin = above_origin n (above_in s) origin
   role_origin n Gone origin = tt
 
   -- it goes by the kind of the role alone
@@ -28,6 +42,7 @@ module _ {R : Type 0} {g : Ghosts R} where
   role_like n k (Receives s) same role = tt
   role_like n k (Down rack) same role = tt
   role_like n k (OfGroup s) same role = tt
+  role_like n k (Over s) same role = above_like n k (above_in s) same role
   role_like n k Gone same role = tt
 
   pub role_same : (e : DiskSet R g) → KeepsRole e e

@@ -35,9 +35,9 @@ use Rattle.vx_diskset.specs.declared.disk_set.DiskSet.{DiskSet}
 use Rattle.vx_diskset.specs.declared.disk_set.DiskSet.TheVariants.{Bare, Spoiled, Up}
 use Rattle.vx_diskset.specs.DiskSets.{BareUp, BareUpIs, MadeIs}
 use Rattle.vx_events.specs.Found.{SameDisks}
-use Rattle.vx_grouped.specs.SetFuses.{HasFuse}
+use Rattle.vx_diskset.specs.Fuses.{FuseOn}
 use Rattle.vx_diskset.specs.Layouts.{raw_units, CanBeRaw}
-use Rattle.vx_diskset.proofs.Laying.{raw_lies}
+use Rattle.vx_diskset.proofs.Laying.{raw_lies, raw_on, units_raw}
 use Rattle.vx_diskset.specs.Stands.{IsCleanAt, IsUpAt, faults_at}
 use Rattle.vx_diskset.proofs.MakeGroup.{bare_still, keeps_still}
 use Rattle.vx_diskset.proofs.BesideLemmas.{never_besides}
@@ -45,6 +45,7 @@ use Rattle.vx_diskset.proofs.StartGroup.{found_site}
 use Rattle.vx_diskset.proofs.NeedLemmas.{ins_length, stand_ins, takes_ins}
 use Rattle.vx_diskset.proofs.MakeRoom.{rose_later}
 use Rattle.vx_diskset.proofs.StaysUp.{not_true, never_both, told_now}
+use Rattle.vx_diskset.proofs.RawSets.{raw_alone}
 
 -- ---- a block of zeros is no header
 
@@ -114,9 +115,9 @@ module _ (n : Node) (m up new : Meaning) (core : Core) (clean : IsCleanAt n m) (
   found_up beside sure = record {
     state = refl;
     up = not_true new.down still;
-    lies = raw_lies n.disks n.blocks new can clean.bare.few clean.bare.some (moves.units ∙ goes.units ∙ clean.bare.fitted.units) (λ u there. moves.size u ∙ goes.size u ∙ clean.bare.fitted.size u there);
-    fuse = subst (λ (k : Node). HasFuse k.fuse new) (sym clean.bare.is) (moves.unarmed (goes.unarmed clean.bare.unarmed));
-    units = started.units_are;
+    lies = raw_on (found_bare n core) new (ap (λ (k : Node). k.group) clean.bare.is) (raw_lies n.disks n.blocks new can clean.bare.few clean.bare.some (moves.units ∙ goes.units ∙ clean.bare.fitted.units) (λ u there. moves.size u ∙ goes.size u ∙ clean.bare.fitted.size u there));
+    fuse = subst (λ (k : Node). FuseOn k.fuse new) (sym clean.bare.is) (moves.unarmed (goes.unarmed clean.bare.unarmed));
+    units = started.units_are ∙ sym (units_raw (found_bare n core) (ap (λ (k : Node). k.group) clean.bare.is));
     ring = started.ring_is ∙ ring_here;
     low = ap (λ (k : Node). k.low) clean.bare.is;
     found = core.log.header.state.links;
@@ -163,7 +164,10 @@ module _ {R : Type 0} {g : Ghosts R} where
         node = found_bare n rvg.core;
         same = found_same n m (g.meaning up) (g.meaning rvg.shelf) rvg.core clean some goes after untold started' moves' still;
         whole = omega (arith, ins_length rvg.core.log, started'.applied);
-        stands = λ beside sure. found_up n m (g.meaning up) (g.meaning rvg.shelf) rvg.core clean some goes after untold started' moves' still beside sure;
+        stands = λ beside sure. (
+          raw_alone beside (found_bare n rvg.core) sure (ap (λ (k : Node). k.group) clean.bare.is),
+          found_up n m (g.meaning up) (g.meaning rvg.shelf) rvg.core clean some goes after untold started' moves' still beside sure,
+        );
       }
 
   -- a start that was refused, where contents are not told

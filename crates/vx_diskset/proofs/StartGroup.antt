@@ -32,17 +32,16 @@ use Rattle.vx_srl.specs.Views.{most_number}
 use Rattle.vx_rvg.specs.declared.group.Rvg.{Rvg}
 use Rattle.vx_disk.specs.declared.shelf.Shelf.{Ghosts}
 use Rattle.vx_diskset.specs.declared.disk_set.DiskSet.{DiskSet}
-use Rattle.vx_diskset.specs.declared.disk_set.DiskSet.TheVariants.{Bare, Spoiled, Up, Receives, Down, OfGroup, Gone}
-use Rattle.vx_events.specs.GroupLines.{is_over_group}
-use Rattle.vx_diskset.proofs.GroupStands.{apart_bare}
+use Rattle.vx_diskset.specs.declared.disk_set.DiskSet.TheVariants.{Bare, Spoiled, Up, Receives, Down, OfGroup, Over, Gone}
+use Rattle.vx_diskset.proofs.GroupStands.{apart_bare, none_apart}
 use Rattle.vx_diskset.proofs.MakeGroup.{placed_raw}
 use Rattle.vx_diskset.specs.DiskSets.{CanStart, CameUp, CameUpIs, no_number}
 use Rattle.vx_events.specs.Found.{SameDisks}
 use Rattle.vx_diskset.specs.Holds.{HasWrites, state_with}
-use Rattle.vx_diskset.specs.Layouts.{IsRoomOf, LiesOn, raw_units, units_of}
-use Rattle.vx_diskset.proofs.Laying.{lies_as, maps_few, maps_fit, sizes_of}
+use Rattle.vx_diskset.specs.Layouts.{IsRoomOf, LiesRaw, raw_units}
+use Rattle.vx_diskset.proofs.Laying.{maps_few, maps_fit, raw_as, raw_on, sizes_of, units_raw}
 use Rattle.vx_diskset.specs.Holds.{most_header}
-use Rattle.vx_grouped.specs.SetFuses.{HasFuse}
+use Rattle.vx_diskset.specs.Fuses.{FuseOn}
 use Rattle.vx_diskset.specs.Stands.{IsUpAt, IsDownAt, SiteStands, faults_at}
 use Rattle.vx_diskset.specs.Lasts.{FoundWith, HasLast, LeftWith, StandsHolding}
 use Rattle.vx_diskset.proofs.CrashGroup.{one_value, found_left_with, left_with}
@@ -52,6 +51,7 @@ use Rattle.vx_diskset.specs.Needs.{NoneNeeds, TakesAs}
 use Rattle.vx_diskset.proofs.NeedLemmas.{ins_length, stand_ins, takes_ins, takes_told}
 use Rattle.vx_diskset.proofs.Sessions.{header_below, found_below_most, next_below}
 use Rattle.vx_diskset.proofs.StaysUp.{found_below, not_true, never_both, told_now, left_moved, writes_found}
+use Rattle.vx_diskset.proofs.RawSets.{raw_alone}
 
 -- ---- calls that change no contents
 
@@ -84,7 +84,7 @@ left_still units ring state session stamp h m new tells size less left = record 
     each = λ v b low. keeps_less m new (unit_of units.vols v) b (h.content.block v b) (newest_of h.content.size h.writes v b) (less (unit_of units.vols v) b) (left.content.each v b low);
   };
   maps = record {
-    size = left.maps.size ∙ sym (size units.maps);
+    size = (let least = left.maps.size in let same = size units.maps in omega (arith, least, same));
     each = λ b bytes there. record { only = λ v is. (left.maps.each b bytes there).only v (less units.maps b v is) };
   };
 }
@@ -101,7 +101,8 @@ down_still {beside} n m new goes down armed is = record {
   down = down ∙ is.down;
   unarmed = armed ∙ is.unarmed;
   sure = is.sure;
-  lies = lies_as n m new goes.units goes.size is.lies;
+  raw = is.raw;
+  lies = raw_as n.disks n.blocks n.ring n.volumes n.base.size m new goes.units goes.size is.lies;
   logged = is.logged;
   low = is.low;
   begun = λ tells. is.begun (sym goes.tells ∙ tells);
@@ -170,9 +171,9 @@ module _ {beside : KeptBeside} (n : Node) (m up : Meaning) (is : IsDownAt beside
     started_up core state session last log begun started kept unlinked incarnation stamp head logged takes content left = record {
       state = refl;
       up = not_true new.down still_up;
-      lies = lies_as n m new (moves.units ∙ alike.contents.units) (λ u. moves.size u ∙ alike.contents.size u) is.lies;
-      fuse = subst (λ (f : Fuse). HasFuse f new) (sym is.unfused) (moves.unarmed unarmed);
-      units = started.units_are;
+      lies = raw_on (found_site n state session last log) new is.raw (raw_as n.disks n.blocks n.ring n.volumes n.base.size m new (moves.units ∙ alike.contents.units) (λ u. moves.size u ∙ alike.contents.size u) is.lies);
+      fuse = subst (λ (f : Fuse). FuseOn f new) (sym is.unfused) (moves.unarmed unarmed);
+      units = started.units_are ∙ sym (units_raw n is.raw);
       ring = started.ring_is ∙ ring_here;
       low = is.low;
       found = state.links;
@@ -214,7 +215,7 @@ module _ {beside : KeptBeside} (n : Node) (m up : Meaning) (is : IsDownAt beside
           is = λ _. refl;
           same = same_disks (state_with n beside.links) (n.session + 1) n.safe n.log;
           stands = started_up core (state_with n beside.links) (n.session + 1) n.safe n.log (λ _. let some = is.begun (sym alike.contents.tells ∙ told) in omega (arith, some)) started has.0 (λ _. refl) has.1 (λ _. omega (arith, has.2)) head is.logged (takes_told core with.held new n.log idle has.3 with.has.some with.has.writes) (λ _. stood)
-              (λ i now. writes_found (recovered n) core i started.units_are (started.ring_is ∙ ring_here) has.0 has.1 (omega (arith, has.2)) is.logged
+              (λ i now. writes_found (recovered n) core i (started.units_are ∙ sym (units_raw n is.raw)) (started.ring_is ∙ ring_here) has.0 has.1 (omega (arith, has.2)) is.logged
               (stands_with core n.log n.base new i unit_is after stood now));
           next = λ _.
               let i = after.image tells in
@@ -258,8 +259,8 @@ module _ {beside : KeptBeside} (n : Node) (m up new last : Meaning) (is : IsDown
   begun_here : IsTrue last.tells → 0 < n.session
   begun_here tells = is.begun (sym alike.contents.tells ∙ told_up tells)
 
-  lies_last : LiesOn n last
-  lies_last = lies_as n m last (stopped.units ∙ moves.units ∙ alike.contents.units) (λ u. stopped.size u ∙ moves.size u ∙ alike.contents.size u) is.lies
+  lies_last : LiesRaw n last
+  lies_last = raw_as n.disks n.blocks n.ring n.volumes n.base.size m last (stopped.units ∙ moves.units ∙ alike.contents.units) (λ u. stopped.size u ∙ moves.size u ∙ alike.contents.size u) is.lies
 
   -- down in a session, with what is left there where contents are told
   down_with : (session : ℕ) → (IsTrue last.tells → 0 < session) → (IsTrue last.tells → LeftWith (raw_units n.disks) n.ring (state_with n beside.links) session (most_header beside (record n { session = session })) n.log n.base last)
@@ -270,6 +271,7 @@ module _ {beside : KeptBeside} (n : Node) (m up new last : Meaning) (is : IsDown
     down = stopped.down;
     unarmed = stopped.unarmed;
     sure = is.sure;
+    raw = is.raw;
     lies = lies_last;
     logged = is.logged;
     low = is.low;
@@ -304,7 +306,7 @@ module _ {beside : KeptBeside} (n : Node) (m up new last : Meaning) (is : IsDown
           subst (λ (r : ℕ). LeftWith (raw_units n.disks) r (state_with n beside.links) session stamp n.log n.base last) (ring_here n m up is alike risen armed)
           (found_left_with (raw_units n.disks) (ring_in (raw_units n.disks) up) (state_with n beside.links) session stamp n.log n.base last i tells
           (λ u b. one_value last i u b law rack stopped.down tells now)
-          (sizes_of (units_of n) n.ring n.volumes n.base last lies_last.laid) found)
+          (sizes_of (raw_units n.disks) n.ring n.volumes n.base last lies_last.laid) found)
   still_down false untold = inl (down_with n.session begun_here (λ tells. absurd (never_untold tells untold)))
 
   rose : (disk : ℕ) → Rose (up.disk_faults disk) (new.disk_faults disk) → Rose (m.disk_faults disk) (last.disk_faults disk)
@@ -368,25 +370,26 @@ start_needs disks room units m up can alike is disks_is =
     )
 
 module _ {R : Type 0} {g : Ghosts R} where
-  never_down : (beside : KeptBeside) (n : Node) (e : DiskSet R g) → SiteStands beside n e → n.state ≡ IsDown → is_over_group n ≡ false → ((rack : R) → e ≡ Down rack → ⊥) → ⊥
+  never_down : (beside : KeptBeside) (n : Node) (e : DiskSet R g) → SiteStands beside n e → n.state ≡ IsDown → n.group ≡ None → ((rack : R) → e ≡ Down rack → ⊥) → ⊥
   never_down beside n (Bare rack) h down apart none = let e : IsBare ≡ IsDown = sym (ap (λ (x : Node). x.state) h.bare.is) ∙ down in absurd (cc)
   never_down beside n (Spoiled rack) h down apart none = let e : IsBare ≡ IsDown = sym (ap (λ (x : Node). x.state) h.is) ∙ down in absurd (cc)
-  never_down beside n (Up rvg) h down apart none = let e : IsUp ≡ IsDown = sym h.state ∙ down in absurd (cc)
-  never_down beside n (Receives s) h down apart none = let e : IsUp ≡ IsDown = sym h.state ∙ down in absurd (cc)
+  never_down beside n (Up rvg) h down apart none = let e : IsUp ≡ IsDown = sym h.1.state ∙ down in absurd (cc)
+  never_down beside n (Receives s) h down apart none = let e : IsUp ≡ IsDown = sym h.1.state ∙ down in absurd (cc)
   never_down beside n (Down rack) h down apart none = none rack refl
-  never_down beside n (OfGroup s) h down apart none = let e : IsBare ≡ IsDown = sym (apart_bare beside n s h apart) ∙ down in absurd (cc)
+  never_down beside n (OfGroup s) h down apart none = let e : IsBare ≡ IsDown = sym (apart_bare beside n s h (none_apart n apart)) ∙ down in absurd (cc)
+  never_down beside n (Over s) h down apart none = h.0.0 apart
   never_down beside n Gone h down apart none = h
 
   pub came_at : {beside : KeptBeside} (n : Node) (disks : ℕ) (units : Units) (rack up : R) (rvg : Rvg R g) → units ≡ raw_units disks → disks ≡ (g.meaning up).units → IsDownAt beside n (g.meaning rack)
       → Alike (g.meaning rack) (g.meaning up) → IsFalse (g.meaning up).down → (g.meaning up).armed ≡ (g.meaning rack).armed → Lawful (g.meaning up) → Lawful (g.meaning rvg.shelf)
       → IsStarted units (g.meaning up) rvg.core (g.meaning rvg.shelf) → Moves (Run units.srl 0 (ring_in units (g.meaning up) + 2)) (Starting units (g.meaning up)) (g.meaning up) (g.meaning rvg.shelf)
       → CameUp beside n (Up rvg)
-  came_at n disks units rack up rvg is disks_is down alike risen armed lawful after started moves =
+  came_at {beside} n disks units rack up rvg is disks_is down alike risen armed lawful after started moves =
       let same : units ≡ raw_units n.disks = is ∙ ap raw_units (disks_is ∙ alike.contents.units ∙ down.lies.units) in
       let c = came n (g.meaning rack) (g.meaning up) down alike risen armed (g.meaning rvg.shelf) lawful after
       (subst (λ (u : Units). Moves (Run u.srl 0 (ring_in u (g.meaning up) + 2)) (Starting u (g.meaning up)) (g.meaning up) (g.meaning rvg.shelf)) same moves)
       rvg.core rvg.sound.log_unit (rvg.sound.idle started.running (not_true (g.meaning rvg.shelf).down (λ fell. never_both (g.meaning up).down (moves.safe (armed ∙ down.unarmed) fell) risen))) (subst (λ (u : Units). IsStarted u (g.meaning up) rvg.core (g.meaning rvg.shelf)) same started) in
-      record { node = c.node; is = c.is; same = c.same; whole = omega (arith, c.stands.logged, c.stands.durable c.same.running); stands = c.stands; next = c.next }
+      record { node = c.node; is = c.is; same = c.same; whole = omega (arith, c.stands.logged, c.stands.durable c.same.running); stands = (raw_alone beside c.node down.sure (c.same.group ∙ down.raw), c.stands); next = c.next }
 
   down_as : (beside : KeptBeside) (n : Node) (old : DiskSet R g) (rack last : R) (why : No) → old ≡ Down rack → RefusedAs beside n (g.meaning rack) (g.meaning last) why → CameUpIs beside n old (Down last) (Err why)
   down_as beside n old rack last (Device disk) is h = (h.0, subst (λ (e : DiskSet R g). Rose (faults_at e disk) ((g.meaning last).disk_faults disk)) (sym is) h.1)
@@ -405,5 +408,5 @@ module _ {R : Type 0} {g : Ghosts R} where
       stopped law is_rack why (subst (λ (u : Units). StartCause u (g.meaning up) (g.meaning back) why) same cause) read)
 
   -- no site that is down has another disk set, or disks that cannot be started
-  pub not_started : (beside : KeptBeside) (n : Node) (e new : DiskSet R g) (why : No) → SiteStands beside n e → n.state ≡ IsDown → is_over_group n ≡ false → ((rack : R) → e ≡ Down rack → ⊥) → CameUpIs beside n e new (Err why)
+  pub not_started : (beside : KeptBeside) (n : Node) (e new : DiskSet R g) (why : No) → SiteStands beside n e → n.state ≡ IsDown → n.group ≡ None → ((rack : R) → e ≡ Down rack → ⊥) → CameUpIs beside n e new (Err why)
   not_started beside n e new why h down apart none = absurd (never_down beside n e h down apart none)

@@ -10,6 +10,7 @@ use Rattle.vx_model.specs.declared.units.Units.{Units}
 use Rattle.vx_srlfmt.specs.declared.header.Header.{Header}
 use Rattle.vx_srl.specs.Views.{widths}
 use Rattle.vx_srl.specs.declared.kept.Kept.{Kept}
+use Rattle.vx_diskset.specs.DiskSets.{with_first}
 use Rattle.vx_diskset.specs.Holds.{KeptBeside}
 use Rattle.vx_disk.specs.Shelf.{Meaning, Image, Lawful}
 use Rattle.vx_disk.specs.Moves.{Blocks, Says, Moves}
@@ -20,7 +21,7 @@ use Rattle.vx_diskset.specs.Holds.{HasSite, HasWrites, state_with}
 use Rattle.vx_diskset.specs.Layouts.{units_of}
 use Rattle.vx_diskset.proofs.Laying.{lies_moved}
 use Rattle.vx_diskset.specs.Holds.{most_header}
-use Rattle.vx_grouped.specs.SetFuses.{HasFuse}
+use Rattle.vx_diskset.specs.Fuses.{FuseOn}
 use Rattle.vx_history.specs.Stops.{IsFused}
 use Rattle.vx_diskset.specs.Lasts.{FoundWith, StandsHolding}
 use Rattle.vx_diskset.proofs.LastWrites.{FoundOf}
@@ -62,24 +63,24 @@ pub stays_up : (mine : Blocks) (P : Says) (m new : Meaning) → Moves mine P m n
 stays_up mine P m new moves unarmed up = not_true new.down (λ down. never_both m.down (moves.safe unarmed down) up)
 
 -- a call that brings a shelf down ran out its fuse
-pub fused_by : (f : Fuse) (mine : Blocks) (P : Says) (m new : Meaning) → Moves mine P m new → HasFuse f m → IsFalse m.down → IsTrue new.down → IsFused f
+pub fused_by : (f : Fuse) (mine : Blocks) (P : Says) (m new : Meaning) → Moves mine P m new → FuseOn f m → IsFalse m.down → IsTrue new.down → IsFused f
 fused_by NoFuse mine P m new moves unarmed up down = never_both m.down (moves.safe unarmed down) up
 fused_by (FuseSet calls) mine P m new moves has up down = tt
 fused_by (FuseLit most) mine P m new moves has up down = tt
 
 -- a fuse behind a call that may write and flush
-pub fuse_moved : (f : Fuse) (mine : Blocks) (P : Says) (m new : Meaning) → Moves mine P m new → HasFuse f m → HasFuse (burned f) new
+pub fuse_moved : (f : Fuse) (mine : Blocks) (P : Says) (m new : Meaning) → Moves mine P m new → FuseOn f m → FuseOn (burned f) new
 fuse_moved NoFuse mine P m new moves unarmed = moves.unarmed unarmed
 fuse_moved (FuseSet calls) mine P m new moves has = tt
 fuse_moved (FuseLit most) mine P m new moves has = tt
 
-pub fuse_burned : (f : Fuse) (m : Meaning) → HasFuse f m → HasFuse (burned f) m
+pub fuse_burned : (f : Fuse) (m : Meaning) → FuseOn f m → FuseOn (burned f) m
 fuse_burned NoFuse m has = has
 fuse_burned (FuseSet calls) m has = tt
 fuse_burned (FuseLit most) m has = tt
 
 -- the same of a line that is known to have made so many calls
-pub fuse_spent : (n : ℕ) (f : Fuse) (m : Meaning) → HasFuse (burned f) m → HasFuse (spent n f) m
+pub fuse_spent : (n : ℕ) (f : Fuse) (m : Meaning) → FuseOn (burned f) m → FuseOn (spent n f) m
 fuse_spent n NoFuse m has = has
 fuse_spent n (FuseSet calls) m has = tt
 fuse_spent n (FuseLit most) m has = tt
@@ -157,7 +158,7 @@ pub record SameLog (c c' : Core) : Type 0 where
   pub held : c'.log.held ≡ c.log.held
 
 -- a site that is up after a call that leaves its log alone, maybe halted by it
-pub up_with : {beside : KeptBeside} (n : Node) (c c' : Core) (m new : Meaning) (h : Option ℕ) (f : Fuse) (mine : Blocks) (P : Says) → Moves mine P m new → IsFalse new.down → HasFuse f new → IsUpAt beside n c m → SameLog c c' → c'.halted ≡ h
+pub up_with : {beside : KeptBeside} (n : Node) (c c' : Core) (m new : Meaning) (h : Option ℕ) (f : Fuse) (mine : Blocks) (P : Says) → Moves mine P m new → IsFalse new.down → FuseOn f new → IsUpAt beside n c m → SameLog c c' → c'.halted ≡ h
     → (h ≡ None → n.halted ≡ None) → (h ≡ None → IsTrue new.tells → StandsHolding c' n.log n.base new) → ((i : Image) → new.now i → HasSite beside n i) → IsUpAt beside (record n { halted = h; fuse = f }) c' new
 up_with n c c' m new h f mine P moves still fuse up same halted running content left = record {
   state = up.state;
@@ -227,6 +228,10 @@ held_moved n c m new mine P moves up left = record {
   left = left;
   may = λ k is. may_same k m new moves.units moves.size moves.tells (up.may k is);
 }
+
+-- one whose writes are all durable, by these alone
+pub whole_held : {beside : KeptBeside} (n : Node) (m : Meaning) → length n.log ≤ n.safe → IsHeldAt beside n m → IsHeldAt beside (with_first n n.safe) m
+whole_held {beside} n m whole held = subst (λ (ws : List Write). IsHeldAt beside (let k : Node = record n { log = ws } in k) m) (sym (take_all n.safe n.log whole)) held
 
 pub held_up : {beside : KeptBeside} (n : Node) (c : Core) (m : Meaning) → IsUpAt beside n c m → IsHeldAt beside n m
 held_up n c m up = record {

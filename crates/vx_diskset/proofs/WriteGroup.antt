@@ -13,6 +13,7 @@ use Rattle.vx_model.specs.declared.no.No.TheVariants.{Device, Limit, Down, Size,
 use Rattle.vx_model.specs.declared.units.Units.{Units}
 use Rattle.vx_srl.specs.Views.{most_number, kept_record}
 use Rattle.vx_srl.specs.declared.kept.Kept.{Kept}
+use Rattle.vx_disk.specs.Racks.{IsRack}
 use Rattle.vx_diskset.specs.Holds.{KeptBeside}
 use Rattle.vx_disk.specs.Counts.{Rose}
 use Rattle.vx_disk.specs.Shelf.{Meaning, Image, Lawful}
@@ -32,16 +33,18 @@ use Rattle.vx_diskset.specs.Holds.{most_header}
 use Rattle.vx_diskset.specs.Needs.{TakesAs}
 use Rattle.vx_diskset.specs.Rooms.{IsRoomy, RoomIs}
 use Rattle.vx_diskset.specs.Fuses.{IsFirstLog}
-use Rattle.vx_grouped.specs.SetFuses.{HasFuse}
+use Rattle.vx_diskset.specs.Fuses.{FuseOn}
 use Rattle.vx_history.specs.Stops.{IsFused}
-use Rattle.vx_history.proofs.Fuses.{burned_twice, fused_before}
 use Rattle.vx_events.specs.Fuses.{IsExact}
-use Rattle.vx_diskset.specs.Stands.{IsUpAt, IsHeldAt}
+use Rattle.vx_diskset.specs.Stands.{IsUpAt, IsHeldAt, IsUngrouped}
+use Rattle.vx_diskset.specs.Shelves.{IsRackOf, LoggedAs}
+use Rattle.vx_diskset.proofs.Blamed.{disks_are}
+use Rattle.vx_history.proofs.Fuses.{burned_twice, fused_before}
 use Rattle.vx_diskset.proofs.ApplyGroup.{ended_log}
 use Rattle.vx_diskset.proofs.BesideLemmas.{never_besides, site_map}
 use Rattle.vx_diskset.proofs.ExactWrite.{first_pushed, taken_push}
 use Rattle.vx_diskset.proofs.WriteLeaves.{has_begun, half_begins, has_half, has_whole, has_safe, half_of, up_half, up_logged}
-use Rattle.vx_diskset.proofs.Laying.{lies_moved}
+use Rattle.vx_diskset.proofs.Laying.{laid_in, lies_moved}
 use Rattle.vx_diskset.proofs.LastWrites.{stands_with, write_with, writing_found}
 use Rattle.vx_diskset.proofs.MakeRoom.{rose_later}
 use Rattle.vx_diskset.proofs.NeedLemmas.{takes_push}
@@ -49,10 +52,10 @@ use Rattle.vx_diskset.proofs.StaysUp.{told_now, up_worked, never_both, left_move
 
 -- what a write answers of a site
 abbrev pub WroteAs : KeptBeside → Node → Write → Meaning → Core → Meaning → Result ℕ No → Type 0
-WroteAs beside n x m c' new (Ok number) = (number ≡ n.safe + 1) × (n.safe < most_number) × IsUpAt beside (logged n x) c' new × (is_origin n.role ≡ true → (calls : ℕ) → IsTrue new.tells → IsExact n x calls → 4 ≤ calls)
+WroteAs beside n x m c' new (Ok number) = (number ≡ n.safe + 1) × (n.safe < most_number) × IsUpAt beside (logged n x) c' new × (is_origin n.role ≡ true → (calls : ℕ) → IsTrue new.tells → IsRackOf n new → IsExact n x calls → 4 ≤ calls)
 WroteAs beside n x m c' new (Err (Device disk)) = IsUpAt beside (halted_with n x disk) c' new × Rose (m.disk_faults disk) (new.disk_faults disk)
 WroteAs beside n x m c' new (Err (Limit what most)) = (Limit what most ≡ no_number) × (IsTrue new.tells → most_number ≤ most_header beside n) × IsUpAt beside (worked n) c' new
-WroteAs beside n x m c' new (Err Down) = IsFused n.fuse × IsHeldAt beside (half_begun n x) new × (is_origin n.role ≡ true → (calls : ℕ) → IsTrue new.tells → IsExact n x calls → calls < 4)
+WroteAs beside n x m c' new (Err Down) = IsFused n.fuse × IsHeldAt beside (half_begun n x) new × (is_origin n.role ≡ true → (calls : ℕ) → IsTrue new.tells → IsRackOf n new → IsExact n x calls → calls < 4)
 WroteAs beside n x m c' new (Err other) = ⊥
 
 -- the tests of a write of which only the number is not known to pass
@@ -94,10 +97,10 @@ module _ {beside : KeptBeside} (n : Node) (volume start : ℕ) (bytes : List ℕ
 
   -- the unit of the volume has the volume's blocks
   size : m.size (unit_of c.units.vols volume) ≡ n.base.size volume
-  size = ap (λ (u : Units). m.size (unit_of u.vols volume)) roomy.units ∙ sym (roomy.lies.laid.each volume can.volume_exists)
+  size = ap (λ (u : Units). m.size (unit_of u.vols volume)) roomy.units ∙ sym ((laid_in n m roomy.lies).each volume can.volume_exists)
 
-  fuse_new : HasFuse (burned n.fuse) new
-  fuse_new = subst (λ (f : Fuse). HasFuse f new) (burned_twice n.fuse) (fuse_moved (burned n.fuse) (Run c.units.srl 0 (c.log.ring + 2)) (Writing c (x ∷ []) m) m new moves roomy.fuse)
+  fuse_new : FuseOn (burned n.fuse) new
+  fuse_new = subst (λ (f : Fuse). FuseOn f new) (burned_twice n.fuse) (fuse_moved (burned n.fuse) (Run c.units.srl 0 (c.log.ring + 2)) (Writing c (x ∷ []) m) m new moves roomy.fuse)
 
   -- what a crash leaves of a write that a disk ended
   half_left : (disk : ℕ) (i : Image) → new.now i → HasWrites beside (halted_with n x disk) i
@@ -144,7 +147,7 @@ module _ {beside : KeptBeside} (n : Node) (volume start : ℕ) (bytes : List ℕ
     lies_new = lies_moved n (Run c.units.srl 0 (c.log.ring + 2)) (Writing c (x ∷ []) m) m new moves roomy.lies
 
     by_writes : (result : Result ℕ No) → last_of c < most_number → Writes c volume start bytes m new c' result → OnOk result ((h : Holding) → Stands c h m → Stands c' (with_writes (x ∷ []) h) new)
-        → (is_origin n.role ≡ true → (calls : ℕ) → IsTrue new.tells → IsExact n x calls → OnOk result (4 ≤ calls)) → WroteAs beside n x m c' new result
+        → (is_origin n.role ≡ true → (calls : ℕ) → IsTrue new.tells → IsRackOf n new → IsExact n x calls → OnOk result (4 ≤ calls)) → WroteAs beside n x m c' new result
     by_writes (Ok number) below is stands exact = (
       is.0 ∙ ap (λ (k : ℕ). k + 1) roomy.head,
       omega (arith, below, roomy.head),
@@ -161,14 +164,14 @@ module _ {beside : KeptBeside} (n : Node) (volume start : ℕ) (bytes : List ℕ
     by_writes (Err other) below is stands exact = is
 
     by_number : (o : Option No) (result : Result ℕ No) → Number (last_of c) o → WriteIs o c volume start bytes m new c' result → (IsSome o → new ≡ m)
-        → OnOk result ((h : Holding) → Stands c h m → Stands c' (with_writes (x ∷ []) h) new) → (is_origin n.role ≡ true → (calls : ℕ) → IsTrue new.tells → IsExact n x calls → OnOk result (4 ≤ calls)) → WroteAs beside n x m c' new result
+        → OnOk result ((h : Holding) → Stands c h m → Stands c' (with_writes (x ∷ []) h) new) → (is_origin n.role ≡ true → (calls : ℕ) → IsTrue new.tells → IsRackOf n new → IsExact n x calls → OnOk result (4 ≤ calls)) → WroteAs beside n x m c' new result
     by_number o result (SomeLeft below is_none) is unchanged stands exact = by_writes result below (subst (λ (k : Option No). WriteIs k c volume start bytes m new c' result) is_none is) stands exact
     by_number o result (NoneLeft past is_some) is unchanged stands exact = absurd (omega (arith, past, below_most, roomy.head))
 
     -- what a write answers
     pub written_as : (result : Result ℕ No) → WriteIs (write_refusal c (m.size (unit_of c.units.vols volume)) start (blocks_in bytes)) c volume start bytes m new c' result
         → (IsSome (write_refusal c (m.size (unit_of c.units.vols volume)) start (blocks_in bytes)) → new ≡ m)
-        → OnOk result ((h : Holding) → Stands c h m → Stands c' (with_writes (x ∷ []) h) new) → (is_origin n.role ≡ true → (calls : ℕ) → IsTrue new.tells → IsExact n x calls → OnOk result (4 ≤ calls)) → WroteAs beside n x m c' new result
+        → OnOk result ((h : Holding) → Stands c h m → Stands c' (with_writes (x ∷ []) h) new) → (is_origin n.role ≡ true → (calls : ℕ) → IsTrue new.tells → IsRackOf n new → IsExact n x calls → OnOk result (4 ≤ calls)) → WroteAs beside n x m c' new result
     written_as result is unchanged stands exact =
         let refusal : write_refusal c (m.size (unit_of c.units.vols volume)) start (blocks_in bytes) ≡ number_test (last_of c)
         = ap (λ (h : Option ℕ). halted_or h (tests c.log.ring (m.size (unit_of c.units.vols volume)) start (blocks_in bytes) (last_of c))) roomy.running
@@ -188,10 +191,10 @@ held_begun n x m held = record {
 }
 
 -- room that was not made refuses the write
-pub unroomed : (beside : KeptBeside) (n : Node) (x : Write) (c' : Core) (m new : Meaning) (no : No) → (is_origin n.role ≡ true → (calls : ℕ) → IsTrue new.tells → IsExact n x calls → ⊥) → RoomIs beside n m c' new (Err no) → WroteAs beside n x m c' new (Err no)
+pub unroomed : (beside : KeptBeside) (n : Node) (x : Write) (c' : Core) (m new : Meaning) (no : No) → (is_origin n.role ≡ true → (calls : ℕ) → IsTrue new.tells → IsRackOf n new → IsExact n x calls → ⊥) → RoomIs beside n m c' new (Err no) → WroteAs beside n x m c' new (Err no)
 unroomed beside n x c' m new (Device disk) never is = (half_of n x disk c' new is.0, is.1)
 unroomed beside n x c' m new (Limit what most) never is = is
-unroomed beside n x c' m new Down never is = (is.0, held_begun n x new is.1, λ origin calls told exact. absurd (never origin calls told exact))
+unroomed beside n x c' m new Down never is = (is.0, held_begun n x new is.1, λ origin calls told rack exact. absurd (never origin calls told rack exact))
 unroomed beside n x c' m new other never is = is
 
 -- a call that moved the shelf, and then the write
@@ -202,19 +205,28 @@ wrote_later beside n x c' m mid new (Err (Limit what most)) later is = is
 wrote_later beside n x c' m mid new (Err Down) later is = is
 wrote_later beside n x c' m mid new (Err other) later is = is
 
+-- what a write answers, below the greatest number
+pub wrote_at : (beside : KeptBeside) (n : Node) (x : Write) (c' : Core) (m new : Meaning) (result : Result ℕ No) → n.safe < most_number → WroteAs beside n x m c' new result → LoggedAs beside n x m c' new result
+wrote_at beside n x c' m new (Ok number) below is = is
+wrote_at beside n x c' m new (Err (Device disk)) below is = (is.0, is.1, below)
+wrote_at beside n x c' m new (Err (Limit what most)) below is = is
+wrote_at beside n x c' m new (Err Down) below is = (is.0, is.1, is.2, below)
+wrote_at beside n x c' m new (Err other) below is = is
+
+-- no number is left
+pub wrote_none : {beside : KeptBeside} (n : Node) (x : Write) (c : Core) (m : Meaning) → IsUpAt beside n c m → most_number ≤ last_of c → LoggedAs beside n x m c m (Err no_number)
+wrote_none n x c m up full = (refl, (λ told. omega (arith, full, up.head)), up_worked n c m up)
+
 -- ---- the same of disk sets
 
 module _ {R : Type 0} {g : Ghosts R} where
-  pub wrote_at : (beside : KeptBeside) (n : Node) (x : Write) (old new : Rvg R g) (result : Result ℕ No) → n.safe < most_number → WroteAs beside n x (g.meaning old.shelf) new.core (g.meaning new.shelf) result → LoggedUp beside n x (Up old) (Up new) result
-  wrote_at beside n x old new (Ok number) below is = is
-  wrote_at beside n x old new (Err (Device disk)) below is = (is.0, is.1, below)
-  wrote_at beside n x old new (Err (Limit what most)) below is = is
-  wrote_at beside n x old new (Err Down) below is = (is.0, is.1, is.2, below)
-  wrote_at beside n x old new (Err other) below is = is
-
-  -- no number is left
-  pub wrote_none : {beside : KeptBeside} (n : Node) (x : Write) (rvg : Rvg R g) → IsUpAt beside n rvg.core (g.meaning rvg.shelf) → most_number ≤ last_of rvg.core → LoggedUp beside n x (Up rvg) (Up rvg) (Err no_number)
-  wrote_none n x rvg up full = (refl, (λ told. omega (arith, full, up.head)), up_worked n rvg.core (g.meaning rvg.shelf) up)
+  -- a write over a rack
+  pub logged_at : (beside : KeptBeside) (n : Node) (x : Write) (old new : Rvg R g) (result : Result ℕ No) → IsUngrouped beside n → IsRack (g.meaning new.shelf) → LoggedAs beside n x (g.meaning old.shelf) new.core (g.meaning new.shelf) result → LoggedUp beside n x (Up old) (Up new) result
+  logged_at beside n x old new (Ok number) raw rack is = (is.0, is.1, (raw, is.2), λ origin calls told exact. is.3 origin calls told (λ none. disks_are (g.meaning new.shelf) rack) exact)
+  logged_at beside n x old new (Err (Device disk)) raw rack is = ((raw, is.0), is.1, is.2)
+  logged_at beside n x old new (Err (Limit what most)) raw rack is = (is.0, is.1, (raw, is.2))
+  logged_at beside n x old new (Err Down) raw rack is = (is.0, (raw, is.1), (λ origin calls told exact. is.2 origin calls told (λ none. disks_are (g.meaning new.shelf) rack) exact), is.3)
+  logged_at beside n x old new (Err other) raw rack is = is
 
   -- a write of an origin
   pub logged_wrote : (beside : KeptBeside) (n : Node) (x : Write) (old new : DiskSet R g) (result : Result ℕ No) → is_origin n.role ≡ true → LoggedUp beside n x old new result → WroteUp beside n x old new result

@@ -20,7 +20,7 @@ use Rattle.vx_diskset.specs.Lasts.{FoundWith, StandsHolding}
 use Rattle.vx_diskset.specs.Needs.{TakesAs}
 use Rattle.vx_diskset.specs.Rooms.{IsRoomy}
 use Rattle.vx_diskset.specs.Fuses.{IsFirstLog}
-use Rattle.vx_grouped.specs.SetFuses.{HasFuse}
+use Rattle.vx_diskset.specs.Fuses.{FuseOn}
 use Rattle.vx_diskset.specs.Stands.{IsUpAt}
 use Rattle.vx_diskset.proofs.BesideLemmas.{never_besides, site_map}
 use Rattle.vx_diskset.proofs.LastWrites.{FoundOf, stands_with}
@@ -116,7 +116,7 @@ module _ (n : Node) (x : Write) (disk : ℕ) where
   }
 
   -- while it was logged
-  pub up_half : {beside : KeptBeside} (c0 c c' : Core) (m0 m new : Meaning) → IsUpAt beside n c0 m0 → IsRoomy beside n c m → new.tells ≡ m.tells → IsFalse new.down → LiesOn n new → HasFuse (burned n.fuse) new → (IsTrue new.tells → 0 < n.session) → SameLog c c' → c'.halted ≡ Some disk → beside.doubt ≡ None
+  pub up_half : {beside : KeptBeside} (c0 c c' : Core) (m0 m new : Meaning) → IsUpAt beside n c0 m0 → IsRoomy beside n c m → new.tells ≡ m.tells → IsFalse new.down → LiesOn n new → FuseOn (burned n.fuse) new → (IsTrue new.tells → 0 < n.session) → SameLog c c' → c'.halted ≡ Some disk → beside.doubt ≡ None
       → ((i : Image) → new.now i → HasWrites beside (halted_with n x disk) i) → IsUpAt beside (halted_with n x disk) c' new
   up_half {beside} c0 c c' m0 m new up roomy tells still lies fuse begun same halted sure left = record {
     state = up.state;
@@ -147,7 +147,7 @@ module _ (n : Node) (x : Write) (disk : ℕ) where
 
 -- a site with one more write
 pub up_logged : {beside : KeptBeside} (n : Node) (x : Write) (c0 c c' : Core) (m0 m new : Meaning) → IsUpAt beside n c0 m0 → n.halted ≡ None → IsRoomy beside n c m → Lawful new → c'.log.unit ≡ c'.units.srl → new.tells ≡ m.tells
-    → IsFalse new.down → LiesOn n new → HasFuse (burned n.fuse) new → (IsTrue new.tells → 0 < n.session) → (is_origin n.role ≡ true → IsTrue new.tells → n.session ≡ 1 → logged_blocks (n.log ++ x ∷ []) ≤ n.ring → IsFirstLog c'.log (n.log ++ x ∷ [])) → TakesAs c'.log (n.log ++ x ∷ []) → c'.units ≡ c.units → c'.log.ring ≡ c.log.ring → c'.log.header ≡ c.log.header → c'.halted ≡ c.halted → last_of c' ≡ last_of c + 1
+    → IsFalse new.down → LiesOn n new → FuseOn (burned n.fuse) new → (IsTrue new.tells → 0 < n.session) → (is_origin n.role ≡ true → IsTrue new.tells → n.session ≡ 1 → logged_blocks (n.log ++ x ∷ []) ≤ n.ring → IsFirstLog c'.log (n.log ++ x ∷ [])) → TakesAs c'.log (n.log ++ x ∷ []) → c'.units ≡ c.units → c'.log.ring ≡ c.log.ring → c'.log.header ≡ c.log.header → c'.halted ≡ c.halted → last_of c' ≡ last_of c + 1
     → (IsTrue new.tells → StandsHolding c' (n.log ++ x ∷ []) (put n.base x) new) → IsUpAt beside (logged n x) c' new
 up_logged {beside} n x c0 c c' m0 m new up none roomy lawful unit_is tells still lies fuse begun fresh takes units ring header halted head content = record {
   state = up.state;

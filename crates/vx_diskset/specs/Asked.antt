@@ -13,11 +13,12 @@ use Rattle.vx_srl.specs.Views.{BodyFits, free_of}
 use Rattle.vx_events.specs.declared.said.Said.{Said}
 use Rattle.vx_events.specs.declared.said.Said.TheVariants.{Refused}
 use Rattle.vx_diskset.specs.declared.disk_set.DiskSet.{DiskSet}
-use Rattle.vx_diskset.specs.declared.disk_set.DiskSet.TheVariants.{Bare, Spoiled, Up, Receives, Down, OfGroup, Gone}
+use Rattle.vx_diskset.specs.declared.disk_set.DiskSet.TheVariants.{Bare, Spoiled, Up, Receives, Down, OfGroup, Over, Gone}
 use Rattle.vx_diskset.specs.Burning.{Burnt, IsLogged, NoMore}
 use Rattle.vx_watched.specs.Since.{fuse_calls}
 use Rattle.vx_grouped.specs.GroupSites.{site_disks}
 use Rattle.vx_diskset.specs.Fuses.{LeftAs}
+use Rattle.vx_diskset.specs.Aboves.{site_in}
 
 -- the calls of a header that is written where a link comes to count more as stored
 abbrev pub stored_calls : (old stored : ℕ) → ℕ
@@ -47,6 +48,7 @@ module _ {R : Type 0} {g : Ghosts R} where
   disks_told (Receives s) = (g.meaning s.rvg.shelf).disks
   disks_told (Down rack) = (g.meaning rack).disks
   disks_told (OfGroup s) = (site_disks s.site).disks
+  disks_told (Over s) = (site_disks (site_in s)).disks
   disks_told Gone = None
 
   abbrev pub size_in : DiskSet R g → ℕ → ℕ
@@ -56,7 +58,13 @@ module _ {R : Type 0} {g : Ghosts R} where
   size_in (Receives s) = (g.meaning s.rvg.shelf).size
   size_in (Down rack) = (g.meaning rack).size
   size_in (OfGroup s) = (site_disks s.site).size
+  size_in (Over s) = (site_disks (site_in s)).size
   size_in Gone = λ u. 0
+
+  -- Calls on a replicated volume group over a group of disks are accounted for in another way: one may make any number of device calls.
+  abbrev pub IsRawSet : DiskSet R g → Type 0
+  IsRawSet (Over s) = ⊥
+  IsRawSet other = Unit {0}
 
   -- how many disks it has
   abbrev pub units_in : DiskSet R g → ℕ
@@ -66,6 +74,7 @@ module _ {R : Type 0} {g : Ghosts R} where
   units_in (Receives s) = (g.meaning s.rvg.shelf).units
   units_in (Down rack) = (g.meaning rack).units
   units_in (OfGroup s) = (site_disks s.site).units
+  units_in (Over s) = (site_disks (site_in s)).units
   units_in Gone = 0
 
   -- each later call on this disk fails, or no longer, and nothing else changed

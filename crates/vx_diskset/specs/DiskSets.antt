@@ -27,7 +27,7 @@ use Rattle.vx_diskset.specs.Holds.{most_header}
 use Rattle.vx_history.specs.Stops.{IsFused}
 use Rattle.vx_events.specs.Fuses.{IsExact}
 use Rattle.vx_diskset.specs.Layouts.{raw_units}
-use Rattle.vx_diskset.specs.Stands.{SiteStands, StandsAlone, CutAt, IsUnused, IsToldAt, RoleIs, faults_at}
+use Rattle.vx_diskset.specs.Stands.{CutAt, IsRackTold, IsToldAt, IsUnused, RoleIs, SiteStands, StandsAlone, faults_at}
 
 -- a write that nothing but a failing disk or want of a number can refuse
 pub record CanWrite (n : Node) (volume start count : ℕ) : Type 0 where
@@ -65,6 +65,10 @@ halted_at n disk = record n { halted = Some disk; fuse = burned n.fuse }
 abbrev pub with_first : Node → ℕ → Node
 with_first n k = record n { log = take k n.log }
 
+-- a site that crashed as another one, with so many writes; what it notes of its group stays
+abbrev pub fell_to : (n k : Node) → (count : ℕ) → Node
+fell_to n k count = record (crashed k count) { group = n.group }
+
 abbrev pub no_number : No
 no_number = Limit Number most_number
 
@@ -91,7 +95,7 @@ module _ {R : Type 0} {g : Ghosts R} where
   -- no count of a disk falls, and contents that are told now were told before
   pub record Later (old new : DiskSet R g) : Type 0 where
     pub counts : (d : ℕ) → faults_at old d ≤ faults_at new d
-    pub told : IsToldAt new → IsToldAt old
+    pub told : IsRackTold new → IsRackTold old
 
   -- the count of this disk rose
   abbrev pub RoseAt : DiskSet R g → DiskSet R g → ℕ → Type 0
@@ -111,14 +115,14 @@ module _ {R : Type 0} {g : Ghosts R} where
   MadeIs site n old new (Err (Refused (Device disk))) = ((beside : KeptBeside) → SiteStands beside n new) × RoseAt old new disk
   MadeIs site n old new (Err (Refused other)) = ⊥
 
-  -- a site that crashed, as its node says it or as what it might be besides, with one of the numbers of writes that a crash may keep
+  -- A site that crashed, as its node says it or as what it might be besides, with one of the numbers of writes that a crash may keep. What it notes of its group stays.
   pub record CrashedAt (beside : KeptBeside) (n : Node) (new : DiskSet R g) : Type 0 where
     pub kept : KeptSite
     pub is : (kept ≡ itself beside n) ⊎ (beside.doubt ≡ Some kept)
     pub count : ℕ
     pub least : kept.node.safe ≤ count
     pub most : count ≤ length kept.node.log
-    pub stands : SiteStands (sure_of kept) (crashed kept.node count) new
+    pub stands : SiteStands (sure_of kept) (fell_to n kept.node count) new
 
   -- A running site that crashed, as its node says it, with one of the numbers of writes up to this one: none is kept that waits behind it.
   pub record CrashedTo (beside : KeptBeside) (n : Node) (limit : ℕ) (new : DiskSet R g) : Type 0 where

@@ -11,34 +11,61 @@ use Rattle.vx_watched.specs.Since.{CalledSince}
 use Rattle.vx_grouped.specs.Begins.{BeginsGroup}
 use Rattle.vx_grouped.specs.GroupSites.{site_config, site_disks}
 use Rattle.vx_grouped.specs.declared.group_site.GroupSite.{GroupSite}
+use Rattle.vx_diskset.specs.Aboves.{site_in}
 use Rattle.vx_diskset.specs.GroupSets.{cut_value}
 use Rattle.vx_diskset.specs.declared.disk_set.DiskSet.{DiskSet}
-use Rattle.vx_diskset.specs.declared.disk_set.DiskSet.TheVariants.{Bare, Spoiled, OfGroup}
+use Rattle.vx_diskset.specs.declared.disk_set.DiskSet.TheVariants.{Bare, Spoiled, OfGroup, Over}
 
 module _ {R : Type 0} {g : Ghosts R} where
   -- they are those of a group, of which this holds
   abbrev pub AtSite : (GroupSite R g → Type 0) → DiskSet R g → Type 0
   AtSite P (OfGroup s) = P s.site
+  AtSite P (Over s) = P (site_in s)
   AtSite P other = ⊥
 
-  -- and so they are behind the call
+  -- and they have no replicated volume group
+  abbrev pub AtPlain : (GroupSite R g → Type 0) → DiskSet R g → Type 0
+  AtPlain P (OfGroup s) = P s.site
+  AtPlain P other = ⊥
+
+  -- or they have one
+  abbrev pub AtOver : (GroupSite R g → Type 0) → DiskSet R g → Type 0
+  AtOver P (Over s) = P (site_in s)
+  AtOver P other = ⊥
+
+  -- and so they are behind the call, which makes no replicated volume group
   abbrev pub OnSites : (GroupSite R g → GroupSite R g → Type 0) → DiskSet R g → DiskSet R g → Type 0
-  OnSites P (OfGroup old) new = AtSite (P old.site) new
+  OnSites P (OfGroup old) new = AtPlain (P old.site) new
+  OnSites P (Over old) new = AtOver (P (site_in old)) new
   OnSites P old new = ⊥
+
+  -- So they are behind an import, where it found no replicated volume group. Where it did, more is said elsewhere.
+  abbrev pub AtFound : (GroupSite R g → Type 0) → DiskSet R g → Type 0
+  AtFound P (OfGroup s) = P s.site
+  AtFound P (Over s) = Unit {0}
+  AtFound P other = ⊥
+
+  abbrev pub ImportsOn : (GroupSite R g → GroupSite R g → Type 0) → DiskSet R g → DiskSet R g → Type 0
+  ImportsOn P (OfGroup old) new = AtFound (P old.site) new
+  ImportsOn P (Over old) new = AtFound (P (site_in old)) new
+  ImportsOn P old new = ⊥
 
   -- the write that the fuse cut
   abbrev pub cut_in : DiskSet R g → Option Write
   cut_in (OfGroup s) = cut_value s.cut
+  cut_in (Over s) = cut_value s.cut
   cut_in other = None
 
   -- the configuration of a group that is up
   abbrev pub config_in : DiskSet R g → Option Config
   config_in (OfGroup s) = site_config s.site
+  config_in (Over s) = site_config (site_in s)
   config_in other = None
 
   -- whatever calls were made of them, those on the disks of a group are accounted for
   abbrev pub CalledOn : DiskSet R g → DiskSet R g → Type 0
   CalledOn (OfGroup old) new = AtSite (λ s. CalledSince (site_disks old.site) (site_disks s)) new
+  CalledOn (Over old) new = AtSite (λ s. CalledSince (site_disks (site_in old)) (site_disks s)) new
   CalledOn old new = Unit {0}
 
   -- the disks of a bare site, whatever was begun on them
@@ -50,4 +77,4 @@ module _ {R : Type 0} {g : Ghosts R} where
 
   -- the disks of a bare site are a group without volumes; or a disk failed, or memory was wanted, and labels of it may stand on them
   abbrev pub InitIs : ℕ → Node → DiskSet R g → DiskSet R g → Result (Unit {0}) Stop → Type 0
-  InitIs site n old new result = AtSite (λ e. BeginsGroup site n (bare_disks old) e result) new × (cut_in new ≡ None)
+  InitIs site n old new result = AtPlain (λ e. BeginsGroup site n (bare_disks old) e result) new × (cut_in new ≡ None)

@@ -1,3 +1,5 @@
+pub mod Aboves
+pub mod Founded
 pub mod Asked
 pub mod Blames
 pub mod Burning
@@ -11,13 +13,20 @@ pub mod Holds
 pub mod Keeps
 pub mod Lasts
 pub mod Layouts
+pub mod Makings
+pub mod MakeSteps
 pub mod Needs
+pub mod Noted
 pub mod Pumps
 pub mod Received
 pub mod Recovers
 pub mod Rooms
+pub mod Shelves
 pub mod Stands
 pub mod Unlabels
 pub mod Withdrawn
 pub mod Zeroing
 pub mod Zeros
+pub mod Works
+pub mod OverKeeps
+pub mod OverStarts

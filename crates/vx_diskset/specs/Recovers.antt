@@ -18,10 +18,11 @@ use Rattle.vx_grouped.specs.SiteReturns.{FailsFused}
 use Rattle.vx_watched.specs.Since.{is_rack}
 use Rattle.vx_grouped.specs.SiteReturns.{SiteRecovers}
 use Rattle.vx_grouped.specs.declared.group_site.GroupSite.{GroupSite}
-use Rattle.vx_diskset.specs.GroupCalls.{AtSite, cut_in}
+use Rattle.vx_diskset.specs.Aboves.{site_in}
+use Rattle.vx_diskset.specs.GroupCalls.{AtFound, AtOver, AtPlain, cut_in}
 use Rattle.vx_diskset.specs.GroupSets.{cut_value}
 use Rattle.vx_diskset.specs.declared.disk_set.DiskSet.{DiskSet}
-use Rattle.vx_diskset.specs.declared.disk_set.DiskSet.TheVariants.{OfGroup}
+use Rattle.vx_diskset.specs.declared.disk_set.DiskSet.TheVariants.{OfGroup, Over}
 use Rattle.vx_diskset.specs.declared.group_set.CutWrite.{CutWrite}
 use Rattle.vx_grouped.specs.SiteMaps.{CameMapped}
 use Rattle.vx_diskset.specs.declared.group_set.KeptWrite.{KeptWrite}
@@ -36,9 +37,9 @@ KeptIs note m None kept = kept ≡ None
 KeptIs note m (Some x) None = FitsPlain note x.volume x.block (length x.bytes) → ⊥
 KeptIs note m (Some x) (Some k) = (k.write ≡ x) × KeepsPlain note m x.volume x.block x.bytes k.bits
 
--- the write that was cut lies in its volume
+-- a write was cut, and lies in its volume
 abbrev pub CutFits : GroupNode → Option CutWrite → Type 0
-CutFits note None = Unit {0}
+CutFits note None = ⊥
 CutFits note (Some x) = FitsPlain note x.volume x.block (length x.bytes)
 
 -- Disks behind an import, and what was read and crashed of them then: the same are made to fail. While they are up, a fuse that is set was set before, and
@@ -59,32 +60,49 @@ module _ {R : Type 0} {g : Ghosts R} where
   -- A group that came up says what is kept of the write that was cut, which is cut no longer. Where a disk failed in that, it is down again, and the write
   -- is cut still.
   abbrev pub RisesWith : Node → GroupNode → Option CutWrite → GroupSite R g → DiskSet R g → Result (Option KeptWrite) Stop → Type 0
-  RisesWith n note cut old new (Ok kept) = AtSite (UpNoted (worked n) note) new × (cut_in new ≡ None) × KeptIs note (site_disks old) cut kept
+  RisesWith n note cut old new (Ok kept) = AtPlain (UpNoted (worked n) note) new × (cut_in new ≡ None) × KeptIs note (site_disks old) cut kept
   RisesWith n note cut old new (Err (Refused (Device disk))) =
-      AtSite (DownNoted (crashed (with_note (still_cut cut note) n) 0) (still_cut cut note)) new × (cut_in new ≡ cut_value cut) × CutFits note cut
-      × AtSite (λ e. Rose ((site_disks old).disk_faults disk) ((site_disks e).disk_faults disk)) new
+      AtPlain (DownNoted (crashed (with_note (still_cut cut note) n) 0) (still_cut cut note)) new × (cut_in new ≡ cut_value cut) × CutFits note cut
+      × AtPlain (λ e. Rose ((site_disks old).disk_faults disk) ((site_disks e).disk_faults disk)) new
   RisesWith n note cut old new (Err other) = ⊥
 
   -- a recovery that was refused in its import leaves the write that was cut
   pub record StaysBack (n : Node) (note : GroupNode) (old : GroupSite R g) (cut : Option CutWrite) (new : DiskSet R g) (stop : Stop) : Type 0 where
-    pub refused : AtSite (λ e. SiteRecovers n note old e (Err stop)) new
+    pub refused : AtFound (λ e. SiteRecovers n note old e (Err stop)) new
     pub cut_stays : cut_in new ≡ cut_value cut
 
   -- A recovery of the group of a site that crashed, as far as its import: the write that was cut is handed out.
+  abbrev pub RaisesAt : Node → GroupNode → GroupSite R g → Option CutWrite → DiskSet R g → Result (Option CutWrite) Stop → Type 0
+  RaisesAt n note old was new (Ok cut) = AtFound (λ e. SiteRecovers n note old e (Ok tt)) new × (cut_in new ≡ None) × (cut ≡ was)
+  RaisesAt n note old was new (Err stop) = StaysBack n note old was new stop
+
   abbrev pub RaisesGroup : Node → GroupNode → DiskSet R g → DiskSet R g → Result (Option CutWrite) Stop → Type 0
-  RaisesGroup n note (OfGroup s) new (Ok cut) = AtSite (λ e. SiteRecovers n note s.site e (Ok tt)) new × (cut_in new ≡ None) × (cut ≡ s.cut)
-  RaisesGroup n note (OfGroup s) new (Err stop) = StaysBack n note s.site s.cut new stop
+  RaisesGroup n note (OfGroup s) new r = RaisesAt n note s.site s.cut new r
+  RaisesGroup n note (Over s) new r = RaisesAt n note (site_in s) s.cut new r
   RaisesGroup n note old new r = ⊥
 
   -- so far what is noted of the maps goes on
+  abbrev pub RaisesMapsAt : GroupSite R g → DiskSet R g → Result (Option CutWrite) Stop → Type 0
+  RaisesMapsAt old new (Ok cut) = AtFound (λ e. CameMapped old e (Ok tt)) new
+  RaisesMapsAt old new (Err stop) = AtFound (λ e. CameMapped old e (Err stop)) new
+
   abbrev pub RaisesMaps : DiskSet R g → DiskSet R g → Result (Option CutWrite) Stop → Type 0
-  RaisesMaps (OfGroup s) new (Ok cut) = AtSite (λ e. CameMapped s.site e (Ok tt)) new
-  RaisesMaps (OfGroup s) new (Err stop) = AtSite (λ e. CameMapped s.site e (Err stop)) new
+  RaisesMaps (OfGroup s) new r = RaisesMapsAt s.site new r
+  RaisesMaps (Over s) new r = RaisesMapsAt (site_in s) new r
   RaisesMaps old new r = ⊥
+
+  -- the same where a group came up with its replicated volume group
+  abbrev pub RisesOver : Node → GroupNode → Option CutWrite → GroupSite R g → DiskSet R g → Result (Option KeptWrite) Stop → Type 0
+  RisesOver n note cut old new (Ok kept) = AtOver (UpNoted (worked n) note) new × (cut_in new ≡ None) × KeptIs note (site_disks old) cut kept
+  RisesOver n note cut old new (Err (Refused (Device disk))) =
+      AtOver (DownNoted (crashed (with_note (still_cut cut note) n) 0) (still_cut cut note)) new × (cut_in new ≡ cut_value cut) × CutFits note cut
+      × AtOver (λ e. Rose ((site_disks old).disk_faults disk) ((site_disks e).disk_faults disk)) new
+  RisesOver n note cut old new (Err other) = ⊥
 
   -- and what is read then of that write
   abbrev pub LooksAt : Node → GroupNode → Option CutWrite → DiskSet R g → DiskSet R g → Result (Option KeptWrite) Stop → Type 0
   LooksAt n note cut (OfGroup s) new r = RisesWith n note cut s.site new r
+  LooksAt n note cut (Over s) new r = RisesOver n note cut (site_in s) new r
   LooksAt n note cut old new r = ⊥
 
   -- the write that is cut behind an import: none, where it came up

@@ -16,15 +16,15 @@ use Rattle.vx_diskset.specs.Holds.{state_with}
 use Rattle.vx_diskset.specs.Layouts.{LiesOn, units_of}
 use Rattle.vx_diskset.specs.Needs.{TakesAs}
 use Rattle.vx_diskset.specs.Holds.{most_header}
-use Rattle.vx_grouped.specs.SetFuses.{HasFuse}
 use Rattle.vx_history.specs.Stops.{IsFused}
+use Rattle.vx_diskset.specs.Fuses.{FuseOn}
 use Rattle.vx_diskset.specs.Stands.{IsUpAt, IsHeldAt}
 
 -- a site that is up and runs, before a write: its log may have used the one stamp that the write makes room for
 pub record IsRoomy (beside : KeptBeside) (n : Node) (c : Core) (m : Meaning) : Type 0 where
   pub up : IsFalse m.down
   pub lies : LiesOn n m
-  pub fuse : HasFuse (burned n.fuse) m
+  pub fuse : FuseOn (burned n.fuse) m
   pub units : c.units ≡ units_of n
   pub ring : c.log.ring ≡ n.ring
   pub found : List KeptLink

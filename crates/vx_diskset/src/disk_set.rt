@@ -4,17 +4,18 @@ ghost use Rattle.vx_events.specs.GroupLines.{is_over_group};
 ghost use Rattle.vx_diskset.specs.Holds.{KeptBeside};
 ghost use Rattle.vx_history.specs.World.{Node};
 ghost use Rattle.vx_diskset.specs.DiskSets.{Later};
+ghost use Rattle.vx_diskset.specs.Noted.{OversFall};
 ghost use Rattle.vx_diskset.specs.Stands.{KeepsRole, SiteStands};
 ghost use Rattle.vx_rvg.specs.Views.{last_of};
 ghost use Rattle.vx_model.specs.declared.limits.TheConstants.{MOST_NUMBER};
 ghost use Rattle.vx_srlfmt.specs.Headers.{CanSpellState};
 
-use crate::GroupSet;
+use crate::{GroupSet, OverSet};
 use std::alloc::Global;
 use vx_disk::Rack;
 use vx_model::limits::{LEAST_BLOCKS, MOST_DISKS};
 use vx_model::{No, State, Stop};
-use vx_rvg::Rvg;
+use vx_rvg::{Rvg, RvgCore};
 use vx_secondary::Secondary;
 
 /// The rack of a site number, by itself or under a replicated volume group.
@@ -31,18 +32,20 @@ pub enum DiskSet<R: Rack> {
     Down(R),
     /// The disks of a group without a replicated volume group, up or not.
     OfGroup(GroupSet<R>),
+    /// The disks of a group with a replicated volume group, up or not.
+    Over(OverSet<R>),
     /// It was taken out, and comes back within the same line.
     Gone,
 }
 
 // The number of the last write of a group.
-fn last_in<R: Rack>(rvg: &Rvg<R>) -> u64
-    ensures is { result ≡ last_of rvg.now.core }
+pub(crate) fn last_in(core: &RvgCore) -> u64
+    ensures is { result ≡ last_of core.now }
     ensures few { result ≤ MOST_NUMBER }
 {
     // For its bound.
-    let _ring = rvg.ring();
-    rvg.head()
+    let _ring = core.ring();
+    core.head()
 }
 
 impl<R: Rack> DiskSet<R> {
@@ -93,6 +96,7 @@ impl<R: Rack> DiskSet<R> {
             }
             DiskSet::Down(rack) if disk < rack.units() as u64 => rack.fail(disk as u32, on),
             DiskSet::OfGroup(group) => group.site.fail(disk, on),
+            DiskSet::Over(over) => over.fail(disk, on),
             _ => {}
         }
     }
@@ -108,6 +112,7 @@ impl<R: Rack> DiskSet<R> {
             DiskSet::Up(rvg) => rvg.shelf.fuse(calls, pick),
             DiskSet::Receives(site) => site.rvg.shelf.fuse(calls, pick),
             DiskSet::OfGroup(group) => group.site.fuse(calls, pick),
+            DiskSet::Over(over) => over.fuse(calls, pick),
             _ => {}
         }
     }
@@ -120,7 +125,9 @@ impl<R: Rack> DiskSet<R> {
         ensures asked { (beside : KeptBeside) (n : Node) → SiteStands beside n self → n.state ≡ UpState → CrashesBy pick self result }
         ensures cut { (beside : KeptBeside) (n : Node) → CutAt beside n self → CrashedAt beside n result }
         ensures stopped { MayCrash pick self result }
+        ensures seen { IsToldAt result → IsToldAt self }
         ensures role { KeepsRole self result }
+        ensures fallen { OversFall self result }
         ensures later { Later self result }
     {
         match self {
@@ -138,6 +145,7 @@ impl<R: Rack> DiskSet<R> {
                 site: group.site.crash(pick),
                 cut: group.cut,
             }),
+            DiskSet::Over(over) => DiskSet::Over(over.crash(pick)),
             other => other,
         }
     }
@@ -148,8 +156,9 @@ impl<R: Rack> DiskSet<R> {
         ensures few { result ≤ MOST_NUMBER }
     {
         match self {
-            DiskSet::Up(rvg) => last_in(rvg),
-            DiskSet::Receives(site) => last_in(&site.rvg),
+            DiskSet::Up(rvg) => last_in(&rvg.core),
+            DiskSet::Receives(site) => last_in(&site.rvg.core),
+            DiskSet::Over(over) => over.last(),
             _ => 0,
         }
     }
@@ -163,6 +172,7 @@ impl<R: Rack> DiskSet<R> {
         match self {
             DiskSet::Up(rvg) => Some(rvg.state()),
             DiskSet::Receives(site) => Some(site.rvg.state()),
+            DiskSet::Over(over) => over.state(),
             _ => None,
         }
     }
@@ -175,6 +185,7 @@ impl<R: Rack> DiskSet<R> {
         match self {
             DiskSet::Up(rvg) => rvg.session(),
             DiskSet::Receives(site) => site.rvg.session(),
+            DiskSet::Over(over) => over.session(),
             _ => 0,
         }
     }

@@ -9,8 +9,9 @@ ghost use Rattle.vx_diskset.specs.GroupFinds.{FindsIs, FindsOn};
 ghost use Rattle.vx_diskset.specs.Holds.{KeptBeside};
 ghost use Rattle.vx_diskset.specs.Stands.{IsToldAt, SiteStands};
 
+use crate::DiskSet;
 use crate::labels::has_label;
-use crate::{DiskSet, GroupSet};
+use crate::over_starts::with_rvg;
 use std::alloc::Global;
 use vx_disk::Rack;
 use vx_grouped::find_group;
@@ -23,13 +24,7 @@ fn find_on<R: Rack>(alloc: Global, rack: R, site: u32) -> (DiskSet<R>, Result<()
     ensures later { Later (DiskSet.Bare rack) result.0 }
 {
     match find_group(alloc, rack, site) {
-        Ok(group) => (
-            DiskSet::OfGroup(GroupSet {
-                site: group,
-                cut: None,
-            }),
-            Ok(()),
-        ),
+        Ok(group) => with_rvg(alloc, group, None, false),
         Err((rack, stop)) => (DiskSet::Bare(rack), Err(stop)),
     }
 }

@@ -2,8 +2,10 @@
 ghost use Rattle.std.specs.Prelude.{◌≡◌, ◌<◌, ◌≤◌, IfErr, None, Some};
 ghost use Rattle.vx_grouped.specs.GroupSites.{AwayNoted, DownNoted, GroupSiteStands, UpNoted, site_below, site_disks};
 ghost use Rattle.vx_grouped.specs.Begins.{BeginsGroup, CanBegin};
+ghost use Rattle.vx_disk.specs.Moves.{Nowhere};
 ghost use Rattle.vx_grouped.specs.SiteMaps.{CameMapped, StaysMapped};
 ghost use Rattle.vx_grouped.specs.SiteReturns.{SiteImports};
+ghost use Rattle.vx_grouped.specs.Volumes.{SiteGoes};
 ghost use Rattle.vx_history.specs.Groups.{GroupNode};
 ghost use Rattle.vx_history.specs.World.{Node};
 ghost use Rattle.vx_model.specs.declared.site.SiteState.TheVariants.{Bare as BareState};
@@ -11,14 +13,17 @@ ghost use Rattle.vx_model.specs.declared.limits.TheConstants.{LEAST_GROUP_BLOCKS
 ghost use Rattle.vx_watched.specs.Since.{CalledSince};
 ghost use Rattle.vx_diskset.specs.Asked.{FuseGoesOn, SameFailing};
 ghost use Rattle.vx_diskset.specs.DiskSets.{Later};
-ghost use Rattle.vx_diskset.specs.GroupCalls.{AtSite, InitIs, OnSites, cut_in};
+ghost use Rattle.vx_diskset.specs.Aboves.{site_in};
+ghost use Rattle.vx_diskset.specs.OverStarts.{HandsOut, ImportsBy, RaisesBy};
+ghost use Rattle.vx_diskset.specs.GroupCalls.{AtFound, AtOver, AtPlain, AtSite, ImportsOn, InitIs, OnSites, cut_in};
 ghost use Rattle.vx_diskset.specs.Holds.{KeptBeside};
-ghost use Rattle.vx_diskset.specs.Recovers.{LooksAt, LooksKept, RaisesGroup, RaisesMaps, RisesSince, RisesWith, cut_past};
+ghost use Rattle.vx_diskset.specs.Recovers.{LooksAt, LooksKept, RaisesGroup, RisesOver, RisesSince, RisesWith, cut_past, RaisesMaps};
 ghost use Rattle.vx_diskset.specs.Stands.{SiteStands};
 ghost use Rattle.vx_watched.specs.Traces.{TellsLess};
 
 use crate::group_set::{CutWrite, KeptWrite};
-use crate::{DiskSet, GroupSet};
+use crate::over_starts::with_rvg;
+use crate::{Above, DiskSet, GroupSet, OverSet};
 use std::alloc::Global;
 use vx_disk::Rack;
 use vx_grouped::{GroupSite, begin_group};
@@ -26,7 +31,7 @@ use vx_model::{No, Stop};
 
 // Makes the disks of a bare site a group without volumes.
 fn begin_on<R: Rack>(alloc: Global, rack: R, site: u32) -> (DiskSet<R>, Result<(), Stop>)
-    ensures begun { (n : Node) → CanBegin n (R.meaning rack) → AtSite (λ e. BeginsGroup site n (R.meaning rack) e result.1) result.0 }
+    ensures begun { (n : Node) → CanBegin n (R.meaning rack) → AtPlain (λ e. BeginsGroup site n (R.meaning rack) e result.1) result.0 }
     ensures cut { cut_in result.0 ≡ None }
     ensures since { AtSite (λ e. CalledSince (R.meaning rack) (site_disks e)) result.0 }
     ensures told { AtSite (λ e. TellsLess (R.meaning rack) (site_below e)) result.0 }
@@ -48,7 +53,7 @@ fn begin_again<R: Rack>(
     cut: Option<CutWrite>,
     site: u32,
 ) -> (DiskSet<R>, Result<(), Stop>)
-    ensures begun { (n : Node) → GroupSiteStands n marked → n.state ≡ BareState → CanBegin n (site_disks marked) → AtSite (λ e. BeginsGroup site n (site_disks marked) e result.1) result.0 × (cut_in result.0 ≡ None) }
+    ensures begun { (n : Node) → GroupSiteStands n marked → n.state ≡ BareState → CanBegin n (site_disks marked) → AtPlain (λ e. BeginsGroup site n (site_disks marked) e result.1) result.0 × (cut_in result.0 ≡ None) }
     ensures since { AtSite (λ e. CalledSince (site_disks marked) (site_disks e)) result.0 }
     ensures told { AtSite (λ e. TellsLess (site_below marked) (site_below e)) result.0 }
 {
@@ -65,6 +70,7 @@ fn begin_again<R: Rack>(
 fn kept_at<R: Rack>(site: &mut GroupSite<R>, write: &CutWrite) -> Result<Option<KeptWrite>, No>
     ensures looks { (n : Node) (note : GroupNode) → UpNoted n note site.old → LooksKept n note (Some write.now) site.old site.new result }
     ensures maps { (n : Node) (note : GroupNode) → UpNoted n note site.old → StaysMapped site.old site.new }
+    ensures volumes { SiteGoes Nowhere site.old site.new }
     ensures since { CalledSince (site_disks site.old) (site_disks site.new) }
     ensures told { TellsLess (site_below site.old) (site_below site.new) }
 {
@@ -89,6 +95,7 @@ fn look_kept<R: Rack>(
 ) -> Result<Option<KeptWrite>, No>
     ensures looks { (n : Node) (note : GroupNode) → UpNoted n note site.old → LooksKept n note cut.now site.old site.new result }
     ensures maps { (n : Node) (note : GroupNode) → UpNoted n note site.old → StaysMapped site.old site.new }
+    ensures volumes { SiteGoes Nowhere site.old site.new }
     ensures since { CalledSince (site_disks site.old) (site_disks site.new) }
     ensures told { TellsLess (site_below site.old) (site_below site.new) }
 {
@@ -123,8 +130,9 @@ fn stand_up<R: Rack>(
 
 // Imports the group of a site that crashed or was deported.
 fn import_in<R: Rack>(group: GroupSet<R>, alloc: Global) -> (DiskSet<R>, Result<(), Stop>)
-    ensures imported { (n : Node) (note : GroupNode) → AwayNoted n note group.site → AtSite (λ e. SiteImports n note group.site e result.1) result.0 }
-    ensures maps { AtSite (λ e. CameMapped group.site e result.1) result.0 }
+    ensures imported { (n : Node) (note : GroupNode) → AwayNoted n note group.site → AtFound (λ e. SiteImports n note group.site e result.1) result.0 }
+    ensures maps { (n : Node) (note : GroupNode) → AwayNoted n note group.site → AtFound (λ e. CameMapped group.site e result.1) result.0 }
+    ensures brought { ImportsBy group.site group.cut result.0 result.1 }
     ensures cut { cut_in result.0 ≡ cut_past result.1 (DiskSet.OfGroup group) }
     ensures since { AtSite (λ e. RisesSince (site_disks group.site) (site_disks e)) result.0 }
     ensures told { AtSite (λ e. TellsLess (site_below group.site) (site_below e)) result.0 }
@@ -132,8 +140,18 @@ fn import_in<R: Rack>(group: GroupSet<R>, alloc: Global) -> (DiskSet<R>, Result<
     let cut = group.cut;
     let (site, answer) = group.site.import(alloc);
     match answer {
-        Ok(()) => (DiskSet::OfGroup(GroupSet { site, cut: None }), Ok(())),
+        Ok(()) => with_rvg(alloc, site, cut, true),
         Err(stop) => (DiskSet::OfGroup(GroupSet { site, cut }), Err(stop)),
+    }
+}
+
+// The write that was cut, where the group came up.
+fn hands_out(started: Result<(), Stop>, cut: Option<CutWrite>) -> Result<Option<CutWrite>, Stop>
+    ensures { HandsOut cut started result }
+{
+    match started {
+        Ok(()) => Ok(cut),
+        Err(stop) => Err(stop),
     }
 }
 
@@ -143,15 +161,70 @@ fn raise_in<R: Rack>(
     alloc: Global,
 ) -> (DiskSet<R>, Result<Option<CutWrite>, Stop>)
     ensures raised { (n : Node) (note : GroupNode) → DownNoted n note group.site → RaisesGroup n note (DiskSet.OfGroup group) result.0 result.1 }
-    ensures maps { RaisesMaps (DiskSet.OfGroup group) result.0 result.1 }
+    ensures maps { (n : Node) (note : GroupNode) → DownNoted n note group.site → RaisesMaps (DiskSet.OfGroup group) result.0 result.1 }
+    ensures brought { RaisesBy group.site group.cut result.0 result.1 }
     ensures since { AtSite (λ e. RisesSince (site_disks group.site) (site_disks e)) result.0 }
     ensures told { AtSite (λ e. TellsLess (site_below group.site) (site_below e)) result.0 }
 {
     let cut = group.cut;
+    let kept = group.cut;
     let (site, answer) = group.site.import(alloc);
     match answer {
-        Ok(()) => (DiskSet::OfGroup(GroupSet { site, cut: None }), Ok(cut)),
+        Ok(()) => {
+            let (disk_set, started) = with_rvg(alloc, site, cut, false);
+            (disk_set, hands_out(started, kept))
+        }
         Err(stop) => (DiskSet::OfGroup(GroupSet { site, cut }), Err(stop)),
+    }
+}
+
+// The same of a site with a replicated volume group. One that is up is refused, and stays so.
+fn import_over<R: Rack>(over: OverSet<R>, alloc: Global) -> (DiskSet<R>, Result<(), Stop>)
+    ensures brought { ImportsBy (site_in over) over.cut result.0 result.1 }
+{
+    let (site, above, cut) = over.parts();
+    let (site, answer) = site.import(alloc);
+    match answer {
+        Ok(()) => with_rvg(alloc, site, cut, true),
+        Err(stop) => (DiskSet::Over(OverSet::of(site, above, cut)), Err(stop)),
+    }
+}
+
+fn raise_over<R: Rack>(
+    over: OverSet<R>,
+    alloc: Global,
+) -> (DiskSet<R>, Result<Option<CutWrite>, Stop>)
+    ensures brought { RaisesBy (site_in over) over.cut result.0 result.1 }
+{
+    let (site, above, cut) = over.parts();
+    let kept = cut;
+    let (site, answer) = site.import(alloc);
+    match answer {
+        Ok(()) => {
+            let (disk_set, started) = with_rvg(alloc, site, cut, false);
+            (disk_set, hands_out(started, kept))
+        }
+        Err(stop) => (DiskSet::Over(OverSet::of(site, above, cut)), Err(stop)),
+    }
+}
+
+fn stand_over<R: Rack>(
+    over: OverSet<R>,
+    cut: Option<CutWrite>,
+) -> (DiskSet<R>, Result<Option<KeptWrite>, Stop>)
+    ensures rises { (n : Node) (note : GroupNode) → UpNoted n note (site_in over) → RisesOver n note cut (site_in over) result.0 result.1 }
+    ensures maps { (n : Node) (note : GroupNode) → UpNoted n note (site_in over) → AtOver (StaysMapped (site_in over)) result.0 }
+    ensures since { AtSite (λ e. RisesSince (site_disks (site_in over)) (site_disks e)) result.0 }
+    ensures told { AtSite (λ e. TellsLess (site_below (site_in over)) (site_below e)) result.0 }
+{
+    let (site, above, _cut) = over.parts();
+    let mut site = site;
+    match look_kept(&mut site, &cut) {
+        Ok(kept) => (DiskSet::Over(OverSet::of(site, above, None)), Ok(kept)),
+        Err(no) => (
+            DiskSet::Over(OverSet::of(site.crash(u64::MAX), Above::Nothing, cut)),
+            Err(Stop::No(no)),
+        ),
     }
 }
 
@@ -174,8 +247,8 @@ impl<R: Rack> DiskSet<R> {
 
     /// Imports the group of a site that was deported. Where it is refused, the site stays as it was, or is down where its fuse ran out.
     pub fn import_group(self, alloc: Global) -> (DiskSet<R>, Result<(), Stop>)
-        ensures imported { (n : Node) (note : GroupNode) → AtSite (AwayNoted n note) self → OnSites (λ o e. SiteImports n note o e result.1) self result.0 }
-        ensures maps { (n : Node) (note : GroupNode) → AtSite (AwayNoted n note) self → OnSites (λ o e. CameMapped o e result.1) self result.0 }
+        ensures imported { (n : Node) (note : GroupNode) → AtSite (AwayNoted n note) self → ImportsOn (λ o e. SiteImports n note o e result.1) self result.0 }
+        ensures maps { (n : Node) (note : GroupNode) → AtSite (AwayNoted n note) self → ImportsOn (λ o e. CameMapped o e result.1) self result.0 }
         ensures cut { cut_in result.0 ≡ cut_past result.1 self }
         ensures fuse { (n : Node) (note : GroupNode) → AtSite (AwayNoted n note) self → FuseGoesOn self result.0 }
         ensures failing { SameFailing self result.0 }
@@ -183,6 +256,7 @@ impl<R: Rack> DiskSet<R> {
     {
         match self {
             DiskSet::OfGroup(group) => import_in(group, alloc),
+            DiskSet::Over(over) => import_over(over, alloc),
             other => (other, Err(Stop::No(No::Role))),
         }
     }
@@ -196,6 +270,7 @@ impl<R: Rack> DiskSet<R> {
     {
         match self {
             DiskSet::OfGroup(group) => raise_in(group, alloc),
+            DiskSet::Over(over) => raise_over(over, alloc),
             other => (other, Err(Stop::No(No::Role))),
         }
     }
@@ -209,6 +284,7 @@ impl<R: Rack> DiskSet<R> {
     {
         match self {
             DiskSet::OfGroup(group) => stand_up(group.site, cut),
+            DiskSet::Over(over) => stand_over(over, cut),
             other => (other, Err(Stop::No(No::Role))),
         }
     }

@@ -10,6 +10,8 @@ ghost use Rattle.vx_history.specs.World.{Node};
 ghost use Rattle.vx_model.specs.declared.errors.Stop.TheVariants.{No as Refused};
 ghost use Rattle.vx_model.specs.declared.limits.TheConstants.{MOST_CALL_BYTES};
 ghost use Rattle.vx_model.specs.declared.no.No.{No as NoValue};
+ghost use Rattle.vx_disk.specs.Shelf.{Covers};
+ghost use Rattle.vx_grouped.specs.Volumes.{SiteGoes};
 ghost use Rattle.vx_watched.specs.Since.{CalledSince};
 ghost use Rattle.vx_diskset.specs.Asked.{FuseGoesOn, SameFailing};
 ghost use Rattle.vx_diskset.specs.DiskSets.{Later};
@@ -29,7 +31,7 @@ use vx_model::limits::BLOCK;
 use vx_model::{Blocks, Name, No, Stop};
 
 // Writes to a volume of a group. The write in which the fuse runs out is cut.
-fn write_set<R: Rack>(
+pub(crate) fn write_set<R: Rack>(
     group: &mut GroupSet<R>,
     volume: u32,
     block: u64,
@@ -41,6 +43,7 @@ fn write_set<R: Rack>(
     ensures wrote { (n : Node) (note : GroupNode) → UpNoted n note group.old.site → FitsPlain note volume block (length bytes.now) → PlainWrote n note (plain_write volume block bytes.now) group.old.site group.new.site result }
     ensures maps { (n : Node) (note : GroupNode) → UpNoted n note group.old.site → FitsPlain note volume block (length bytes.now) → WroteMapped (plain_write volume block bytes.now) group.old.site group.new.site result }
     ensures cut { cut_value group.new.cut ≡ cut_behind result (plain_write volume block bytes.now) (cut_value group.old.cut) }
+    ensures volumes { SiteGoes (Covers volume block bytes.now) group.old.site group.new.site }
     ensures since { CalledSince (site_disks group.old.site) (site_disks group.new.site) }
     ensures told { TellsLess (site_below group.old.site) (site_below group.new.site) }
 {
@@ -67,6 +70,7 @@ impl<R: Rack> DiskSet<R> {
     {
         match self {
             DiskSet::OfGroup(group) => group.site.config(),
+            DiskSet::Over(over) => over.config(),
             _ => None,
         }
     }
@@ -88,6 +92,12 @@ impl<R: Rack> DiskSet<R> {
                     site,
                     cut: group.cut,
                 });
+                answer
+            }
+            DiskSet::Over(over) => {
+                let mut over = over;
+                let answer = over.deport();
+                *self = DiskSet::Over(over);
                 answer
             }
             other => {
@@ -112,6 +122,7 @@ impl<R: Rack> DiskSet<R> {
     {
         match self {
             DiskSet::OfGroup(group) => group.site.make_volume(alloc, name, want),
+            DiskSet::Over(over) => over.make_volume(alloc, name, want),
             _ => Err(Stop::No(No::Role)),
         }
     }
@@ -131,6 +142,7 @@ impl<R: Rack> DiskSet<R> {
     {
         match self {
             DiskSet::OfGroup(group) => group.site.det(volume, plex),
+            DiskSet::Over(over) => over.det(volume, plex),
             _ => Err(Stop::No(No::Role)),
         }
     }
@@ -152,6 +164,7 @@ impl<R: Rack> DiskSet<R> {
     {
         match self {
             DiskSet::OfGroup(group) => group.site.att(volume, plex),
+            DiskSet::Over(over) => over.att(volume, plex),
             _ => Err(Stop::No(No::Role)),
         }
     }
@@ -171,6 +184,7 @@ impl<R: Rack> DiskSet<R> {
     {
         match self {
             DiskSet::OfGroup(group) => write_set(group, volume, start, bytes),
+            DiskSet::Over(over) => over.write_plain(volume, start, bytes),
             _ => Err(No::Role),
         }
     }
@@ -187,6 +201,7 @@ impl<R: Rack> DiskSet<R> {
     {
         match self {
             DiskSet::OfGroup(group) => group.site.read(volume, start, into),
+            DiskSet::Over(over) => over.read_plain(volume, start, into),
             _ => Err(No::Role),
         }
     }

@@ -8,30 +8,34 @@ ghost use Rattle.vx_history.specs.World.{Node};
 ghost use Rattle.vx_disk.specs.Spends.{Spends};
 ghost use Rattle.vx_srlfmt.specs.Headers.{CanSpellState};
 ghost use Rattle.vx_secondary.specs.Receivers.{Wait};
-ghost use Rattle.vx_diskset.specs.Asked.{HeadUnder, LeavesFuse};
+ghost use Rattle.vx_diskset.specs.Asked.{HeadUnder, IsRawSet, LeavesFuse};
 ghost use Rattle.vx_diskset.specs.Burning.{NoMore, OffIf};
 ghost use Rattle.vx_diskset.specs.DiskSets.{Later};
 ghost use Rattle.vx_diskset.specs.Holds.{KeptBeside};
 ghost use Rattle.vx_diskset.specs.Keeps.{CanKeep, KeptAt, KeptUp, done_by};
-ghost use Rattle.vx_diskset.specs.Stands.{KeepsRole, SiteStands};
+ghost use Rattle.vx_diskset.specs.Noted.{NotesOn, OversCalled};
+ghost use Rattle.vx_diskset.specs.Shelves.{KeptAs, LaterOn, MovesOn};
+ghost use Rattle.vx_diskset.specs.Stands.{IsUpAt, KeepsRole, SiteStands};
 
 use crate::DiskSet;
-use vx_disk::Rack;
+use vx_disk::{Rack, Shelf};
 use vx_grouped::is_off;
 use vx_model::{No, State};
 use vx_rvg::Rvg;
 
 // Makes a state of the log's line durable. A shelf that is down behind it answers so.
-fn keep_group<R: Rack>(rvg: &mut Rvg<R>, state: &State) -> Result<(), No>
+pub(crate) fn keep_group<S: Shelf>(rvg: &mut Rvg<S>, state: &State) -> Result<(), No>
     requires state { CanSpellState state.now }
-    ensures kept { (beside : KeptBeside) (n : Node) → SiteStands beside n (DiskSet.Up rvg.old) → CanKeep beside n state.now → KeptUp beside n state.now (DiskSet.Up rvg.old) (DiskSet.Up rvg.new) result }
-    ensures waiting { (us : List Update) → Wait rvg.old.core (R.meaning rvg.old.shelf).size us → Wait rvg.new.core (R.meaning rvg.new.shelf).size us }
-    ensures calls { OnOk result (MakesCalls 2 (R.meaning rvg.old.shelf) (R.meaning rvg.new.shelf)) }
-    ensures short { FallsShort 2 (R.meaning rvg.old.shelf) (R.meaning rvg.new.shelf) }
-    ensures spends { Spends (R.meaning rvg.old.shelf) (R.meaning rvg.new.shelf) }
-    ensures works { OnOk result (Works (R.meaning rvg.old.shelf).disks rvg.old.core.log.unit) }
-    ensures off { IsFalse (R.meaning rvg.old.shelf).down → OffIf result (R.meaning rvg.new.shelf).down }
-    ensures later { Later (DiskSet.Up rvg.old) (DiskSet.Up rvg.new) }
+    ensures kept { (beside : KeptBeside) (n : Node) → IsUpAt beside n rvg.old.core (S.meaning rvg.old.shelf) → CanKeep beside n state.now → KeptAs beside n state.now (S.meaning rvg.old.shelf) rvg.new.core (S.meaning rvg.new.shelf) result }
+    ensures waiting { (us : List Update) → Wait rvg.old.core (S.meaning rvg.old.shelf).size us → Wait rvg.new.core (S.meaning rvg.new.shelf).size us }
+    ensures units { rvg.new.core.units ≡ rvg.old.core.units }
+    ensures calls { OnOk result (MakesCalls 2 (S.meaning rvg.old.shelf) (S.meaning rvg.new.shelf)) }
+    ensures short { FallsShort 2 (S.meaning rvg.old.shelf) (S.meaning rvg.new.shelf) }
+    ensures spends { Spends (S.meaning rvg.old.shelf) (S.meaning rvg.new.shelf) }
+    ensures works { OnOk result (Works (S.meaning rvg.old.shelf).disks rvg.old.core.log.unit) }
+    ensures off { IsFalse (S.meaning rvg.old.shelf).down → OffIf result (S.meaning rvg.new.shelf).down }
+    ensures later { LaterOn (S.meaning rvg.old.shelf) (S.meaning rvg.new.shelf) }
+    ensures moves { MovesOn rvg.old.core (S.meaning rvg.old.shelf) (S.meaning rvg.new.shelf) }
 {
     if rvg.state().line != state.line {
         return Err(No::Role);
@@ -51,9 +55,10 @@ impl<R: Rack> DiskSet<R> {
     pub fn keep(&mut self, state: &State) -> Result<(), No>
         requires state { CanSpellState state.now }
         ensures kept { (beside : KeptBeside) (n : Node) → SiteStands beside n self.old → CanKeep beside n state.now → KeptAt beside n state.now self.old self.new result }
-        ensures called { (beside : KeptBeside) (n : Node) → SiteStands beside n self.old → LeavesFuse NoMore (done_by result) self.old self.new }
-        ensures headed { (beside : KeptBeside) (n : Node) → SiteStands beside n self.old → HeadUnder 2 (done_by result) self.old self.new }
+        ensures called { (beside : KeptBeside) (n : Node) → SiteStands beside n self.old → IsRawSet self.old → LeavesFuse NoMore (done_by result) self.old self.new }
+        ensures headed { (beside : KeptBeside) (n : Node) → SiteStands beside n self.old → IsRawSet self.old → HeadUnder 2 (done_by result) self.old self.new }
         ensures role { KeepsRole self.old self.new }
+        ensures notes { NotesOn self.old self.new }
         ensures later { Later self.old self.new }
     {
         match self.keep_up(state) {
@@ -72,14 +77,16 @@ impl<R: Rack> DiskSet<R> {
     fn keep_up(&mut self, state: &State) -> Result<(), No>
         requires state { CanSpellState state.now }
         ensures kept { (beside : KeptBeside) (n : Node) → SiteStands beside n self.old → CanKeep beside n state.now → KeptUp beside n state.now self.old self.new result }
-        ensures called { (beside : KeptBeside) (n : Node) → SiteStands beside n self.old → LeavesFuse NoMore (done_by result) self.old self.new }
-        ensures headed { (beside : KeptBeside) (n : Node) → SiteStands beside n self.old → HeadUnder 2 (done_by result) self.old self.new }
+        ensures called { (beside : KeptBeside) (n : Node) → SiteStands beside n self.old → IsRawSet self.old → LeavesFuse NoMore (done_by result) self.old self.new }
+        ensures headed { (beside : KeptBeside) (n : Node) → SiteStands beside n self.old → IsRawSet self.old → HeadUnder 2 (done_by result) self.old self.new }
         ensures role { KeepsRole self.old self.new }
+        ensures overs { OversCalled self.old self.new result }
         ensures later { Later self.old self.new }
     {
         match self {
             DiskSet::Up(rvg) => keep_group(rvg, state),
             DiskSet::Receives(site) => keep_group(&mut site.rvg, state),
+            DiskSet::Over(over) => over.keep(state),
             DiskSet::Bare(_)
             | DiskSet::Spoiled(_)
             | DiskSet::Down(_)

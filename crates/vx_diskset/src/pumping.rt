@@ -1,6 +1,5 @@
 // What a site sends on a link, out of its log.
-ghost use Rattle.std.specs.Prelude.{◌≡◌, ◌≤◌, ◌+◌, ◌&&◌, ℕ, List, None, IfErr, OnErr, OnOk, Some, IsTrue, slice_get, true, false};
-ghost use Rattle.vx_events.specs.GroupLines.{is_over_group};
+ghost use Rattle.std.specs.Prelude.{◌≡◌, ◌≤◌, ◌+◌, ◌&&◌, ℕ, List, None, IfErr, OnErr, OnOk, Some, IsTrue, slice_get, true};
 ghost use Rattle.vx_courier.specs.UnderWay.{FlightStands};
 ghost use Rattle.vx_model.specs.declared.site.SiteState.TheVariants.{Up as UpState};
 ghost use Rattle.vx_model.specs.Sites.{is_origin};
@@ -14,13 +13,14 @@ ghost use Rattle.vx_diskset.specs.Asked.{LeavesAlone};
 ghost use Rattle.vx_diskset.specs.DiskSets.{Later};
 ghost use Rattle.vx_diskset.specs.Holds.{KeptBeside, beside_of, header_links};
 ghost use Rattle.vx_diskset.specs.Pumps.{PumpStop, PumpedIs};
+ghost use Rattle.vx_diskset.specs.Shelves.{IsRackOf, LaterOn, StillOn};
 ghost use Rattle.vx_peers.specs.Senders.{SendsBy, pump_asks, pumped_at, way_from};
 ghost use Rattle.vx_rvg.specs.Views.{last_of};
 ghost use Rattle.vx_diskset.specs.Stands.{IsToldAt, IsUpAt, KeepsRole, SiteStands, faults_at};
 
 use crate::DiskSet;
 use std::alloc::Global;
-use vx_disk::Rack;
+use vx_disk::{Rack, Shelf};
 use vx_model::limits::MOST_NUMBER;
 use vx_model::{Link, Mode, No, Phase, Stop};
 use vx_net::Net;
@@ -45,25 +45,25 @@ fn goes_by_log(mode: &Mode) -> bool
 }
 
 // Sends on a link of a group that runs.
-fn pump_group<R: Rack, N: Net>(
+pub(crate) fn pump_group<S: Shelf, N: Net>(
     alloc: Global,
-    rvg: &mut Rvg<R>,
+    rvg: &mut Rvg<S>,
     link: &mut Link,
     site: u32,
     flight: &mut N,
 ) -> Result<(), Stop>
-    ensures pumped { (d : Doubted) (k : ℕ) → IsUpAt (beside_of d site) (d.world.nodes site) rvg.old.core (R.meaning rvg.old.shelf) → (d.world.nodes site).halted ≡ None → IsTrue (R.meaning rvg.old.shelf).tells
+    ensures pumped { (d : Doubted) (k : ℕ) → IsUpAt (beside_of d site) (d.world.nodes site) rvg.old.core (S.meaning rvg.old.shelf) → (d.world.nodes site).halted ≡ None → IsTrue (S.meaning rvg.old.shelf).tells
         → slice_get (header_links d.world site) k ≡ Some (kept_link link.old.site (d.world.links site link.old.site)) → link.old ≡ plain_link link.old.site (d.world.links site link.old.site) → FlightStands d.world.packets (N.flying flight.old)
-        → PumpedIs d.world site link.old.site link.new (N.flying flight.new) (R.meaning rvg.old.shelf).disk_faults (R.meaning rvg.new.shelf).disk_faults result }
-    ensures stops { (beside : KeptBeside) (n : Node) → IsUpAt beside n rvg.old.core (R.meaning rvg.old.shelf) → n.halted ≡ None → IfErr result (PumpStop n (pump_asks link.old n.safe) (R.meaning rvg.old.shelf).disk_faults (R.meaning rvg.new.shelf).disk_faults) }
-    ensures stands { (beside : KeptBeside) (n : Node) → IsUpAt beside n rvg.old.core (R.meaning rvg.old.shelf) → IsUpAt beside n rvg.new.core (R.meaning rvg.new.shelf) }
-    ensures more { (beside : KeptBeside) (n : Node) → IsUpAt beside n rvg.old.core (R.meaning rvg.old.shelf)
+        → PumpedIs d.world site link.old.site link.new (N.flying flight.new) (S.meaning rvg.old.shelf).disk_faults (S.meaning rvg.new.shelf).disk_faults result }
+    ensures stops { (beside : KeptBeside) (n : Node) → IsUpAt beside n rvg.old.core (S.meaning rvg.old.shelf) → n.halted ≡ None → IsRackOf n (S.meaning rvg.old.shelf) → IfErr result (PumpStop n (pump_asks link.old n.safe) (S.meaning rvg.old.shelf).disk_faults (S.meaning rvg.new.shelf).disk_faults) }
+    ensures stands { (beside : KeptBeside) (n : Node) → IsUpAt beside n rvg.old.core (S.meaning rvg.old.shelf) → IsUpAt beside n rvg.new.core (S.meaning rvg.new.shelf) }
+    ensures more { (beside : KeptBeside) (n : Node) → IsUpAt beside n rvg.old.core (S.meaning rvg.old.shelf)
         → OnOk result (SendsBy (pump_asks link.old n.safe) (way_from site link.old.site n.line) (N.flying flight.old) (N.flying flight.new)) }
     ensures rule { OnOk result (link.new ≡ pumped_at link.old (last_of rvg.old.core)) }
     ensures link { OnErr result (link.new ≡ link.old) }
     ensures unsent { OnErr result (N.flying flight.new ≡ N.flying flight.old) }
-    ensures still { LeavesAlone (DiskSet.Up rvg.old) (DiskSet.Up rvg.new) }
-    ensures later { Later (DiskSet.Up rvg.old) (DiskSet.Up rvg.new) }
+    ensures still { StillOn (S.meaning rvg.old.shelf) (S.meaning rvg.new.shelf) }
+    ensures later { LaterOn (S.meaning rvg.old.shelf) (S.meaning rvg.new.shelf) }
 {
     if let Some(disk) = rvg.halted() {
         return Err(Stop::No(No::Halted { disk }));
@@ -98,10 +98,10 @@ impl<R: Rack> DiskSet<R> {
         site: u32,
         flight: &mut N,
     ) -> Result<(), Stop>
-        ensures pumped { (d : Doubted) (k : ℕ) → SiteStands (beside_of d site) (d.world.nodes site) self.old → is_origin (d.world.nodes site).role ≡ true → (d.world.nodes site).state ≡ UpState → is_over_group (d.world.nodes site) ≡ false → (d.world.nodes site).halted ≡ None → IsToldAt self.old
+        ensures pumped { (d : Doubted) (k : ℕ) → SiteStands (beside_of d site) (d.world.nodes site) self.old → is_origin (d.world.nodes site).role ≡ true → (d.world.nodes site).state ≡ UpState → (d.world.nodes site).group ≡ None → (d.world.nodes site).halted ≡ None → IsToldAt self.old
             → slice_get (header_links d.world site) k ≡ Some (kept_link link.old.site (d.world.links site link.old.site)) → link.old ≡ plain_link link.old.site (d.world.links site link.old.site) → FlightStands d.world.packets (N.flying flight.old)
             → PumpedIs d.world site link.old.site link.new (N.flying flight.new) (faults_at self.old) (faults_at self.new) result }
-        ensures stops { (beside : KeptBeside) (n : Node) → SiteStands beside n self.old → is_origin n.role ≡ true → n.state ≡ UpState → is_over_group n ≡ false → n.halted ≡ None → IfErr result (PumpStop n (pump_asks link.old n.safe) (faults_at self.old) (faults_at self.new)) }
+        ensures stops { (beside : KeptBeside) (n : Node) → SiteStands beside n self.old → is_origin n.role ≡ true → n.state ≡ UpState → n.group ≡ None → n.halted ≡ None → IfErr result (PumpStop n (pump_asks link.old n.safe) (faults_at self.old) (faults_at self.new)) }
         ensures stands { (beside : KeptBeside) (n : Node) → SiteStands beside n self.old → SiteStands beside n self.new }
         ensures more { (beside : KeptBeside) (n : Node) → SiteStands beside n self.old
             → OnOk result (SendsBy (pump_asks link.old n.safe) (way_from site link.old.site n.line) (N.flying flight.old) (N.flying flight.new)) }
@@ -119,6 +119,7 @@ impl<R: Rack> DiskSet<R> {
             | DiskSet::Receives(_)
             | DiskSet::Down(_)
             | DiskSet::OfGroup(_)
+            | DiskSet::Over(_)
             | DiskSet::Gone => Err(Stop::No(No::Role)),
         }
     }

@@ -2,7 +2,7 @@
 ghost use Rattle.std.specs.Prelude.{◌≡◌, ◌≤◌, ◌<◌, ◌*◌, length, List};
 ghost use Rattle.vx_diskset.specs.Holds.{KeptBeside};
 ghost use Rattle.vx_history.specs.World.{Node};
-ghost use Rattle.vx_diskset.specs.Asked.{LeavesAlone};
+ghost use Rattle.vx_diskset.specs.Asked.{IsRawSet, LeavesAlone};
 ghost use Rattle.vx_diskset.specs.DiskSets.{CanRead, Later};
 ghost use Rattle.vx_diskset.specs.Fetching.{GaveAt};
 ghost use Rattle.vx_diskset.specs.Stands.{SiteStands};
@@ -24,7 +24,7 @@ pub fn blocks_of<R: Rack>(
     requires few { count ≤ MOST_CALL_BLOCKS }
     requires room { length room.items ≡ BLOCK * count }
     ensures read { (beside : KeptBeside) (n : Node) → SiteStands beside n disk_set.old → CanRead n volume start count → GaveAt beside n volume start count disk_set.old disk_set.new result }
-    ensures still { LeavesAlone disk_set.old disk_set.new }
+    ensures still { IsRawSet disk_set.old → LeavesAlone disk_set.old disk_set.new }
     ensures later { Later disk_set.old disk_set.new }
 {
     disk_set.read(volume, start, &mut room)?;

@@ -6,18 +6,20 @@ ghost use Rattle.vx_model.specs.declared.site.SiteState.TheVariants.{Up as UpSta
 ghost use Rattle.vx_history.specs.World.{Node};
 ghost use Rattle.vx_disk.specs.Spends.{Spends};
 ghost use Rattle.vx_secondary.specs.Receivers.{Wait};
-ghost use Rattle.vx_diskset.specs.Asked.{LeavesAlone, LeavesFuse};
-ghost use Rattle.vx_diskset.specs.Blames.{BlamesGroup, BlamesSite};
+ghost use Rattle.vx_diskset.specs.Asked.{IsRawSet, LeavesAlone, LeavesFuse};
+ghost use Rattle.vx_diskset.specs.Blames.{BlamesSite};
 ghost use Rattle.vx_diskset.specs.Burning.{NoMore, OffIf};
 ghost use Rattle.vx_diskset.specs.DiskSets.{CanRead, Later};
 ghost use Rattle.vx_diskset.specs.Holds.{KeptBeside};
 ghost use Rattle.vx_diskset.specs.Received.{CanReceive, LoggedTo, ReachedAt, ReachedTo, ReachedUp, ShowedAt, reached_by};
 ghost use Rattle.vx_diskset.specs.Rooms.{HasNumbers, IsMore, logged_count};
+ghost use Rattle.vx_diskset.specs.Noted.{NotesOn, OversCalled};
+ghost use Rattle.vx_diskset.specs.Shelves.{BlamesRack, LaterOn, MovesOn};
 ghost use Rattle.vx_diskset.specs.Stands.{InVolumes, IsReceiverAt, KeepsRole, SiteStands};
 
 use crate::DiskSet;
 use crate::writing::{apply_group, write_group};
-use vx_disk::Rack;
+use vx_disk::{Rack, Shelf};
 use vx_grouped::is_off;
 use vx_model::limits::{BLOCK, MOST_NUMBER};
 use vx_model::{Counted, No};
@@ -32,19 +34,20 @@ pub struct Reached {
 }
 
 // Logs the oldest of what waits behind a group. It waits no longer.
-fn log_next<R: Rack>(rvg: &mut Rvg<R>, waiting: &mut Waiting) -> Result<(), No>
-    requires waits { Wait rvg.old.core (R.meaning rvg.old.shelf).size waiting.old }
+fn log_next<S: Shelf>(rvg: &mut Rvg<S>, waiting: &mut Waiting) -> Result<(), No>
+    requires waits { Wait rvg.old.core (S.meaning rvg.old.shelf).size waiting.old }
     requires some { 0 < length waiting.old }
     requires numbers { HasNumbers rvg.old.core 1 }
-    ensures logs { (beside : KeptBeside) (n : Node) → IsReceiverAt beside n rvg.old.core waiting.old (R.meaning rvg.old.shelf) → CanReceive beside n
-        → LoggedTo beside n 1 waiting.new rvg.new.core (R.meaning rvg.old.shelf) (R.meaning rvg.new.shelf) result }
+    ensures logs { (beside : KeptBeside) (n : Node) → IsReceiverAt beside n rvg.old.core waiting.old (S.meaning rvg.old.shelf) → CanReceive beside n
+        → LoggedTo beside n 1 waiting.new rvg.new.core (S.meaning rvg.old.shelf) (S.meaning rvg.new.shelf) result }
     ensures left { waiting.new ≡ drop (logged_count result) waiting.old }
     ensures stamp { OnOk result (rvg.new.core.log.header.stamp ≤ rvg.old.core.log.header.stamp + 1) }
     ensures group { IsMore (logged_count result) rvg.old.core rvg.new.core }
-    ensures spends { Spends (R.meaning rvg.old.shelf) (R.meaning rvg.new.shelf) }
-    ensures off { IsFalse (R.meaning rvg.old.shelf).down → OffIf result (R.meaning rvg.new.shelf).down }
-    ensures blames { IfErr result (BlamesGroup rvg.old.core.units) }
-    ensures later { Later (DiskSet.Up rvg.old) (DiskSet.Up rvg.new) }
+    ensures spends { Spends (S.meaning rvg.old.shelf) (S.meaning rvg.new.shelf) }
+    ensures off { IsFalse (S.meaning rvg.old.shelf).down → OffIf result (S.meaning rvg.new.shelf).down }
+    ensures blames { IfErr result (BlamesRack (S.meaning rvg.old.shelf).disks rvg.old.core.units) }
+    ensures later { LaterOn (S.meaning rvg.old.shelf) (S.meaning rvg.new.shelf) }
+    ensures moves { MovesOn rvg.old.core (S.meaning rvg.old.shelf) (S.meaning rvg.new.shelf) }
 {
     let Some(update) = waiting.get(0) else {
         unreachable!()
@@ -57,18 +60,19 @@ fn log_next<R: Rack>(rvg: &mut Rvg<R>, waiting: &mut Waiting) -> Result<(), No>
 }
 
 // Logs the oldest of what waits behind a group, so many of them, in their order. They wait no longer.
-fn log_waiting<R: Rack>(rvg: &mut Rvg<R>, waiting: &mut Waiting, count: u32) -> Result<(), No>
-    requires waits { Wait rvg.old.core (R.meaning rvg.old.shelf).size waiting.old }
+fn log_waiting<S: Shelf>(rvg: &mut Rvg<S>, waiting: &mut Waiting, count: u32) -> Result<(), No>
+    requires waits { Wait rvg.old.core (S.meaning rvg.old.shelf).size waiting.old }
     requires some { count ≤ length waiting.old }
     requires numbers { HasNumbers rvg.old.core count }
-    ensures logs { (beside : KeptBeside) (n : Node) → IsReceiverAt beside n rvg.old.core waiting.old (R.meaning rvg.old.shelf) → CanReceive beside n
-        → LoggedTo beside n count waiting.new rvg.new.core (R.meaning rvg.old.shelf) (R.meaning rvg.new.shelf) result }
-    ensures waits { Wait rvg.new.core (R.meaning rvg.new.shelf).size waiting.new }
-    ensures spends { Spends (R.meaning rvg.old.shelf) (R.meaning rvg.new.shelf) }
-    ensures off { IsFalse (R.meaning rvg.old.shelf).down → OffIf result (R.meaning rvg.new.shelf).down }
-    ensures blames { IfErr result (BlamesGroup rvg.old.core.units) }
+    ensures logs { (beside : KeptBeside) (n : Node) → IsReceiverAt beside n rvg.old.core waiting.old (S.meaning rvg.old.shelf) → CanReceive beside n
+        → LoggedTo beside n count waiting.new rvg.new.core (S.meaning rvg.old.shelf) (S.meaning rvg.new.shelf) result }
+    ensures waits { Wait rvg.new.core (S.meaning rvg.new.shelf).size waiting.new }
+    ensures spends { Spends (S.meaning rvg.old.shelf) (S.meaning rvg.new.shelf) }
+    ensures off { IsFalse (S.meaning rvg.old.shelf).down → OffIf result (S.meaning rvg.new.shelf).down }
+    ensures blames { IfErr result (BlamesRack (S.meaning rvg.old.shelf).disks rvg.old.core.units) }
     ensures units { rvg.new.core.units ≡ rvg.old.core.units }
-    ensures later { Later (DiskSet.Up rvg.old) (DiskSet.Up rvg.new) }
+    ensures later { LaterOn (S.meaning rvg.old.shelf) (S.meaning rvg.new.shelf) }
+    ensures moves { MovesOn rvg.old.core (S.meaning rvg.old.shelf) (S.meaning rvg.new.shelf) }
 {
     for _ in 0..count {
         log_next(rvg, waiting)?;
@@ -77,18 +81,24 @@ fn log_waiting<R: Rack>(rvg: &mut Rvg<R>, waiting: &mut Waiting, count: u32) -> 
 }
 
 // Logs the oldest of what waits behind a group, so many of them, and brings all that is logged into the volumes.
-fn apply_oldest<R: Rack>(rvg: &mut Rvg<R>, waiting: &mut Waiting, count: u32) -> Result<Reached, No>
-    requires waits { Wait rvg.old.core (R.meaning rvg.old.shelf).size waiting.old }
+pub(crate) fn apply_oldest<S: Shelf>(
+    rvg: &mut Rvg<S>,
+    waiting: &mut Waiting,
+    count: u32,
+) -> Result<Reached, No>
+    requires waits { Wait rvg.old.core (S.meaning rvg.old.shelf).size waiting.old }
     requires some { count ≤ length waiting.old }
     requires numbers { HasNumbers rvg.old.core count }
-    ensures reaches { (beside : KeptBeside) (n : Node) → IsReceiverAt beside n rvg.old.core waiting.old (R.meaning rvg.old.shelf) → CanReceive beside n
-        → ReachedTo beside n count waiting.new rvg.new.core (R.meaning rvg.old.shelf) (R.meaning rvg.new.shelf) result }
-    ensures brought { (beside : KeptBeside) (n : Node) → IsReceiverAt beside n rvg.old.core waiting.old (R.meaning rvg.old.shelf) → CanReceive beside n → IfOk result (λ r. rvg.new.core.applied ≡ r.number) }
-    ensures waits { Wait rvg.new.core (R.meaning rvg.new.shelf).size waiting.new }
-    ensures spends { Spends (R.meaning rvg.old.shelf) (R.meaning rvg.new.shelf) }
-    ensures off { IsFalse (R.meaning rvg.old.shelf).down → OffIf result (R.meaning rvg.new.shelf).down }
-    ensures blames { IfErr result (BlamesGroup rvg.old.core.units) }
-    ensures later { Later (DiskSet.Up rvg.old) (DiskSet.Up rvg.new) }
+    ensures reaches { (beside : KeptBeside) (n : Node) → IsReceiverAt beside n rvg.old.core waiting.old (S.meaning rvg.old.shelf) → CanReceive beside n
+        → ReachedTo beside n count waiting.new rvg.new.core (S.meaning rvg.old.shelf) (S.meaning rvg.new.shelf) result }
+    ensures brought { (beside : KeptBeside) (n : Node) → IsReceiverAt beside n rvg.old.core waiting.old (S.meaning rvg.old.shelf) → CanReceive beside n → IfOk result (λ r. rvg.new.core.applied ≡ r.number) }
+    ensures waits { Wait rvg.new.core (S.meaning rvg.new.shelf).size waiting.new }
+    ensures spends { Spends (S.meaning rvg.old.shelf) (S.meaning rvg.new.shelf) }
+    ensures off { IsFalse (S.meaning rvg.old.shelf).down → OffIf result (S.meaning rvg.new.shelf).down }
+    ensures blames { IfErr result (BlamesRack (S.meaning rvg.old.shelf).disks rvg.old.core.units) }
+    ensures units { rvg.new.core.units ≡ rvg.old.core.units }
+    ensures later { LaterOn (S.meaning rvg.old.shelf) (S.meaning rvg.new.shelf) }
+    ensures moves { MovesOn rvg.old.core (S.meaning rvg.old.shelf) (S.meaning rvg.new.shelf) }
 {
     log_waiting(rvg, waiting, count)?;
     let number = rvg.head();
@@ -108,6 +118,7 @@ impl<R: Rack> DiskSet<R> {
                 let _ring = site.rvg.ring();
                 site.rvg.head() + u64::from(site.waiting.len())
             }
+            DiskSet::Over(over) => over.received(),
             _ => 0,
         }
     }
@@ -118,6 +129,7 @@ impl<R: Rack> DiskSet<R> {
     {
         match self {
             DiskSet::Receives(site) => site.waiting.len(),
+            DiskSet::Over(over) => over.waiting(),
             _ => 0,
         }
     }
@@ -130,8 +142,9 @@ impl<R: Rack> DiskSet<R> {
         requires whole { length into.old % BLOCK ≡ 0 }
         ensures shows { (beside : KeptBeside) (n : Node) → SiteStands beside n self.old → CanRead n volume start (blocks_in into.old)
             → ShowedAt beside n volume start (blocks_in into.old) into.new self.old self.new result }
-        ensures still { LeavesAlone self.old self.new }
+        ensures still { IsRawSet self.old → LeavesAlone self.old self.new }
         ensures role { KeepsRole self.old self.new }
+        ensures notes { NotesOn self.old self.new }
         ensures later { Later self.old self.new }
     {
         match self {
@@ -143,6 +156,7 @@ impl<R: Rack> DiskSet<R> {
                 }
             }
             DiskSet::Up(_) => self.read(volume, start, into),
+            DiskSet::Over(over) => over.show(volume, start, into),
             DiskSet::Bare(_)
             | DiskSet::Spoiled(_)
             | DiskSet::Down(_)
@@ -160,9 +174,10 @@ impl<R: Rack> DiskSet<R> {
     pub fn apply_waiting(&mut self, count: u64) -> Result<Reached, No>
         ensures applied { (beside : KeptBeside) (n : Node) → SiteStands beside n self.old → CanReceive beside n → ReachedAt beside n count self.old self.new result }
         ensures brought { (beside : KeptBeside) (n : Node) → SiteStands beside n self.old → CanReceive beside n → IfOk result (λ r. r.acks ≡ true → InVolumes r.number self.new) }
-        ensures called { (beside : KeptBeside) (n : Node) → SiteStands beside n self.old → LeavesFuse NoMore (reached_by result) self.old self.new }
+        ensures called { (beside : KeptBeside) (n : Node) → SiteStands beside n self.old → IsRawSet self.old → LeavesFuse NoMore (reached_by result) self.old self.new }
         ensures role { KeepsRole self.old self.new }
         ensures blames { (beside : KeptBeside) (n : Node) → SiteStands beside n self.old → IfErr result (BlamesSite n) }
+        ensures notes { NotesOn self.old self.new }
         ensures later { Later self.old self.new }
     {
         match self.apply_received(count) {
@@ -181,9 +196,10 @@ impl<R: Rack> DiskSet<R> {
     fn apply_received(&mut self, count: u64) -> Result<Reached, No>
         ensures applied { (beside : KeptBeside) (n : Node) → SiteStands beside n self.old → CanReceive beside n → ReachedUp beside n count self.old self.new result }
         ensures brought { (beside : KeptBeside) (n : Node) → SiteStands beside n self.old → CanReceive beside n → IfOk result (λ r. r.acks ≡ true → InVolumes r.number self.new) }
-        ensures called { (beside : KeptBeside) (n : Node) → SiteStands beside n self.old → LeavesFuse NoMore (reached_by result) self.old self.new }
+        ensures called { (beside : KeptBeside) (n : Node) → SiteStands beside n self.old → IsRawSet self.old → LeavesFuse NoMore (reached_by result) self.old self.new }
         ensures role { KeepsRole self.old self.new }
         ensures blames { (beside : KeptBeside) (n : Node) → SiteStands beside n self.old → IfErr result (BlamesSite n) }
+        ensures overs { OversCalled self.old self.new result }
         ensures later { Later self.old self.new }
     {
         match self {
@@ -207,6 +223,7 @@ impl<R: Rack> DiskSet<R> {
                 number: rvg.head(),
                 acks: false,
             }),
+            DiskSet::Over(over) => over.apply_waiting(count),
             DiskSet::Bare(_)
             | DiskSet::Spoiled(_)
             | DiskSet::Down(_)

@@ -1,6 +1,7 @@
 // The room that writes take in the log of a site.
 ghost use Rattle.std.specs.Prelude.{◌≡◌, ◌≤◌, ◌<◌, ◌+◌, ◌-◌, None, Some, IfSome, IsSome, List, ℕ, drop, slice_get, true, false};
 ghost use Rattle.vx_events.specs.GroupLines.{is_over_group};
+ghost use Rattle.vx_disk.specs.Shelf.{Meaning};
 ghost use Rattle.vx_model.specs.Sites.{is_origin};
 ghost use Rattle.vx_model.specs.declared.state.KeptLink.{KeptLink};
 ghost use Rattle.vx_diskset.specs.Holds.{KeptBeside};
@@ -12,22 +13,22 @@ ghost use Rattle.vx_diskset.specs.Stands.{IsToldAt, IsUpAt, SiteStands};
 
 use crate::DiskSet;
 use vx_disk::Rack;
-use vx_rvg::Rvg;
+use vx_rvg::RvgCore;
 
 // The blocks that the numbers above one take in the log of a group, if it holds all of them.
-fn used_in<R: Rack>(rvg: &Rvg<R>, above: u64) -> Option<u64>
-    ensures is { (beside : KeptBeside) (n : Node) → IsUpAt beside n rvg.now.core (R.meaning rvg.now.shelf) → n.halted ≡ None → IfSome result (λ blocks. blocks ≡ logged_blocks (drop above n.log)) }
-    ensures some { rvg.now.core.log.header.low ≤ above + 1 → IsSome result }
+pub(crate) fn used_in(core: &RvgCore, above: u64) -> Option<u64>
+    ensures is { (beside : KeptBeside) (n : Node) (m : Meaning) → IsUpAt beside n core.now m → n.halted ≡ None → IfSome result (λ blocks. blocks ≡ logged_blocks (drop above n.log)) }
+    ensures some { core.now.log.header.low ≤ above + 1 → IsSome result }
 {
     // Numbers are above 0.
-    let _ring = rvg.ring();
-    if rvg.low() - 1 > above {
+    let _ring = core.ring();
+    if core.low() - 1 > above {
         return None;
     }
-    if above >= rvg.head() {
+    if above >= core.head() {
         return Some(0);
     }
-    Some(rvg.used(above))
+    Some(core.used(above))
 }
 
 impl<R: Rack> DiskSet<R> {
@@ -39,7 +40,8 @@ impl<R: Rack> DiskSet<R> {
             → slice_get beside.links k ≡ Some l → is_needing l ≡ true → hold_of l ≤ above → IsSome result }
     {
         match self {
-            DiskSet::Up(rvg) => used_in(rvg, above),
+            DiskSet::Up(rvg) => used_in(&rvg.core, above),
+            DiskSet::Over(over) => over.used(above),
             _ => None,
         }
     }

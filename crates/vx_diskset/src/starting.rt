@@ -1,6 +1,5 @@
 // How a group is made on the disks of a site, and how it is started again.
-ghost use Rattle.std.specs.Prelude.{◌≡◌, ◌≤◌, ◌<◌, ◌*◌, ℕ, [], length, None, IfOk, IfErr, IsTrue, IsFalse, List, false};
-ghost use Rattle.vx_events.specs.GroupLines.{is_over_group};
+ghost use Rattle.std.specs.Prelude.{◌≡◌, ◌≤◌, ◌<◌, ◌*◌, ℕ, [], length, None, IfOk, IfErr, IsTrue, IsFalse, List};
 ghost use Rattle.vx_disk.specs.Maps.{maps_of};
 ghost use Rattle.vx_model.specs.Content.{zero_block};
 ghost use Rattle.vx_model.specs.Sizes.{ring_of};
@@ -220,7 +219,7 @@ impl<R: Rack> DiskSet<R> {
 
     /// Starts what stands on the disks of a site that crashed, with room taken before. Where it is refused, the disks crash again.
     pub fn recover(self, room: StartRoom) -> (DiskSet<R>, Result<(), No>)
-        ensures recovered { (beside : KeptBeside) (n : Node) → SiteStands beside n self → n.state ≡ DownState → is_over_group n ≡ false → IsRoomOf n.blocks n.ring room → CameUpIs beside n self result.0 result.1 }
+        ensures recovered { (beside : KeptBeside) (n : Node) → SiteStands beside n self → n.state ≡ DownState → n.group ≡ None → IsRoomOf n.blocks n.ring room → CameUpIs beside n self result.0 result.1 }
         ensures failing { SameFailing self result.0 }
         ensures later { Later self result.0 }
     {
@@ -270,7 +269,7 @@ impl<R: Rack> DiskSet<R> {
     /// it is refused, the disks crash again.
     pub fn recover_any(self, room: StartRoom, waiting: Waiting) -> (DiskSet<R>, Result<(), No>)
         requires none { waiting ≡ [] }
-        ensures recovered { (beside : KeptBeside) (n : Node) → SiteStands beside n self → n.state ≡ DownState → is_over_group n ≡ false → IsRoomOf n.blocks n.ring room → CameUpByIs beside n self result.0 result.1 }
+        ensures recovered { (beside : KeptBeside) (n : Node) → SiteStands beside n self → n.state ≡ DownState → n.group ≡ None → IsRoomOf n.blocks n.ring room → CameUpByIs beside n self result.0 result.1 }
         ensures failing { SameFailing self result.0 }
         ensures later { Later self result.0 }
     {

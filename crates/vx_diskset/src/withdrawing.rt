@@ -1,6 +1,5 @@
 // What came up of the disks of a bare site, and can't be kept.
-ghost use Rattle.std.specs.Prelude.{◌≡◌, false};
-ghost use Rattle.vx_events.specs.GroupLines.{is_over_group};
+ghost use Rattle.std.specs.Prelude.{◌≡◌, None};
 ghost use Rattle.vx_history.specs.World.{Node};
 ghost use Rattle.vx_diskset.specs.Asked.{SameFailing};
 ghost use Rattle.vx_diskset.specs.DiskSets.{Later};
@@ -27,7 +26,7 @@ impl<R: Rack> DiskSet<R> {
     /// Takes back what came up of the disks of a bare site: they crash, and the site is bare again. Where contents are told nothing comes up
     /// of them.
     pub fn withdraw(self) -> DiskSet<R>
-        ensures bare { (beside : KeptBeside) (n k : Node) → SiteStands beside k self → k.state ≡ UpState → is_over_group k ≡ false → IsBareOf n k → (IsToldAt result → ⊥) → (other : KeptBeside) → SiteStands other n result }
+        ensures bare { (beside : KeptBeside) (n k : Node) → SiteStands beside k self → k.state ≡ UpState → k.group ≡ None → IsBareOf n k → (IsToldAt result → ⊥) → (other : KeptBeside) → SiteStands other n result }
         ensures failing { SameFailing self result }
         ensures later { Later self result }
     {

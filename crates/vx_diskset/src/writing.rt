@@ -12,36 +12,39 @@ ghost use Rattle.vx_disk.specs.Spends.{Spends};
 ghost use Rattle.vx_disk.specs.Burns.{RackIsShort};
 ghost use Rattle.vx_model.specs.declared.no.No.TheVariants.{Down as IsOff};
 ghost use Rattle.vx_srl.specs.Views.{BodyFits, free_of};
-ghost use Rattle.vx_diskset.specs.Asked.{LeavesFuse, WritesUnder};
-ghost use Rattle.vx_diskset.specs.Blames.{BlamesGroup, BlamesSite};
+ghost use Rattle.vx_diskset.specs.Asked.{IsRawSet, LeavesFuse, WritesUnder};
+ghost use Rattle.vx_diskset.specs.Blames.{BlamesSite};
 ghost use Rattle.vx_diskset.specs.Burning.{NoMore, IsLogged, OffIf, said_by};
 ghost use Rattle.vx_diskset.specs.DiskSets.{Later, CanLog, CanWrite, LoggedUp, WroteUp};
 ghost use Rattle.vx_diskset.specs.Needs.{HasRoom, NoneNeeds};
 ghost use Rattle.vx_diskset.specs.Rooms.{AppliedAs, IsMore, NeverLimit, RoomIs, TakesOne, logged_count};
+ghost use Rattle.vx_diskset.specs.Shelves.{BlamesRack, BurnsOn, LaterOn, LoggedAs, MovesOn};
+ghost use Rattle.vx_diskset.specs.Noted.{NotesOn, OversCalled, OversFall};
 ghost use Rattle.vx_diskset.specs.Stands.{IsUpAt, KeepsRole, StandsAlone, SiteStands};
 
 use crate::DiskSet;
 use std::mem;
-use vx_disk::Rack;
+use vx_disk::{Rack, Shelf};
 use vx_grouped::is_off;
 use vx_model::limits::{BLOCK, MOST_NUMBER};
 use vx_model::{Counted, No};
 use vx_rvg::Rvg;
 
 // Brings logged writes into their volumes. A shelf that is down behind it answers so.
-pub(crate) fn apply_group<R: Rack>(rvg: &mut Rvg<R>, to: u64) -> Result<u64, No>
-    ensures applied { (beside : KeptBeside) (n : Node) → IsUpAt beside n rvg.old.core (R.meaning rvg.old.shelf) → n.halted ≡ None
-        → AppliedAs beside n to rvg.new.core (R.meaning rvg.old.shelf) (R.meaning rvg.new.shelf) result }
+pub(crate) fn apply_group<S: Shelf>(rvg: &mut Rvg<S>, to: u64) -> Result<u64, No>
+    ensures applied { (beside : KeptBeside) (n : Node) → IsUpAt beside n rvg.old.core (S.meaning rvg.old.shelf) → n.halted ≡ None
+        → AppliedAs beside n to rvg.new.core (S.meaning rvg.old.shelf) (S.meaning rvg.new.shelf) result }
     ensures reached { IfOk result (λ number. rvg.new.core.applied ≡ number) }
     ensures never { NeverLimit result }
     ensures log { OnOk result (rvg.new.core.log ≡ rvg.old.core.log) }
-    ensures waiting { (us : List Update) → Wait rvg.old.core (R.meaning rvg.old.shelf).size us → Wait rvg.new.core (R.meaning rvg.new.shelf).size us }
+    ensures waiting { (us : List Update) → Wait rvg.old.core (S.meaning rvg.old.shelf).size us → Wait rvg.new.core (S.meaning rvg.new.shelf).size us }
     ensures units { rvg.new.core.units ≡ rvg.old.core.units }
     ensures group { IsMore 0 rvg.old.core rvg.new.core }
-    ensures spends { Spends (R.meaning rvg.old.shelf) (R.meaning rvg.new.shelf) }
-    ensures off { OffIf result (R.meaning rvg.new.shelf).down }
-    ensures blames { IfErr result (BlamesGroup rvg.old.core.units) }
-    ensures later { Later (DiskSet.Up rvg.old) (DiskSet.Up rvg.new) }
+    ensures spends { Spends (S.meaning rvg.old.shelf) (S.meaning rvg.new.shelf) }
+    ensures off { OffIf result (S.meaning rvg.new.shelf).down }
+    ensures blames { IfErr result (BlamesRack (S.meaning rvg.old.shelf).disks rvg.old.core.units) }
+    ensures later { LaterOn (S.meaning rvg.old.shelf) (S.meaning rvg.new.shelf) }
+    ensures moves { MovesOn rvg.old.core (S.meaning rvg.old.shelf) (S.meaning rvg.new.shelf) }
 {
     let answer = rvg.apply(to);
     if rvg.shelf.is_down() {
@@ -51,19 +54,20 @@ pub(crate) fn apply_group<R: Rack>(rvg: &mut Rvg<R>, to: u64) -> Result<u64, No>
 }
 
 // Gives up what the log holds up to a number that is in the volumes, and that no link needs. A shelf that is down behind it answers so.
-fn reclaim_group<R: Rack>(rvg: &mut Rvg<R>, to: u64) -> Result<(), No>
+fn reclaim_group<S: Shelf>(rvg: &mut Rvg<S>, to: u64) -> Result<(), No>
     requires applied { to ≤ rvg.old.core.applied }
-    ensures made { (beside : KeptBeside) (n : Node) → IsUpAt beside n rvg.old.core (R.meaning rvg.old.shelf) → n.halted ≡ None → NoneNeeds beside.links to
-        → free_of rvg.old.core.log ≤ MOST_CALL_BLOCKS → RoomIs beside n (R.meaning rvg.old.shelf) rvg.new.core (R.meaning rvg.new.shelf) result }
-    ensures room { (beside : KeptBeside) (n : Node) (count : ℕ) → IsUpAt beside n rvg.old.core (R.meaning rvg.old.shelf) → n.halted ≡ None → NoneNeeds beside.links to
+    ensures made { (beside : KeptBeside) (n : Node) → IsUpAt beside n rvg.old.core (S.meaning rvg.old.shelf) → n.halted ≡ None → NoneNeeds beside.links to
+        → free_of rvg.old.core.log ≤ MOST_CALL_BLOCKS → RoomIs beside n (S.meaning rvg.old.shelf) rvg.new.core (S.meaning rvg.new.shelf) result }
+    ensures room { (beside : KeptBeside) (n : Node) (count : ℕ) → IsUpAt beside n rvg.old.core (S.meaning rvg.old.shelf) → n.halted ≡ None → NoneNeeds beside.links to
         → free_of rvg.old.core.log ≤ MOST_CALL_BLOCKS → count + 1 + logged_blocks (drop to n.log) ≤ n.ring → OnOk result (count < free_of rvg.new.core.log) }
     ensures takes { TakesOne rvg.old.core rvg.new.core result }
     ensures units { rvg.new.core.units ≡ rvg.old.core.units }
     ensures group { IsMore 0 rvg.old.core rvg.new.core }
-    ensures spends { Spends (R.meaning rvg.old.shelf) (R.meaning rvg.new.shelf) }
-    ensures off { OffIf result (R.meaning rvg.new.shelf).down }
-    ensures blames { IfErr result (BlamesGroup rvg.old.core.units) }
-    ensures later { Later (DiskSet.Up rvg.old) (DiskSet.Up rvg.new) }
+    ensures spends { Spends (S.meaning rvg.old.shelf) (S.meaning rvg.new.shelf) }
+    ensures off { OffIf result (S.meaning rvg.new.shelf).down }
+    ensures blames { IfErr result (BlamesRack (S.meaning rvg.old.shelf).disks rvg.old.core.units) }
+    ensures later { LaterOn (S.meaning rvg.old.shelf) (S.meaning rvg.new.shelf) }
+    ensures moves { MovesOn rvg.old.core (S.meaning rvg.old.shelf) (S.meaning rvg.new.shelf) }
 {
     // Numbers are above 0.
     let _ring = rvg.ring();
@@ -75,18 +79,19 @@ fn reclaim_group<R: Rack>(rvg: &mut Rvg<R>, to: u64) -> Result<(), No>
 }
 
 // Makes room in the log for a write of so many blocks: what it holds up to a number that no link needs is applied, and then given up.
-fn make_room<R: Rack>(rvg: &mut Rvg<R>, count: u64, hold: u64) -> Result<(), No>
+fn make_room<S: Shelf>(rvg: &mut Rvg<S>, count: u64, hold: u64) -> Result<(), No>
     ensures room { OnOk result (count < free_of rvg.new.core.log) }
-    ensures made { (beside : KeptBeside) (n : Node) → IsUpAt beside n rvg.old.core (R.meaning rvg.old.shelf) → n.halted ≡ None → HasRoom beside.links n hold count
-        → count ≤ MOST_CALL_BLOCKS → RoomIs beside n (R.meaning rvg.old.shelf) rvg.new.core (R.meaning rvg.new.shelf) result }
+    ensures made { (beside : KeptBeside) (n : Node) → IsUpAt beside n rvg.old.core (S.meaning rvg.old.shelf) → n.halted ≡ None → HasRoom beside.links n hold count
+        → count ≤ MOST_CALL_BLOCKS → RoomIs beside n (S.meaning rvg.old.shelf) rvg.new.core (S.meaning rvg.new.shelf) result }
     ensures idle { count < free_of rvg.old.core.log → IfErr result (λ no. ⊥) × (rvg.new ≡ rvg.old) }
     ensures takes { TakesOne rvg.old.core rvg.new.core result }
     ensures units { rvg.new.core.units ≡ rvg.old.core.units }
     ensures group { IsMore 0 rvg.old.core rvg.new.core }
-    ensures spends { Spends (R.meaning rvg.old.shelf) (R.meaning rvg.new.shelf) }
-    ensures off { IsFalse (R.meaning rvg.old.shelf).down → OffIf result (R.meaning rvg.new.shelf).down }
-    ensures blames { IfErr result (BlamesGroup rvg.old.core.units) }
-    ensures later { Later (DiskSet.Up rvg.old) (DiskSet.Up rvg.new) }
+    ensures spends { Spends (S.meaning rvg.old.shelf) (S.meaning rvg.new.shelf) }
+    ensures off { IsFalse (S.meaning rvg.old.shelf).down → OffIf result (S.meaning rvg.new.shelf).down }
+    ensures blames { IfErr result (BlamesRack (S.meaning rvg.old.shelf).disks rvg.old.core.units) }
+    ensures later { LaterOn (S.meaning rvg.old.shelf) (S.meaning rvg.new.shelf) }
+    ensures moves { MovesOn rvg.old.core (S.meaning rvg.old.shelf) (S.meaning rvg.new.shelf) }
 {
     if rvg.free() > count {
         return Ok(());
@@ -102,8 +107,8 @@ fn make_room<R: Rack>(rvg: &mut Rvg<R>, count: u64, hold: u64) -> Result<(), No>
 }
 
 // Writes whole blocks to a volume of a group whose links need no number up to this one. A shelf that is down behind it answers so.
-pub(crate) fn write_group<R: Rack>(
-    rvg: &mut Rvg<R>,
+pub(crate) fn write_group<S: Shelf>(
+    rvg: &mut Rvg<S>,
     volume: u32,
     start: u64,
     bytes: &[u8],
@@ -113,16 +118,17 @@ pub(crate) fn write_group<R: Rack>(
     requires some { 0 < length bytes.now }
     requires few { length bytes.now ≤ MOST_CALL_BYTES }
     requires whole { length bytes.now % BLOCK ≡ 0 }
-    ensures wrote { (beside : KeptBeside) (n : Node) → SiteStands beside n (DiskSet.Up rvg.old) → CanLog n volume start (blocks_in bytes.now) → HasRoom beside.links n hold (blocks_in bytes.now)
-        → LoggedUp beside n (record { volume = volume; start = start; bytes = bytes.now }) (DiskSet.Up rvg.old) (DiskSet.Up rvg.new) result }
+    ensures wrote { (beside : KeptBeside) (n : Node) → IsUpAt beside n rvg.old.core (S.meaning rvg.old.shelf) → CanLog n volume start (blocks_in bytes.now) → HasRoom beside.links n hold (blocks_in bytes.now)
+        → LoggedAs beside n (record { volume = volume; start = start; bytes = bytes.now }) (S.meaning rvg.old.shelf) rvg.new.core (S.meaning rvg.new.shelf) result }
     ensures takes { TakesOne rvg.old.core rvg.new.core result }
     ensures group { IsMore (logged_count result) rvg.old.core rvg.new.core }
-    ensures spends { Spends (R.meaning rvg.old.shelf) (R.meaning rvg.new.shelf) }
-    ensures off { IsFalse (R.meaning rvg.old.shelf).down → OffIf result (R.meaning rvg.new.shelf).down }
-    ensures called { (beside : KeptBeside) (n : Node) → IsUpAt beside n rvg.old.core (R.meaning rvg.old.shelf) → LeavesFuse IsLogged (said_by result) (DiskSet.Up rvg.old) (DiskSet.Up rvg.new) }
-    ensures cuts { IsFalse (R.meaning rvg.old.shelf).down → blocks_in bytes.now < free_of rvg.old.core.log → BodyFits rvg.old.core.log bytes.now → result ≡ Err IsOff → RackIsShort 4 (R.meaning rvg.old.shelf).disks }
-    ensures blames { IfErr result (BlamesGroup rvg.old.core.units) }
-    ensures later { Later (DiskSet.Up rvg.old) (DiskSet.Up rvg.new) }
+    ensures spends { Spends (S.meaning rvg.old.shelf) (S.meaning rvg.new.shelf) }
+    ensures off { IsFalse (S.meaning rvg.old.shelf).down → OffIf result (S.meaning rvg.new.shelf).down }
+    ensures called { (beside : KeptBeside) (n : Node) → IsUpAt beside n rvg.old.core (S.meaning rvg.old.shelf) → BurnsOn IsLogged (said_by result) (S.meaning rvg.old.shelf) (S.meaning rvg.new.shelf) }
+    ensures cuts { IsFalse (S.meaning rvg.old.shelf).down → blocks_in bytes.now < free_of rvg.old.core.log → BodyFits rvg.old.core.log bytes.now → result ≡ Err IsOff → RackIsShort 4 (S.meaning rvg.old.shelf).disks }
+    ensures blames { IfErr result (BlamesRack (S.meaning rvg.old.shelf).disks rvg.old.core.units) }
+    ensures later { LaterOn (S.meaning rvg.old.shelf) (S.meaning rvg.new.shelf) }
+    ensures moves { MovesOn rvg.old.core (S.meaning rvg.old.shelf) (S.meaning rvg.new.shelf) }
 {
     if rvg.head() >= MOST_NUMBER {
         return Err(No::Limit {
@@ -143,13 +149,15 @@ pub(crate) fn write_group<R: Rack>(
 impl<R: Rack> DiskSet<R> {
     ghost use Rattle.vx_diskset.specs.DiskSets.{CanRead, CanApply, ReadAt, WroteAt, AppliedUp, AppliedAt, CrashedAt};
     ghost use Rattle.vx_diskset.specs.Asked.{LeavesAlone, MayCrash};
-    ghost use Rattle.vx_diskset.specs.Stands.{CutAt, InVolumes};
+    ghost use Rattle.vx_diskset.specs.Stands.{CutAt, InVolumes, IsToldAt};
 
     /// Crashes the disks of a group whose shelf is down.
     pub(crate) fn fall(&mut self)
         ensures falls { (beside : KeptBeside) (n : Node) → CutAt beside n self.old → CrashedAt beside n self.new }
         ensures stopped { MayCrash 0xffff_ffff_ffff_ffff self.old self.new }
+        ensures seen { IsToldAt self.new → IsToldAt self.old }
         ensures role { KeepsRole self.old self.new }
+        ensures fallen { OversFall self.old self.new }
         ensures later { Later self.old self.new }
     {
         let disk_set = mem::replace(self, DiskSet::Gone);
@@ -163,8 +171,9 @@ impl<R: Rack> DiskSet<R> {
         requires whole { length bytes.now % BLOCK ≡ 0 }
         ensures wrote { (n : Node) → StandsAlone n self.old → CanWrite n volume start (blocks_in bytes.now)
             → WroteAt site_alone n (record { volume = volume; start = start; bytes = bytes.now }) self.old self.new result }
-        ensures called { (beside : KeptBeside) (n : Node) → SiteStands beside n self.old → WritesUnder bytes.now (said_by result) self.old self.new }
+        ensures called { (beside : KeptBeside) (n : Node) → SiteStands beside n self.old → IsRawSet self.old → WritesUnder bytes.now (said_by result) self.old self.new }
         ensures blames { (beside : KeptBeside) (n : Node) → SiteStands beside n self.old → IfErr result (BlamesSite n) }
+        ensures notes { NotesOn self.old self.new }
         ensures later { Later self.old self.new }
     {
         let hold = self.last();
@@ -186,9 +195,10 @@ impl<R: Rack> DiskSet<R> {
         requires whole { length bytes.now % BLOCK ≡ 0 }
         ensures wrote { (beside : KeptBeside) (n : Node) → SiteStands beside n self.old → CanWrite n volume start (blocks_in bytes.now) → HasRoom beside.links n hold (blocks_in bytes.now)
             → WroteAt beside n (record { volume = volume; start = start; bytes = bytes.now }) self.old self.new result }
-        ensures called { (beside : KeptBeside) (n : Node) → SiteStands beside n self.old → WritesUnder bytes.now (said_by result) self.old self.new }
+        ensures called { (beside : KeptBeside) (n : Node) → SiteStands beside n self.old → IsRawSet self.old → WritesUnder bytes.now (said_by result) self.old self.new }
         ensures role { KeepsRole self.old self.new }
         ensures blames { (beside : KeptBeside) (n : Node) → SiteStands beside n self.old → IfErr result (BlamesSite n) }
+        ensures notes { NotesOn self.old self.new }
         ensures later { Later self.old self.new }
     {
         match self.write_up(volume, start, bytes, hold) {
@@ -211,9 +221,10 @@ impl<R: Rack> DiskSet<R> {
         requires whole { length bytes.now % BLOCK ≡ 0 }
         ensures wrote { (beside : KeptBeside) (n : Node) → SiteStands beside n self.old → CanWrite n volume start (blocks_in bytes.now) → HasRoom beside.links n hold (blocks_in bytes.now)
             → WroteUp beside n (record { volume = volume; start = start; bytes = bytes.now }) self.old self.new result }
-        ensures called { (beside : KeptBeside) (n : Node) → SiteStands beside n self.old → WritesUnder bytes.now (said_by result) self.old self.new }
+        ensures called { (beside : KeptBeside) (n : Node) → SiteStands beside n self.old → IsRawSet self.old → WritesUnder bytes.now (said_by result) self.old self.new }
         ensures role { KeepsRole self.old self.new }
         ensures blames { (beside : KeptBeside) (n : Node) → SiteStands beside n self.old → IfErr result (BlamesSite n) }
+        ensures overs { OversCalled self.old self.new result }
         ensures later { Later self.old self.new }
     {
         match self {
@@ -224,6 +235,7 @@ impl<R: Rack> DiskSet<R> {
                     Err(No::Role)
                 }
             }
+            DiskSet::Over(over) => over.write(volume, start, bytes, hold),
             DiskSet::Bare(_)
             | DiskSet::Spoiled(_)
             | DiskSet::Receives(_)
@@ -241,8 +253,9 @@ impl<R: Rack> DiskSet<R> {
         requires whole { length into.old % BLOCK ≡ 0 }
         ensures read { (beside : KeptBeside) (n : Node) → SiteStands beside n self.old → CanRead n volume start (blocks_in into.old)
             → ReadAt beside n volume start (blocks_in into.old) into.new self.old self.new result }
-        ensures still { LeavesAlone self.old self.new }
+        ensures still { IsRawSet self.old → LeavesAlone self.old self.new }
         ensures role { KeepsRole self.old self.new }
+        ensures notes { NotesOn self.old self.new }
         ensures later { Later self.old self.new }
     {
         match self {
@@ -260,6 +273,7 @@ impl<R: Rack> DiskSet<R> {
                     Err(No::Role)
                 }
             }
+            DiskSet::Over(over) => over.read(volume, start, into),
             DiskSet::Bare(_)
             | DiskSet::Spoiled(_)
             | DiskSet::Down(_)
@@ -273,9 +287,10 @@ impl<R: Rack> DiskSet<R> {
     pub fn apply(&mut self, to: u64) -> Result<u64, No>
         ensures applied { (beside : KeptBeside) (n : Node) → SiteStands beside n self.old → CanApply n → is_over_group n ≡ false → AppliedAt beside n to self.old self.new result }
         ensures brought { IfOk result (λ number. InVolumes number self.new) }
-        ensures called { (beside : KeptBeside) (n : Node) → SiteStands beside n self.old → LeavesFuse NoMore (said_by result) self.old self.new }
+        ensures called { (beside : KeptBeside) (n : Node) → SiteStands beside n self.old → IsRawSet self.old → LeavesFuse NoMore (said_by result) self.old self.new }
         ensures role { KeepsRole self.old self.new }
         ensures blames { (beside : KeptBeside) (n : Node) → SiteStands beside n self.old → IfErr result (BlamesSite n) }
+        ensures notes { NotesOn self.old self.new }
         ensures later { Later self.old self.new }
     {
         match self.apply_up(to) {
@@ -294,14 +309,16 @@ impl<R: Rack> DiskSet<R> {
     fn apply_up(&mut self, to: u64) -> Result<u64, No>
         ensures applied { (beside : KeptBeside) (n : Node) → SiteStands beside n self.old → CanApply n → is_over_group n ≡ false → AppliedUp beside n to self.old self.new result }
         ensures brought { IfOk result (λ number. InVolumes number self.new) }
-        ensures called { (beside : KeptBeside) (n : Node) → SiteStands beside n self.old → LeavesFuse NoMore (said_by result) self.old self.new }
+        ensures called { (beside : KeptBeside) (n : Node) → SiteStands beside n self.old → IsRawSet self.old → LeavesFuse NoMore (said_by result) self.old self.new }
         ensures role { KeepsRole self.old self.new }
         ensures blames { (beside : KeptBeside) (n : Node) → SiteStands beside n self.old → IfErr result (BlamesSite n) }
+        ensures overs { OversCalled self.old self.new result }
         ensures later { Later self.old self.new }
     {
         match self {
             DiskSet::Up(rvg) => apply_group(rvg, to),
             DiskSet::Receives(site) => apply_group(&mut site.rvg, to),
+            DiskSet::Over(over) => over.apply(to),
             DiskSet::Bare(_)
             | DiskSet::Spoiled(_)
             | DiskSet::Down(_)

@@ -28,7 +28,7 @@ use Rattle.vx_history.specs.Step.{done, link_part, outcome_of, step}
 use Rattle.vx_history.specs.Steps.{crash_left, crashed, site_made}
 use Rattle.vx_history.specs.World.{Link as LinkOf, Node, World, bare_site, no_link, updated, with_node}
 use Rattle.vx_history.specs.declared.event.Event.{Event}
-use Rattle.vx_history.specs.declared.event.Event.TheVariants.{Site, Raw, Group, Write, Read, Apply, Pump, Tick, Deliver, Connect, Cut, Pause, Resume, Wait, Link, Set, Attach, Detach, Crash, Deport, Recover, Fault}
+use Rattle.vx_history.specs.declared.event.Event.TheVariants.{Site, Raw, Group, Volumes, Write, Read, Apply, Pump, Tick, Deliver, Connect, Cut, Pause, Resume, Wait, Link, Set, Attach, Detach, Crash, Deport, Fall, Recover, Fault}
 use Rattle.vx_history.specs.declared.event.LinkPart.TheVariants.{Joins, Made, Marked, Opened}
 use Rattle.vx_events.specs.Doubts.{run_as}
 use Rattle.vx_events.specs.LinksFit.{DoubtFits, IsBlank, IsPlain, IsRested, LinksFit, RowFits, StartsAt}
@@ -317,6 +317,7 @@ pub fit_happened : (d : Doubted) (e : Event) (taken : Bool) → SetsFail e → L
 fit_happened d (Site name disks blocks) taken sets fit = fit_site d name disks blocks fit
 fit_happened d (Raw s) taken sets fit = fit_settled d (Raw s) tt fit
 fit_happened d (Group s) taken sets fit = fit_settled d (Group s) tt fit
+fit_happened d (Volumes s log xs) taken sets fit = fit_settled d (Volumes s log xs) tt fit
 fit_happened d (Write s volume start bytes fails) taken sets fit = fit_settled d (Write s volume start bytes fails) tt fit
 fit_happened d (Read s volume start count) taken sets fit = fit_settled d (Read s volume start count) tt fit
 fit_happened d (Apply s count reached) taken sets fit = fit_settled d (Apply s count reached) tt fit
@@ -337,6 +338,7 @@ fit_happened d (Attach p s) taken sets fit = fit_settled d (Attach p s) tt fit
 fit_happened d (Detach p s) taken sets fit = fit_settled d (Detach p s) tt fit
 fit_happened d (Crash s kept) taken sets fit = fit_crash (resolved_at d s taken) s kept (at_place d.after s None) (fit_resolved d s taken fit)
 fit_happened d (Deport s) taken sets fit = fit_deport d s fit
+fit_happened d (Fall s) taken sets fit = fit_settled d (Fall s) tt fit
 fit_happened d (Recover s fails) taken sets fit = fit_settled d (Recover s fails) tt fit
 fit_happened d (Fault s disk) taken sets fit = fit_settled d (Fault s disk) tt fit
 

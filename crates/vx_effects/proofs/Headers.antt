@@ -17,7 +17,7 @@ use Rattle.vx_history.specs.Sends.{with_link}
 use Rattle.vx_history.specs.Step.{done, link_part, outcome_of}
 use Rattle.vx_history.specs.World.{Link as LinkOf, Packet, World}
 use Rattle.vx_history.specs.declared.event.Event.{Event}
-use Rattle.vx_history.specs.declared.event.Event.TheVariants.{Site, Raw, Group, Write, Read, Apply, Pump, Tick, Deliver, Connect, Cut, Pause, Resume, Wait, Link, Set, Attach, Detach, Crash, Deport, Recover, Fault}
+use Rattle.vx_history.specs.declared.event.Event.TheVariants.{Site, Raw, Group, Volumes, Write, Read, Apply, Pump, Tick, Deliver, Connect, Cut, Pause, Resume, Wait, Link, Set, Attach, Detach, Crash, Deport, Fall, Recover, Fault}
 use Rattle.vx_history.specs.declared.event.LinkPart.{LinkPart}
 use Rattle.vx_history.specs.declared.event.LinkPart.TheVariants.{Joins, Made, Marked, Opened}
 use Rattle.vx_history.specs.declared.event.Said.TheVariants.{Ignored as IsIgnored}
@@ -90,6 +90,7 @@ module _ (w : World) (i : ℕ) (bare : (w.nodes i).state ≡ Bare) where
   bare_none (Site name disks blocks) = refl
   bare_none (Raw s) = refl
   bare_none (Group s) = refl
+  bare_none (Volumes s log xs) = refl
   bare_none (Write p volume start bytes fails) = none_at p i _ (written_none p (record { volume = volume; start = start; bytes = bytes }) fails)
   bare_none (Read p volume start count) = refl
   bare_none (Apply s count reached) = refl
@@ -118,5 +119,6 @@ module _ (w : World) (i : ℕ) (bare : (w.nodes i).state ≡ Bare) where
       Tests.link_ends (None_at p) w (refused_none p) is_origin p s o (λ up _. up_none p o up)
   bare_none (Crash s kept) = refl
   bare_none (Deport s) = refl
+  bare_none (Fall s) = refl
   bare_none (Recover s fails) = refl
   bare_none (Fault s disk) = refl

@@ -12,7 +12,7 @@ use Rattle.vx_history.specs.Steps.{burned, fused, stopped_by, worked_on}
 use Rattle.vx_history.specs.Stops.{IsOpen, WritesAt}
 use Rattle.vx_history.specs.World.{FuseSet, empty_world, Node, Packet, World, updated, with_node, Link as LinkOf}
 use Rattle.vx_history.specs.declared.event.Event.{Event}
-use Rattle.vx_history.specs.declared.event.Event.TheVariants.{Site, Raw, Group, Write, Read, Apply, Pump, Tick, Deliver, Connect, Cut, Pause, Resume, Wait, Link, Set, Attach, Detach, Crash, Deport, Recover, Fault}
+use Rattle.vx_history.specs.declared.event.Event.TheVariants.{Site, Raw, Group, Volumes, Write, Read, Apply, Pump, Tick, Deliver, Connect, Cut, Pause, Resume, Wait, Link, Set, Attach, Detach, Crash, Deport, Fall, Recover, Fault}
 use Rattle.vx_history.specs.declared.event.LinkPart.TheVariants.{Joins, Made, Marked, Opened}
 use Rattle.vx_model.specs.declared.link.Prot.{Prot}
 use Rattle.vx_model.specs.declared.link.SyncMode.{SyncMode}
@@ -80,6 +80,7 @@ writes_remains : (d : Doubted) (e : Event) (s : ℕ) → LinksFit d → WritesAt
 writes_remains d (Site name disks blocks) s fit writes sets = absurd writes
 writes_remains d (Raw p) s fit writes sets = absurd writes
 writes_remains d (Group p) s fit writes sets = absurd writes
+writes_remains d (Volumes p log xs) s fit writes sets = absurd writes
 writes_remains d (Write p volume start bytes fails) s fit writes sets = settled_remains d.world (Write p volume start bytes fails) s (outcome_moves d.world (Write p volume start bytes fails) tt)
 writes_remains d (Read p volume start count) s fit writes sets = absurd writes
 writes_remains d (Apply p count reached) s fit writes sets = absurd writes
@@ -100,6 +101,7 @@ writes_remains d (Attach p q) s fit writes sets = settled_remains d.world (Attac
 writes_remains d (Detach p q) s fit writes sets = settled_remains d.world (Detach p q) s (outcome_moves d.world (Detach p q) tt)
 writes_remains d (Crash p kept) s fit writes sets = absurd writes
 writes_remains d (Deport p) s fit writes sets = absurd writes
+writes_remains d (Fall p) s fit writes sets = absurd writes
 writes_remains d (Recover p fails) s fit writes sets = absurd writes
 writes_remains d (Fault p disk) s fit writes sets = settled_remains d.world (Fault p disk) s (outcome_moves d.world (Fault p disk) tt)
 
@@ -108,6 +110,7 @@ written_done : (d : Doubted) (e : Event) (s : ℕ) → WritesAt d.world e s → 
 written_done d (Site name disks blocks) s writes sets fit = absurd writes
 written_done d (Raw p) s writes sets fit = absurd writes
 written_done d (Group p) s writes sets fit = absurd writes
+written_done d (Volumes p log xs) s writes sets fit = absurd writes
 written_done d (Write p volume start bytes fails) s writes sets fit = fit_happened d (Write p volume start bytes fails) false sets fit
 written_done d (Read p volume start count) s writes sets fit = absurd writes
 written_done d (Apply p count reached) s writes sets fit = absurd writes
@@ -125,6 +128,7 @@ written_done d (Attach p q) s writes sets fit = fit_happened d (Attach p q) fals
 written_done d (Detach p q) s writes sets fit = fit_happened d (Detach p q) false sets fit
 written_done d (Crash p kept) s writes sets fit = absurd writes
 written_done d (Deport p) s writes sets fit = absurd writes
+written_done d (Fall p) s writes sets fit = absurd writes
 written_done d (Recover p fails) s writes sets fit = absurd writes
 written_done d (Fault p disk) s writes sets fit = fit_happened d (Fault p disk) false sets fit
 

@@ -18,7 +18,7 @@ use Rattle.vx_history.specs.Doubts.{Doubted, happened}
 use Rattle.vx_history.specs.Events.{joined, new_link, opened}
 use Rattle.vx_history.specs.Gatherings.{emptied}
 use Rattle.vx_history.specs.Receiving.{phase_takes}
-use Rattle.vx_history.specs.Refusals.{Outcome, agree, at_site, both_at_work, follows, is_consistent, is_empty, is_fresh, is_primary, is_stale_mode, count_links_of, may_link, refused, rings_fit, unless, unless_halted}
+use Rattle.vx_history.specs.Refusals.{Outcome, sizes_meet, at_site, both_at_work, follows, is_consistent, is_empty, is_fresh, is_primary, is_stale_mode, count_links_of, may_link, refused, rings_fit, unless, unless_halted}
 use Rattle.vx_history.specs.Sends.{is_linked, with_link}
 use Rattle.vx_history.specs.Step.{done, link_part, outcome_of, run, step}
 use Rattle.vx_history.specs.World.{Gathering, Link as LinkOf, Node, World, updated, with_node}
@@ -92,7 +92,7 @@ module _ (w : World) (p s : ℕ) (sync : SyncMode) (prot : Prot) where
       → (may_link w p s ≡ true) × (is_linked (w.links p s) ≡ false) × (link_part Joins w p s sync prot ≡ done behind_joins)
   joins_done said =
       let o : Outcome = done behind_joins in
-      let sized : Outcome = unless (not (agree (w.nodes p).volumes (w.nodes s).volumes && rings_fit (w.nodes p) (w.nodes s))) Size w o in
+      let sized : Outcome = unless (not (sizes_meet (w.nodes p).volumes (w.nodes s).volumes && rings_fit (w.nodes p) (w.nodes s))) Size w o in
       let few : Outcome = unless (leb MOST_LINKS (count_links_of w p)) (Limit Links MOST_LINKS) w sized in
       let free : Outcome = unless (is_linked (w.links p s)) (Exists (w.nodes s).name) w few in
       let Q : Outcome → Type 0 = λ (r : Outcome). r.said ≡ Done → (may_link w p s ≡ true) × (is_linked (w.links p s) ≡ false) × (r ≡ o) in
@@ -100,7 +100,7 @@ module _ (w : World) (p s : ℕ) (sync : SyncMode) (prot : Prot) where
       Tests.unless_ends Q w none (not (may_link w p s)) WrongRole free
       (λ may. Tests.unless_ends Q w none (is_linked (w.links p s)) (Exists (w.nodes s).name) few
       (λ unlinked. Tests.unless_ends Q w none (leb MOST_LINKS (count_links_of w p)) (Limit Links MOST_LINKS) sized
-      (λ _. Tests.unless_ends Q w none (not (agree (w.nodes p).volumes (w.nodes s).volumes && rings_fit (w.nodes p) (w.nodes s))) Size o
+      (λ _. Tests.unless_ends Q w none (not (sizes_meet (w.nodes p).volumes (w.nodes s).volumes && rings_fit (w.nodes p) (w.nodes s))) Size o
       (λ _ e. (not-false (may_link w p s) may, unlinked, refl))))) (part_done Joins said)
 
   pub made_done : (step w (Link p s sync prot Made)).said ≡ Done

@@ -22,18 +22,18 @@ use Rattle.vx_model.specs.declared.site.SiteState.TheVariants.{Bare, Up, Deporte
 use Rattle.vx_history.proofs.StateCases.{bare_is, up_is}
 use Rattle.vx_history.proofs.Updates.{and_left, and_right, by_test, eqb_equal}
 use Rattle.vx_history.specs.Admission.{Admitted, Goes, Held_by}
-use Rattle.vx_history.specs.Events.{acknowledged, admitted, applied, applied_by, apply_at, come_back, crash_at, delivered, receiver_facts, from_memory, gathered_if, greeting_back, group_again, group_from, handed, heard, is_plain_group, is_taken, joined, link_after, link_attached, link_detached, link_event, link_heard, link_left, link_marked, link_step, link_with, links_changed, links_marked, opened, packet_at, promises_of, put_in, reached_at, recover_from, recovered_at, recovery, restarted_link, taken_if, ticked_at, ticked_link, update_taken, waited, with_write, written_if}
+use Rattle.vx_history.specs.Events.{fall_from, acknowledged, admitted, applied, applied_by, apply_at, come_back, crash_at, delivered, receiver_facts, from_memory, gathered_if, greeting_back, group_again, group_from, handed, heard, is_plain_group, is_taken, joined, link_after, link_attached, link_detached, link_event, link_heard, link_left, link_marked, link_step, link_with, links_changed, links_marked, opened, packet_at, promises_of, put_in, reached_at, recover_from, recovered_at, recovery, restarted_link, taken_if, ticked_at, ticked_link, update_taken, waited, with_write, written_if}
 use Rattle.vx_history.specs.Gatherings.{completes, emptied, gathered}
 use Rattle.vx_history.specs.LinkForms.{plain_receiver, with_plain}
 use Rattle.vx_history.specs.Receiving.{Received, phase_takes, received_step}
-use Rattle.vx_history.specs.Refusals.{Outcome, agree, at_site, at_work, both_at_work, follows, holds_back, is_consistent, is_empty, is_fresh, is_primary, is_running, is_stale_mode, is_unconfirmed, keeps_links, count_links_of, may_link, refused, rings_fit, says, some_below, unless, when_live}
+use Rattle.vx_history.specs.Refusals.{Outcome, sizes_meet, at_site, at_work, both_at_work, follows, holds_back, is_consistent, is_empty, is_fresh, is_primary, is_running, is_stale_mode, is_unconfirmed, keeps_links, count_links_of, may_link, refused, rings_fit, says, some_below, unless, when_live}
 use Rattle.vx_history.specs.Sends.{is_linked, promising, sending, with_link, with_links}
 use Rattle.vx_history.specs.Step.{done, joined_blocks, link_part, outcome_of}
 use Rattle.vx_history.specs.Sound.{is_at_rest}
-use Rattle.vx_history.specs.Steps.{burned, crash_left, crashed, deported_site, deported_world, group_back, group_made, group_set, group_up, half_written, logged, raw_made, raw_set, recovered, stopped_by, written}
+use Rattle.vx_history.specs.Steps.{burned, crash_left, crashed, deported_site, deported_world, fallen_site, fallen_world, group_back, group_made, group_set, group_up, half_written, logged, raw_made, raw_set, recovered, stopped_by, written}
 use Rattle.vx_history.specs.World.{DataAck, Fuse, Hello, Link as LinkOf, Message, NetAck, Node, Packet, Update, World, with_node}
 use Rattle.vx_history.specs.declared.event.Event.{Event}
-use Rattle.vx_history.specs.declared.event.Event.TheVariants.{Site, Raw, Group, Write, Read, Apply, Pump, Tick, Deliver, Connect, Cut, Pause, Resume, Wait, Link, Set, Attach, Detach, Crash, Deport, Recover, Fault}
+use Rattle.vx_history.specs.declared.event.Event.TheVariants.{Site, Raw, Group, Volumes, Write, Read, Apply, Pump, Tick, Deliver, Connect, Cut, Pause, Resume, Wait, Link, Set, Attach, Detach, Crash, Deport, Fall, Recover, Fault}
 use Rattle.vx_history.specs.declared.event.LinkPart.{LinkPart}
 use Rattle.vx_history.specs.declared.event.LinkPart.TheVariants.{Joins, Made, Marked, Opened}
 use Rattle.vx_history.specs.declared.event.Said.TheVariants.{DoneAt, Got, Ignored as IsIgnored, Pending, Refused}
@@ -44,6 +44,8 @@ use Rattle.vx_history.specs.declared.receiver.RState.{RState}
 use Rattle.vx_history.specs.declared.sender.SEvent.{SEvent}
 use Rattle.vx_history.specs.declared.sender.SEvent.TheVariants.{Connect as ConnectLink, Cut as CutLink, DataAck as HearDataAck, Hello as HearHello, NetAck as HearNetAck, Pause as PauseLink, Pump as PumpLink, Resume as ResumeLink}
 use Rattle.vx_events.specs.LinksFit.{IsPlain, IsRested}
+use Rattle.vx_history.specs.Volumes.{volumes_made, volumes_set}
+use Rattle.vx_history.specs.declared.volumes.DataVolume.{DataVolume}
 use Rattle.vx_effects.proofs.Links.{KeepsLink, keeps_restarted, keeps_left, keeps_marked, keeps_stepped, keeps_ticked, none_after, none_of, plain_after}
 use Rattle.vx_effects.proofs.Moves.{All, Moves, Rests, Stays, StillKeeps, keeps_role, moves_alike, moves_kept, moves_like, moves_link, moves_node, moves_row, moves_same, moves_then}
 use Rattle.vx_effects.proofs.Tests
@@ -53,6 +55,7 @@ abbrev pub IsSettled : Event → Type 0
 IsSettled (Site name disks blocks) = ⊥
 IsSettled (Raw s) = Unit {0}
 IsSettled (Group s) = Unit {0}
+IsSettled (Volumes s log xs) = Unit {0}
 IsSettled (Write s volume start bytes fails) = Unit {0}
 IsSettled (Read s volume start count) = Unit {0}
 IsSettled (Apply s count reached) = Unit {0}
@@ -73,6 +76,7 @@ IsSettled (Attach p s) = Unit {0}
 IsSettled (Detach p s) = Unit {0}
 IsSettled (Crash s kept) = ⊥
 IsSettled (Deport s) = ⊥
+IsSettled (Fall s) = Unit {0}
 IsSettled (Recover s fails) = Unit {0}
 IsSettled (Fault s disk) = Unit {0}
 
@@ -204,6 +208,12 @@ module _ (E : ℕ → Type 0) (w : World) where
       (λ e. not_up (w.nodes s) n (λ up. let f : false ≡ true = sym (ap is_at_rest up) ∙ rest in cc))
       (keeps_role w.sites (w.links s) (w.nodes s) n refl) (awake (w.nodes s) n refl (λ e. e))
 
+  -- a group of disks that gets its replicated volume group
+  pub volumes_moves : (s log : ℕ) (xs : List DataVolume) → Moves E w (volumes_made w s log xs)
+  volumes_moves s log xs =
+      moves_like E w (with_node w s (volumes_set log xs (w.nodes s))) (volumes_made w s log xs) refl (λ p. refl) (λ p k. refl)
+      (moves_alike E w s (volumes_set log xs (w.nodes s)) refl refl refl (calm (λ e. e) (λ e. e)))
+
   -- a site that is down and gives its disks up
   pub deported_moves : (s : ℕ) (fuse : Fuse) → (w.nodes s).state ≡ Down → Moves E w (deported_world fuse w s)
   deported_moves s fuse down =
@@ -211,6 +221,14 @@ module _ (E : ℕ → Type 0) (w : World) where
       moves_node E w s n (λ b. let f : Deported ≡ Bare = b in absurd (cc)) (λ h b. let f : Down ≡ Bare = sym down ∙ b in absurd (cc))
       (λ e. not_up (w.nodes s) n (λ up. let f : Up ≡ Down = sym up ∙ down in cc))
       (keeps_role w.sites (w.links s) (w.nodes s) n refl) (calm (λ e. e) (λ _ d. let f : Deported ≡ Down = d in absurd (cc)))
+
+  -- one that gave them up is down
+  pub fallen_moves : (s : ℕ) → (w.nodes s).state ≡ Deported → Moves E w (fallen_world w s)
+  fallen_moves s away =
+      let n : Node = fallen_site (w.nodes s) in
+      moves_node E w s n (λ b. let f : Down ≡ Bare = b in absurd (cc)) (λ h b. let f : Deported ≡ Bare = sym away ∙ b in absurd (cc))
+      (λ e. not_up (w.nodes s) n (λ up. let f : Up ≡ Deported = sym up ∙ away in cc))
+      (keeps_role w.sites (w.links s) (w.nodes s) n refl) (calm (λ e. e) (λ _ _. refl))
 
   pub linked_moves : (p s : ℕ) (l : LinkOf) → KeepsLink (w.links p s) l → (v : World) → v.sites ≡ w.sites → ((i : ℕ) → v.nodes i ≡ w.nodes i)
       → ((i k : ℕ) → v.links i k ≡ (with_link w p s l).links i k) → Moves E w v
@@ -314,6 +332,12 @@ module _ (w : World) where
   group_from_moves Deported s below e = again_moves s (ap is_at_rest e)
   group_from_moves Down s below e = again_moves s (ap is_at_rest e)
 
+  fall_moves : (state : SiteState) (s : ℕ) → (w.nodes s).state ≡ state → Leaves (fall_from state w s)
+  fall_moves Bare s e = moves_same All w
+  fall_moves Up s e = moves_same All w
+  fall_moves Deported s e = fallen_moves All w s e
+  fall_moves Down s e = moves_same All w
+
   recover_moves : (state : SiteState) (s : ℕ) (fails : Option ℕ) → (w.nodes s).state ≡ state → Leaves (recover_from state w s fails)
   recover_moves Bare s fails e = moves_same All w
   recover_moves Up s fails e = moves_same All w
@@ -371,13 +395,13 @@ module _ (w : World) where
   part_moves Joins p s sync prot one =
       let n : Node = joined (w.nodes p) p (w.nodes s) in
       let o : Outcome = done (emptied (with_node w s n) s) in
-      let sized : Outcome = unless (not (agree (w.nodes p).volumes (w.nodes s).volumes && rings_fit (w.nodes p) (w.nodes s))) Size w o in
+      let sized : Outcome = unless (not (sizes_meet (w.nodes p).volumes (w.nodes s).volumes && rings_fit (w.nodes p) (w.nodes s))) Size w o in
       let few : Outcome = unless (leb MOST_LINKS (count_links_of w p)) (Limit Links MOST_LINKS) w sized in
       let free : Outcome = unless (is_linked (w.links p s)) (Exists (w.nodes s).name) w few in
       Tests.unless_ends Leaves w refusals (not (may_link w p s)) WrongRole free
       (λ may. Tests.unless_ends Leaves w refusals (is_linked (w.links p s)) (Exists (w.nodes s).name) few
       (λ _. Tests.unless_ends Leaves w refusals (leb MOST_LINKS (count_links_of w p)) (Limit Links MOST_LINKS) sized
-      (λ _. Tests.unless_ends Leaves w refusals (not (agree (w.nodes p).volumes (w.nodes s).volumes && rings_fit (w.nodes p) (w.nodes s))) Size o
+      (λ _. Tests.unless_ends Leaves w refusals (not (sizes_meet (w.nodes p).volumes (w.nodes s).volumes && rings_fit (w.nodes p) (w.nodes s))) Size o
       (λ _. moves_like All w (with_node w s n) (emptied (with_node w s n) s) refl (λ i. refl) (λ i k. refl)
       (moves_kept All w s n refl refl (joins_without w p s (not-false (may_link w p s) may)) (calm (λ _. refl) (λ _ _. refl)))))))
   part_moves Made p s sync prot one = absurd one
@@ -417,6 +441,12 @@ module _ (w : World) where
       (λ _. raw_moves All w s below (bare_is (w.nodes s).state (not-false (is_bare (w.nodes s).state) bare)))))
   outcome_moves (Group s) one =
       Tests.site_ends Leaves w refusals s (group_from (w.nodes s).state w s) (λ below. group_from_moves (w.nodes s).state s below refl)
+  outcome_moves (Volumes s log xs) one =
+      let o : Outcome = done (volumes_made w s log xs) in
+      let tested : Outcome = unless (not (is_plain_group (w.nodes s))) WrongRole w o in
+      Tests.site_ends Leaves w refusals s (at_work w s tested)
+      (λ _. Tests.work_ends Leaves w refusals s tested
+      (λ _ _. Tests.unless_ends Leaves w refusals (not (is_plain_group (w.nodes s))) WrongRole o (λ _. volumes_moves All w s log xs)))
   outcome_moves (Write s volume start bytes fails) one =
       let x : WriteBlocks = record { volume = volume; start = start; bytes = bytes } in
       Tests.volume_ends Leaves w refusals s volume start (blocks_in bytes) (is_too_large (w.nodes s).ring (blocks_in bytes)) (written_if (admitted w s x) w s x fails)
@@ -463,6 +493,7 @@ module _ (w : World) where
       (λ _ linked. moves_link All w p s (link_detached (w.links p s)) (keeps_detached (w.links p s) linked))
   outcome_moves (Crash s kept) one = absurd one
   outcome_moves (Deport s) one = absurd one
+  outcome_moves (Fall s) one = Tests.site_ends Leaves w refusals s (fall_from (w.nodes s).state w s) (λ below. fall_moves (w.nodes s).state s refl)
   outcome_moves (Recover s fails) one =
       Tests.site_ends Leaves w refusals s (recover_from (w.nodes s).state w s fails) (λ _. recover_moves (w.nodes s).state s fails refl)
   outcome_moves (Fault s disk) one =

@@ -23,7 +23,7 @@ use Rattle.vx_events.specs.GroupLines.{unread_events, crash_first, cut_events, f
 use Rattle.vx_events.specs.declared.said.Said.{Said}
 
 -- what a line notes is no more than a note
-noted_like : (s : ℕ) (line : ScriptLine) (v : World) → IsLike v (group_noted s line v)
+pub noted_like : (s : ℕ) (line : ScriptLine) (v : World) → IsLike v (group_noted s line v)
 noted_like s (Disk site disk state) v = like_disks v s (updated (v.nodes s).failing disk (is_failing state)) (v.nodes s).group
 noted_like s (Fuse site calls pick) v = like_noted v s (FuseSet calls)
 noted_like s (Volume site volume blocks mirrors layout log map policy) v = like_noted v s (burned (v.nodes s).fuse)
@@ -55,7 +55,7 @@ first_tells Up s = refl
 first_tells Deported s = refl
 first_tells Down s = refl
 
-events_tell : (n : Node) (s : ℕ) (line : ScriptLine) → all_fails (group_events n s line) ≡ []
+pub events_tell : (n : Node) (s : ℕ) (line : ScriptLine) → all_fails (group_events n s line) ≡ []
 events_tell n s (GroupInit site) = refl
 events_tell n s (GroupDeport site) = refl
 events_tell n s (GroupImport site) = refl

@@ -17,7 +17,7 @@ use Rattle.vx_model.specs.declared.site.SiteState.{SiteState}
 use Rattle.vx_model.specs.declared.site.SiteState.TheVariants.{Bare, Up, Deported, Down}
 use Rattle.vx_history.proofs.Updates.{all_updated}
 use Rattle.vx_history.specs.Admission.{Admitted, Held_by, Goes}
-use Rattle.vx_history.specs.Events.{group_again, group_from, is_plain_group, admitted, written_if, put_in, links_changed, link_after, acknowledged, applied, applied_by, apply_at, reached_at, crash_at, deport_at, crash_world, kept_of, link_left, link_marked, links_marked, recover_from, recovery, recovered_at, restarted_link, come_back, recovery_greeting}
+use Rattle.vx_history.specs.Events.{fall_from, group_again, group_from, is_plain_group, admitted, written_if, put_in, links_changed, link_after, acknowledged, applied, applied_by, apply_at, reached_at, crash_at, deport_at, crash_world, kept_of, link_left, link_marked, links_marked, recover_from, recovery, recovered_at, restarted_link, come_back, recovery_greeting}
 use Rattle.vx_history.specs.LinkForms.{plain_receiver}
 use Rattle.vx_history.specs.Receiving.{Received, received_step}
 use Rattle.vx_history.specs.Refusals.{Outcome, says, unless, unless_halted, is_primary, some_below, at_site, at_work, on_volume}
@@ -25,26 +25,30 @@ use Rattle.vx_history.specs.Sends.{is_linked, with_links, sending}
 use Rattle.vx_history.specs.Headers.{headers_by}
 use Rattle.vx_history.specs.Step.{step, outcome_of, run, done, joined_blocks}
 use Rattle.vx_history.specs.declared.event.Said.TheVariants.{Got, Refused}
-use Rattle.vx_history.specs.Steps.{site_made, raw_made, raw_set, group_back, group_made, group_set, group_up, written, logged, half_written, crashed, crash_left, deported_site, deported_world, session_begun, stopped_by, recovered, burned}
+use Rattle.vx_history.specs.Steps.{site_made, raw_made, raw_set, group_back, group_made, group_set, group_up, written, logged, half_written, crashed, crash_left, deported_site, deported_world, fallen_site, fallen_world, session_begun, stopped_by, recovered, burned}
 use Rattle.vx_history.specs.World.{Node, Fuse, Link as LinkOf, World, bare_site, updated, with_node}
 use Rattle.vx_history.specs.declared.event.Event.{Event}
-use Rattle.vx_history.specs.declared.event.Event.TheVariants.{Site, Raw, Group, Write, Read, Apply, Pump, Tick, Deliver, Connect, Cut, Pause, Resume, Wait, Link, Set, Attach, Detach, Crash, Deport, Recover, Fault}
+use Rattle.vx_history.specs.declared.event.Event.TheVariants.{Site, Raw, Group, Volumes, Write, Read, Apply, Pump, Tick, Deliver, Connect, Cut, Pause, Resume, Wait, Link, Set, Attach, Detach, Crash, Deport, Fall, Recover, Fault}
 use Rattle.vx_history.specs.declared.receiver.RAction.{RAction}
 use Rattle.vx_history.specs.declared.receiver.RAction.TheVariants.{Nothing, Ignored, IgnoredAck, Take, DataAck}
 use Rattle.vx_history.specs.declared.receiver.RState.{RState}
 use Rattle.vx_history.specs.declared.receiver.REvent.TheVariants.{Applied, Restart as RestartSite}
 use Rattle.vx_events.specs.Plain.{IsUnlinked, ArePrimaries}
+use Rattle.vx_history.specs.Volumes.{volumes_made, volumes_set}
+use Rattle.vx_history.specs.declared.volumes.DataVolume.{DataVolume}
 
 -- events of one site by itself
 abbrev pub IsSingle : Event → Type 0
 IsSingle (Site name disks blocks) = Unit {0}
 IsSingle (Raw s) = Unit {0}
 IsSingle (Group s) = Unit {0}
+IsSingle (Volumes s log xs) = Unit {0}
 IsSingle (Write s volume start bytes fails) = Unit {0}
 IsSingle (Read s volume start count) = Unit {0}
 IsSingle (Apply s count reached) = Unit {0}
 IsSingle (Crash s kept) = Unit {0}
 IsSingle (Deport s) = Unit {0}
+IsSingle (Fall s) = Unit {0}
 IsSingle (Recover s fails) = Unit {0}
 IsSingle (Fault s disk) = Unit {0}
 IsSingle other = ⊥
@@ -59,6 +63,7 @@ pub record KeptBy (P : World → Type 0) : Type 0 where
   pub raw : (w : World) (s : ℕ) → P w → P (raw_made w s)
   pub group : (w : World) (s : ℕ) → P w → P (group_made w s)
   pub back : (w : World) (s : ℕ) → P w → P (group_back w s)
+  pub volumes : (w : World) (s log : ℕ) (xs : List DataVolume) → P w → P (volumes_made w s log xs)
   pub links : (w : World) (s : ℕ) (x : WriteBlocks) → P w → P (links_changed w s x)
   pub marks : (w : World) (s : ℕ) (xs : List WriteBlocks) → P w → P (links_marked w s xs)
   pub write : (w : World) (s : ℕ) (x : WriteBlocks) → P w → P (written w s x)
@@ -66,6 +71,7 @@ pub record KeptBy (P : World → Type 0) : Type 0 where
   pub apply : (w : World) (s number : ℕ) (mark : Mark) → P w → P (acknowledged w s (applied (w.nodes s) number mark))
   pub crash : (w : World) (s kept : ℕ) → P w → P (crash_at w s kept)
   pub deport : (w : World) (s : ℕ) (fuse : Fuse) → P w → P (deported_world fuse w s)
+  pub fall : (w : World) (s : ℕ) → P w → P (fallen_world w s)
   pub recover : (w : World) (s : ℕ) → P w → P (recovered_at w s)
   pub session : (w : World) (s : ℕ) → P w → P (session_begun w s)
   pub stop : (w : World) (s disk : ℕ) → P w → P (stopped_by w s disk)
@@ -149,6 +155,12 @@ module _ (P : World → Type 0) (keeps : KeptBy P) where
   group_keeps Deported w s p = again_keeps w s p
   group_keeps Down w s p = again_keeps w s p
 
+  fall_keeps : (state : SiteState) (w : World) (s : ℕ) → P w → Holds P (fall_from state w s)
+  fall_keeps Bare w s p = p
+  fall_keeps Up w s p = p
+  fall_keeps Deported w s p = keeps.fall w s p
+  fall_keeps Down w s p = p
+
   outcome_keeps : (w : World) (e : Event) → IsSingle e → P w → P (outcome_of w e).world
   outcome_keeps w (Site name disks blocks) one p =
       let o : Outcome = done (site_made w name disks blocks) in
@@ -166,6 +178,10 @@ module _ (P : World → Type 0) (keeps : KeptBy P) where
       (past P (not (is_bare (w.nodes s).state)) WrongRole w sized p
       (past P (not (is_raw_shape (w.nodes s).disks (w.nodes s).blocks)) Size w o p (keeps.raw w s p)))
   outcome_keeps w (Group s) one p = past_site P w s (group_from (w.nodes s).state w s) p (group_keeps (w.nodes s).state w s p)
+  outcome_keeps w (Volumes s log xs) one p =
+      let o : Outcome = done (volumes_made w s log xs) in
+      let tested : Outcome = unless (not (is_plain_group (w.nodes s))) WrongRole w o in
+      past_site P w s (at_work w s tested) p (past_work P w s tested p (past P (not (is_plain_group (w.nodes s))) WrongRole w o p (keeps.volumes w s log xs p)))
   outcome_keeps w (Write s volume start bytes fails) one p =
       let x : WriteBlocks = record { volume = volume; start = start; bytes = bytes } in
       past_volume P w s volume start (blocks_in bytes) (is_too_large (w.nodes s).ring (blocks_in bytes)) (written_if (admitted w s x) w s x fails) p (written_keeps (admitted w s x) w s x fails p)
@@ -182,6 +198,7 @@ module _ (P : World → Type 0) (keeps : KeptBy P) where
       let k : ℕ = kept_of (w.nodes s) 0 in
       let o : Outcome = done (deport_at w s) in
       past_site P w s (at_work w s o) p (past_work P w s o p (keeps.deport (crash_at w s k) s (w.nodes s).fuse (keeps.crash w s k p)))
+  outcome_keeps w (Fall s) one p = past_site P w s (fall_from (w.nodes s).state w s) p (fall_keeps (w.nodes s).state w s p)
   outcome_keeps w (Recover s fails) one p = past_site P w s (recover_from (w.nodes s).state w s fails) p (recover_keeps (w.nodes s).state w s fails p)
   outcome_keeps w (Fault s disk) one p =
       let o : Outcome = says (stopped_by w s disk) (Refused (Device disk)) in
@@ -228,6 +245,7 @@ unlinked_kept = record {
   raw = λ w s none. same_links w (raw_made w s) (λ p q. refl) none;
   group = λ w s none. same_links w (group_made w s) (λ p q. refl) none;
   back = λ w s none. same_links w (group_back w s) (λ p q. refl) none;
+  volumes = λ w s log xs none. same_links w (volumes_made w s log xs) (λ p q. refl) none;
   links = λ w s x none. row_unlinked w s (λ k. link_after (w.nodes s) x k (w.links s k)) none (λ k. refl);
   marks = λ w s xs none. row_unlinked w s (λ k. link_marked xs (w.links s k)) none (λ k. refl);
   write = λ w s x none. same_links w (written w s x) (λ p q. refl) none;
@@ -237,6 +255,7 @@ unlinked_kept = record {
       same_links (with_links (crash_world w s kept) s (λ to. link_left (w.nodes s) kept (w.links s to))) (crash_at w s kept) (λ p q. refl)
       (row_unlinked (crash_world w s kept) s (λ to. link_left (w.nodes s) kept (w.links s to)) (same_links w (crash_world w s kept) (crash_links (is_origin (w.nodes s).role) w s kept) none)
       (λ k. ap (λ (l : LinkOf). is_linked l) (sym (crash_links (is_origin (w.nodes s).role) w s kept s k))));
+  fall = λ w s none. same_links w (fallen_world w s) (λ p q. refl) none;
   deport = λ w s fuse none. same_links w (deported_world fuse w s) (λ p q. refl) none;
   recover = λ w s none.
       let n : Node = come_back (w.nodes s) in
@@ -279,12 +298,14 @@ primaries_kept = record {
   raw = λ w s all. node_primary w (raw_made w s) s (raw_set s (w.nodes s)) (λ k. refl) refl all;
   group = λ w s all. node_primary w (group_made w s) s (group_set s (w.nodes s)) (λ k. refl) refl all;
   back = λ w s all. node_primary w (group_back w s) s (group_up (w.nodes s)) (λ k. refl) (all.each s) all;
+  volumes = λ w s log xs all. node_primary w (volumes_made w s log xs) s (volumes_set log xs (w.nodes s)) (λ k. refl) (all.each s) all;
   links = λ w s x all. record { each = all.each };
   marks = λ w s xs all. record { each = all.each };
   write = λ w s x all. node_primary w (written w s x) s (logged (w.nodes s) x) (λ k. refl) (all.each s) all;
   half = λ w s x disk all. node_primary w (half_written w s x disk) s (record (w.nodes s) { log = (w.nodes s).log ++ x ∷ []; halted = Some disk; fuse = burned (w.nodes s).fuse }) (λ k. refl) (all.each s) all;
   apply = λ w s number mark all. node_primary w (acknowledged w s (applied (w.nodes s) number mark)) s (applied (w.nodes s) number mark) (λ k. refl) (all.each s) all;
   crash = λ w s kept all. node_primary w (crash_at w s kept) s (crashed (w.nodes s) kept) (crash_nodes_are w s kept) (all.each s) all;
+  fall = λ w s all. node_primary w (fallen_world w s) s (fallen_site (w.nodes s)) (λ k. refl) (all.each s) all;
   deport = λ w s fuse all. node_primary w (deported_world fuse w s) s (deported_site fuse (w.nodes s)) (λ k. refl) (all.each s) all;
   recover = λ w s all.
       node_primary w (recovered_at w s) s (come_back (w.nodes s)) (λ k. refl) (ap (λ (n : Node). n.role) (back_primary (w.nodes s) (all.each s)) ∙ all.each s) all;

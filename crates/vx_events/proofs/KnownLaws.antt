@@ -28,7 +28,7 @@ placed : (v : World) (s : ℕ) (n : Node) → n.group ≡ (v.nodes s).group → 
 placed v s n is = ap (λ (x : Node). x.group) (at_place v.nodes s n) ∙ is
 
 -- what a line notes of the disks is beside the note of their group
-group_stays : (s : ℕ) (line : ScriptLine) (v : World) → ((group_noted s line v).nodes s).group ≡ (v.nodes s).group
+pub group_stays : (s : ℕ) (line : ScriptLine) (v : World) → ((group_noted s line v).nodes s).group ≡ (v.nodes s).group
 group_stays s (Disk site disk state) v = placed v s (record (v.nodes s) { failing = updated (v.nodes s).failing disk (is_failing state) }) refl
 group_stays s (Fuse site calls pick) v = placed v s (record (v.nodes s) { fuse = FuseSet calls }) refl
 group_stays s (Volume site volume blocks mirrors layout log map policy) v = placed v s (record (v.nodes s) { fuse = burned (v.nodes s).fuse }) refl
@@ -42,7 +42,7 @@ group_stays s (Read site volume start count) v = placed v s (record (v.nodes s) 
 group_stays s (Show site volume start count) v = placed v s (record (v.nodes s) { fuse = burned (v.nodes s).fuse }) refl
 group_stays s other v = refl
 
-left_note : (s : ℕ) (line : ScriptLine) (next : GroupNode) (last new : Doubted) → IsLeftOver s line next last new → (new.world.nodes s).group ≡ Some next
+pub left_note : (s : ℕ) (line : ScriptLine) (next : GroupNode) (last new : Doubted) → IsLeftOver s line next last new → (new.world.nodes s).group ≡ Some next
 left_note s line next last new left =
     ap (λ (w : World). (w.nodes s).group) left.world ∙ group_stays s line (noting last.world s next)
     ∙ ap (λ (n : Node). n.group) (at_place last.world.nodes s (record (last.world.nodes s) { group = Some next }))
@@ -76,14 +76,14 @@ doubtful s fails note next known x = ap (λ (g : GroupNode). g.dark) x.is ∙ un
 cut_off : (s : ℕ) (fails : Fails) (note next : GroupNode) → {w : WriteBlocks} → note.dark ≡ false → NotesCut s fails w note next → next.dark ≡ false
 cut_off s fails note next known x = ap (λ (g : GroupNode). g.dark) x.is ∙ unsettled_maps note x.middle known x.moves
 
-back_known : (told : Type 0) (s : ℕ) (n : Node) (fails : Fails) (note next : GroupNode) → note.dark ≡ false → (note.loose ≡ true → ⊥) → NotesBack told s n fails note next → next.dark ≡ false
+pub back_known : (told : Type 0) (s : ℕ) (n : Node) (fails : Fails) (note next : GroupNode) → note.dark ≡ false → (note.loose ≡ true → ⊥) → NotesBack told s n fails note next → next.dark ≡ false
 back_known told s n fails note next known tight x = by x.dark
   where
     by : (next.dark ≡ note.dark) ⊎ ((next.dark ≡ true) × (note.loose ≡ true)) → next.dark ≡ false
     by (inl same) = same ∙ known
     by (inr dark) = absurd (tight dark.1)
 
-same_note : (note next : GroupNode) → next ≡ note → note.dark ≡ false → next.dark ≡ false
+pub same_note : (note next : GroupNode) → next ≡ note → note.dark ≡ false → next.dark ≡ false
 same_note note next same known = ap (λ (g : GroupNode). g.dark) same ∙ known
 
 -- ---- the ends of a line
@@ -120,7 +120,7 @@ spoils_known s note (Show site volume start count) fails next known free spoils 
 spoils_known s note (Recover site) fails next known free spoils = absurd (free tt)
 spoils_known s note other fails next known free spoils = absurd spoils
 
-cuts_known : (s : ℕ) (note : GroupNode) (line : ScriptLine) (fails : Fails) (next : GroupNode) → note.dark ≡ false → (BringsUp line → ⊥) → GroupCuts s note line fails next → next.dark ≡ false
+pub cuts_known : (s : ℕ) (note : GroupNode) (line : ScriptLine) (fails : Fails) (next : GroupNode) → note.dark ≡ false → (BringsUp line → ⊥) → GroupCuts s note line fails next → next.dark ≡ false
 cuts_known s note (GroupDeport site) fails next known free cuts = unsettled_maps note next known cuts
 cuts_known s note (GroupImport site) fails next known free cuts = absurd (free tt)
 cuts_known s note (Volume site volume blocks mirrors layout log map policy) fails next known free cuts = unsettled_maps note next known cuts
@@ -131,13 +131,13 @@ cuts_known s note (Put site volume start bytes) fails next known free cuts = cut
 cuts_known s note other fails next known free cuts = absurd cuts
 
 -- a line that was refused brings no group up
-no_rise : (note : GroupNode) (line : ScriptLine) (said : Said) (why : No) → said ≡ Refused why → (MayDarken note line said → ⊥) → BringsUp line → ⊥
+pub no_rise : (note : GroupNode) (line : ScriptLine) (said : Said) (why : No) → said ≡ Refused why → (MayDarken note line said → ⊥) → BringsUp line → ⊥
 no_rise note line said why is free brings = free (brings, inr (subst SaysNo (sym is) tt))
 
-never : false ≡ true → ⊥
+pub never : false ≡ true → ⊥
 never e = absurd (cc)
 
-finds_none : (told : Type 0) → told → (note : GroupNode) → note.dark ≡ false → (note.loose ≡ true → ⊥) → KnowsNothing told note → ⊥
+pub finds_none : (told : Type 0) → told → (note : GroupNode) → note.dark ≡ false → (note.loose ≡ true → ⊥) → KnowsNothing told note → ⊥
 finds_none told tells note known tight (inl untold) = untold tells
 finds_none told tells note known tight (inr (inl loose)) = tight loose
 finds_none told tells note known tight (inr (inr dark)) = never (sym known ∙ dark)

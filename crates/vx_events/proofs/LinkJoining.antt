@@ -1,8 +1,8 @@
 -- Where no test of a line that makes a link refuses, its first event is not refused; and where none of a line that waits does, the write is
 -- confirmed or pending.
 use Rattle.std.proofs.Common.{◌≡◌, ◌∙◌, inl, inr, ◌<◌, ◌≤◌, ℕ, suc, List, [], ◌∷◌, length, Bool, true, false, ap, sym, subst, refl, arith}
-use Rattle.std.proofs.lemmas.Bool.{and_parts, false_from_ne_true, or_parts}
-use Rattle.std.specs.Prelude.{Option, Some, None, not, ◌&&◌, ◌||◌, ◌==◌, cond, eqb, leb, nat_le, map, if◌then◌else◌}
+use Rattle.std.specs.Prelude.{Option, Some, None, not, ◌&&◌, ◌||◌, ◌==◌, cond, eqb, leb, nat_le, is_some, slice_get, map, if◌then◌else◌}
+use Rattle.std.proofs.lemmas.Bool.{or_parts, and_parts, false_from_ne_true}
 use Rattle.std.specs.List.{find}
 use Rattle.std.proofs.lemmas.Bool.Decides.{nat_tests}
 use Rattle.vx_model.specs.Sites.{is_up, is_origin, same_line, first_line}
@@ -20,7 +20,7 @@ use Rattle.vx_model.proofs.Tests.{both_true}
 use Rattle.vx_history.specs.Events.{linked_sites, joined}
 use Rattle.vx_history.specs.Gatherings.{emptied}
 use Rattle.vx_history.specs.Refusals as history
-use Rattle.vx_history.specs.Refusals.{Outcome, unless, unless_halted, at_site, both_at_work, may_join, may_link, agree, is_empty, count_links_of, some_below, is_primary}
+use Rattle.vx_history.specs.Refusals.{Outcome, unless, unless_halted, at_site, both_at_work, may_join, may_link, agree, sizes_meet, is_empty, count_links_of, some_below, is_primary}
 use Rattle.vx_history.specs.Sends.{is_linked}
 use Rattle.vx_history.specs.Step.{step, outcome_of, done}
 use Rattle.vx_history.specs.World.{Node, Link as LinkOf, Volume, World, with_node}
@@ -114,6 +114,14 @@ sizes_same [] (y ∷ ys) = refl
 sizes_same (x ∷ xs) [] = refl
 sizes_same (x ∷ xs) (y ∷ ys) = ap (λ (b : Bool). (x.blocks == y.blocks) && b) (sizes_same xs ys)
 
+more_than_none : (n : ℕ) → eqb (suc n) 0 ≡ false
+more_than_none n = grind (arith, nat_tests)
+
+sizes_meet_so : (xs ys : List Volume)
+    → (is_some (slice_get (data_sizes (map volume_fact xs)) 0) && same_sizes (data_sizes (map volume_fact xs)) (data_sizes (map volume_fact ys))) ≡ sizes_meet xs ys
+sizes_meet_so [] ys = refl
+sizes_meet_so (x ∷ xs) ys = sizes_same (x ∷ xs) ys ∙ sym (ap (λ (b : Bool). not b && agree (x ∷ xs) ys) (more_than_none (length xs)))
+
 -- ---- the tests of the event
 
 pub first_halt : (one two : Option No) → before one (before two None) ≡ None → (one ≡ None) × (two ≡ None)
@@ -146,12 +154,12 @@ record MayJoin (w : World) (a b : ℕ) : Type 0 where
   may : may_link w a b ≡ true
   free : is_linked (w.links a b) ≡ false
   few : count_links_of w a < MOST_LINKS
-  fits : (agree (w.nodes a).volumes (w.nodes b).volumes && history.rings_fit (w.nodes a) (w.nodes b)) ≡ true
+  fits : (sizes_meet (w.nodes a).volumes (w.nodes b).volumes && history.rings_fit (w.nodes a) (w.nodes b)) ≡ true
 
 joins_step : (w : World) (a b : ℕ) (sync : SyncMode) → MayJoin w a b → outcome_of w (LinkAt a b sync FailsWhenFull Joins) ≡ done (emptied (with_node w b (joined (w.nodes a) a (w.nodes b))) b)
 joins_step w a b sync m =
     let o : Outcome = done (emptied (with_node w b (joined (w.nodes a) a (w.nodes b))) b) in
-    let sized : Outcome = unless (not (agree (w.nodes a).volumes (w.nodes b).volumes && history.rings_fit (w.nodes a) (w.nodes b))) Size w o in
+    let sized : Outcome = unless (not (sizes_meet (w.nodes a).volumes (w.nodes b).volumes && history.rings_fit (w.nodes a) (w.nodes b))) Size w o in
     let room : Outcome = unless (leb MOST_LINKS (count_links_of w a)) (Limit Links MOST_LINKS) w sized in
     let free : Outcome = unless (is_linked (w.links a b)) (Exists (w.nodes b).name) w room in
     let joins : Outcome = may_join w a b o in
@@ -166,7 +174,7 @@ joins_step w a b sync m =
     ∙ off (not (may_link w a b)) WrongRole w free (ap not m.may)
     ∙ off (is_linked (w.links a b)) (Exists (w.nodes b).name) w room m.free
     ∙ off (leb MOST_LINKS (count_links_of w a)) (Limit Links MOST_LINKS) w sized (above MOST_LINKS (count_links_of w a) m.few)
-    ∙ off (not (agree (w.nodes a).volumes (w.nodes b).volumes && history.rings_fit (w.nodes a) (w.nodes b))) Size w o (ap not m.fits)
+    ∙ off (not (sizes_meet (w.nodes a).volumes (w.nodes b).volumes && history.rings_fit (w.nodes a) (w.nodes b))) Size w o (ap not m.fits)
 
 -- by what the one order says of the sites
 module _ (w : World) (whole : AreDurable w) (listed : AreListed w) (p s : List ℕ) (one : Seat w p) (two : Seat w s)
@@ -214,9 +222,9 @@ module _ (w : World) (whole : AreDurable w) (listed : AreListed w) (p s : List �
       (sym (ap (λ (t : SiteState). if is_up t then link_to (links_by t (links_of_site w a)) (Some b) else None) here.up) ∙ e))
 
   fits_here : (volumes_agree (Some (linked_fact w a)) (Some (linked_fact w b)) && ring_fits (rvg_of (Some (linked_fact w a))) (rvg_of (Some (linked_fact w b)))) ≡ true
-      → (agree (w.nodes a).volumes (w.nodes b).volumes && history.rings_fit (w.nodes a) (w.nodes b)) ≡ true
+      → (sizes_meet (w.nodes a).volumes (w.nodes b).volumes && history.rings_fit (w.nodes a) (w.nodes b)) ≡ true
   fits_here e =
-      ap (λ (c : Bool). c && history.rings_fit (w.nodes a) (w.nodes b)) (sym (sizes_same (w.nodes a).volumes (w.nodes b).volumes))
+      ap (λ (c : Bool). c && history.rings_fit (w.nodes a) (w.nodes b)) (sym (sizes_meet_so (w.nodes a).volumes (w.nodes b).volumes))
       ∙ subst (λ (o : Option RvgFacts). (volumes_agree (Some (linked_fact w a)) (Some (linked_fact w b)) && ring_fits o (Some (group_fact (w.nodes b)))) ≡ true) here.group
       (subst (λ (o : Option RvgFacts). (volumes_agree (Some (linked_fact w a)) (Some (linked_fact w b)) && ring_fits (rvg_of (Some (linked_fact w a))) o) ≡ true) there.group e)
 

@@ -73,7 +73,7 @@ like_then {x} {y} {z} a b = record {
 pub as_like : (last new : Doubted) (v : World) → IsLike last.world v → IsAs last v new → IsLikeDoubted last new
 as_like last new v like is = record { worlds = subst (λ (x : World). IsLike last.world x) (sym is.world) like; after = is.after }
 
-disks_like : (taken : Bool) (s : ℕ) (w v : World) → IsLike v (with_disks taken s w v)
+pub disks_like : (taken : Bool) (s : ℕ) (w v : World) → IsLike v (with_disks taken s w v)
 disks_like true s w v = like_disks v s (w.nodes s).failing (w.nodes s).group
 disks_like false s w v = like_self v
 

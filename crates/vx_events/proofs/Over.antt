@@ -24,7 +24,7 @@ use Rattle.vx_events.specs.StepsOver.{MakesNoGroup, OverBy, StepOver, fact_over,
 use Rattle.vx_events.specs.declared.said.Said.{Said}
 
 -- functions with the same values
-values_same : {A : Type 0} (f g : ℕ → A) → ((i : ℕ) → f i ≡ g i) → (k n : ℕ) → values_from f k n ≡ values_from g k n
+pub values_same : {A : Type 0} (f g : ℕ → A) → ((i : ℕ) → f i ≡ g i) → (k n : ℕ) → values_from f k n ≡ values_from g k n
 values_same f g same k zero = refl
 values_same {A} f g same k (suc n) =
     ap (λ (x : A). x ∷ values_from f (k + 1) n) (same k) ∙ ap (λ (xs : List A). g k ∷ xs) (values_same f g same (k + 1) n)

@@ -49,7 +49,7 @@ apart_linked w i some = by (is_over_group (w.nodes i)) refl some
     by false is never = is
 
 -- what is read of one of two values of which it is the same
-of_either : {A : Type 0} (read : SiteFacts → A) (b : Bool) (f k : SiteFacts) (x : A) → read f ≡ x → read k ≡ x → read (if b then f else k) ≡ x
+pub of_either : {A : Type 0} (read : SiteFacts → A) (b : Bool) (f k : SiteFacts) (x : A) → read f ≡ x → read k ≡ x → read (if b then f else k) ≡ x
 of_either read true f k x first second = first
 of_either read false f k x first second = second
 

@@ -20,8 +20,10 @@ use Rattle.vx_history.specs.Refusals.{Outcome, says, unless, at_work, some_below
 use Rattle.vx_history.specs.Sends.{is_made, is_linked}
 use Rattle.vx_history.specs.Step.{outcome_of, done, joined_blocks}
 use Rattle.vx_history.specs.Steps.{site_made, raw_made, group_back, group_made, written, half_written, stopped_by}
+use Rattle.vx_history.specs.Volumes.{volumes_made}
 use Rattle.vx_history.specs.World.{Node, Link as LinkOf, World}
-use Rattle.vx_history.specs.declared.event.Event.TheVariants.{Site, Raw, Group, Write, Read, Apply, Crash, Deport, Recover, Fault}
+use Rattle.vx_history.specs.declared.volumes.DataVolume.{DataVolume}
+use Rattle.vx_history.specs.declared.event.Event.TheVariants.{Site, Raw, Group, Volumes, Write, Read, Apply, Crash, Deport, Recover, Fault}
 use Rattle.vx_history.specs.declared.event.Said.{Said}
 use Rattle.vx_history.specs.declared.event.Said.TheVariants.{DoneAt, Logged, Got, Refused}
 use Rattle.vx_events.specs.Plain.{IsUnlinked}
@@ -51,6 +53,15 @@ raw_step w s below bare shape =
 
 pub group_step : (w : World) (s : ℕ) → s < w.sites → (w.nodes s).state ≡ Bare → outcome_of w (Group s) ≡ done (group_made w s)
 group_step w s below bare = is_site w s (group_from (w.nodes s).state w s) below ∙ ap (λ (t : SiteState). group_from t w s) bare
+
+-- a group that runs gets its volumes
+pub data_step : (w : World) (s log : ℕ) (xs : List DataVolume) → s < w.sites → (w.nodes s).state ≡ Up → (w.nodes s).halted ≡ None → (w.nodes s).role ≡ Primary
+    → (w.nodes s).volumes ≡ [] → (w.nodes s).log ≡ [] → outcome_of w (Volumes s log xs) ≡ done (volumes_made w s log xs)
+data_step w s log xs below up running role volumes none =
+    let tested : Outcome = unless (not (is_plain_group (w.nodes s))) WrongRole w (done (volumes_made w s log xs)) in
+    is_site w s (at_work w s tested) below
+    ∙ is_at_work w s tested up running
+    ∙ off (not (is_plain_group (w.nodes s))) WrongRole w (done (volumes_made w s log xs)) (ap (λ (b : Bool). not b) (group_passes (w.nodes s) role volumes none))
 
 -- and a group that is at rest comes up again
 pub again_step : (w : World) (s : ℕ) → s < w.sites → is_at_rest (w.nodes s).state ≡ true → (w.nodes s).role ≡ Primary → (w.nodes s).volumes ≡ []

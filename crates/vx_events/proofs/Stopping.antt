@@ -145,7 +145,7 @@ module _ (taken : Bool) (d : Doubted) (all : List Event) (s kept disk : ℕ) (be
   disk_ended leaves = ended_by e refl leaves
 
 -- the first of these events is a write
-abbrev BeginsWrite : List Event → Type 0
+abbrev pub BeginsWrite : List Event → Type 0
 BeginsWrite [] = ⊥
 BeginsWrite (WriteAt p volume start bytes fails ∷ es) = Unit {0}
 BeginsWrite (other ∷ es) = ⊥
@@ -252,8 +252,9 @@ module _ (d : Doubted) (all : List Event) (s kept : ℕ) (fails : Fails) (new : 
       absurd (subst (λ (x : Event). WritesAHeader d.world x s) (first_same f (RecoverAt p (Some disk)) leaves) writes)
   header_ended other f disk is may_write leaves writes one like = absurd leaves
 
--- a line that works on no group, and that no test refuses
-module _ (told : Type 0) (is_told : told) (d : Doubted) (files : Bool) (line : ScriptLine) (apart : is_for_group d.world line ≡ false) (free : refused_over d.world files line ≡ None) where
+-- a line whose site is up and runs, where it writes
+module _ (told : Type 0) (is_told : told) (d : Doubted) (line : ScriptLine)
+    (opens : (c : Choice) → BeginsWrite (events_of d.world line c) → IsOpen (d.world.nodes (place_of d.world line)) × (place_of d.world line < d.world.sites)) where
   abbrev s : ℕ
   s = place_of d.world line
 
@@ -268,7 +269,7 @@ module _ (told : Type 0) (is_told : told) (d : Doubted) (files : Bool) (line : S
   at_of c before e rest split = split_at s before e rest (subst (λ (es : List Event). AllAt s es) split (all_at d.world line c))
 
   opens_if : (c : Choice) (e : Event) → events_of d.world line c ≡ e ∷ [] → BeginsWrite (e ∷ []) → IsOpen (d.world.nodes s) × (s < d.world.sites)
-  opens_if c e is begins = open_of d.world files line c apart free (subst (λ (es : List Event). BeginsWrite es) (sym is) begins)
+  opens_if c e is begins = opens c (subst (λ (es : List Event). BeginsWrite es) (sym is) begins)
 
   pub ended : (fails : Fails) (said : Said) (new : Doubted) → Ends told d line s fails said new → StopsAs d line s fails new
   ended fails said new (AllDone c taken borne says leads) =
@@ -328,7 +329,8 @@ refused false d line why fails said new is =
 by_refusal : (told : Type 0) → told → (d : Doubted) (files : Bool) (line : ScriptLine) (fails : Fails) (said : Said) (new : Doubted) (o : Option No) → is_for_group d.world line ≡ false
     → refused_over d.world files line ≡ o → OverBy o false told d line fails said new → StopsBy (is_of_links line) d line fails new
 by_refusal told is_told d files line fails said new (Some why) apart is step = refused (is_of_links line) d line why fails said new step
-by_refusal told is_told d files line fails said new None apart is (inl step) = ended_by_kind told is_told d files line apart is (is_of_links line) fails said new step.ends
+by_refusal told is_told d files line fails said new None apart is (inl step) =
+    ended_by_kind told is_told d line (λ c begins. open_of d.world files line c apart is begins) (is_of_links line) fails said new step.ends
 by_refusal told is_told d files line fails said new None apart is (inr kept) = absurd (kept.untold is_told)
 
 -- however a line that works on no group ends over disks that tell their contents

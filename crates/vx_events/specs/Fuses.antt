@@ -1,5 +1,5 @@
 -- The fuse of the disks of a site, as the lines of a script tell of it.
-use Rattle.std.specs.Prelude.{◌≡◌, ◌⊎◌, ℕ, ◌+◌, ◌*◌, ◌≤◌, true}
+use Rattle.std.specs.Prelude.{◌≡◌, ◌⊎◌, ℕ, ◌+◌, ◌*◌, ◌≤◌, true, None}
 use Rattle.vx_model.specs.declared.limits.TheConstants.{MOST_CALL_BLOCKS}
 use Rattle.vx_model.specs.Content.{Write, blocks_in}
 use Rattle.vx_history.specs.Events.{logged_blocks}
@@ -20,6 +20,7 @@ KeepsAllWrites n = (n.session ≡ 1) ⊎ (logged_blocks n.log + (MOST_CALL_BLOCK
 -- A write under a fuse that was just set, which is exactly four writes and flushes: the site's log holds all of its writes, and has room for
 -- this one too without going round.
 pub record IsExact (n : Node) (x : Write) (calls : ℕ) : Type 0 where
+  pub raw : n.group ≡ None
   pub set : n.fuse ≡ FuseSet calls
   pub keeps : KeepsAllWrites n
   pub room : logged_blocks n.log + (blocks_in x.bytes + 1) ≤ n.ring

@@ -43,6 +43,10 @@ StateSame v p t = t ≡ p.state
 abbrev pub StateLoses : ℕ → Fails → VolumeEntry → PlexEntry → PlexState → Type 0
 StateLoses s fails v p t = (t ≡ p.state) ⊎ ((t ≡ Stale) × PlexFails s fails p) ⊎ ((t ≡ Active) × VolumeFails s fails v)
 
+-- in an import: it is ACTIVE where it took part, and STALE else; or STALE, as a call on a disk of the plex failed; or ACTIVE, as one on a disk of its volume did
+abbrev pub StateOpens : ℕ → Fails → VolumeEntry → PlexEntry → PlexState → Type 0
+StateOpens s fails v p t = (t ≡ live_again p.state) ⊎ ((t ≡ Stale) × PlexFails s fails p) ⊎ ((t ≡ Active) × VolumeFails s fails v)
+
 -- in a deport, with plexes that stopped cleanly as ACTIVE: it stays, or it is STALE so; or it was, and a call failed
 abbrev pub StateRests : ℕ → Fails → VolumeEntry → PlexEntry → PlexState → Type 0
 StateRests s fails v p t = (t ≡ p.state) ⊎ ((t ≡ Stale) × PlexFails s fails p) ⊎ ((t ≡ Active) × (p.state ≡ Stale) × (fails ≢ []))

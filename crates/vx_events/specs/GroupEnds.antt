@@ -6,10 +6,9 @@ use Rattle.vx_model.specs.Content.{Write}
 use Rattle.vx_model.specs.declared.limits.TheConstants.{BLOCK, COMMIT_MARGIN, MOST_NUMBER, MOST_SUBDISKS}
 use Rattle.vx_model.specs.declared.no.Counted.TheVariants.{Number, Subdisks}
 use Rattle.vx_model.specs.declared.no.No.{No}
-use Rattle.vx_model.specs.declared.no.No.TheVariants.{Device, Down as IsOff, LastPlex, Limit, Missing, NoConfig, Space}
+use Rattle.vx_model.specs.declared.no.No.TheVariants.{Damaged, Device, Down as IsOff, Format, LastPlex, Limit, Missing, NoConfig, Space}
 use Rattle.vx_model.specs.declared.site.PlexState.TheVariants.{Active, Stale}
 use Rattle.vx_model.specs.declared.site.SiteState.TheVariants.{Up}
-use Rattle.vx_model.specs.Refusals.{IsNoDevice}
 use Rattle.vx_history.specs.Doubts.{Doubted}
 use Rattle.vx_history.specs.Groups.{GroupNode, NoteSettles, NoteUnsettles}
 use Rattle.vx_history.specs.Stops.{EventsEnd, IsFused}
@@ -178,10 +177,20 @@ NotFoundLeaves why note new = new ≡ note
 abbrev pub KnowsNothing : Type 0 → GroupNode → Type 0
 KnowsNothing told note = (told → ⊥) ⊎ (note.loose ≡ true) ⊎ (note.dark ≡ true)
 
+-- why no group is found on such disks: one that could not be read is missing, none has a configuration, a block is damaged or of another format, or no serial is
+-- left
+abbrev pub FoundNo : (s : ℕ) → Fails → No → Type 0
+FoundNo s fails (Missing disk) = Contains fails (s, disk)
+FoundNo s fails NoConfig = Unit {0}
+FoundNo s fails (Limit Number most) = most ≡ MOST_NUMBER
+FoundNo s fails (Damaged disk block stored computed) = Unit {0}
+FoundNo s fails (Format version) = Unit {0}
+FoundNo s fails why = ⊥
+
 -- why an import is refused that has written: a disk failed, or as one that has not
 abbrev pub ImportRefuses : Type 0 → (s : ℕ) → GroupNode → Fails → No → Type 0
 ImportRefuses told s note fails (Device disk) = Contains fails (s, disk)
-ImportRefuses told s note fails why = NotFound s note fails why ⊎ (KnowsNothing told note × IsNoDevice why)
+ImportRefuses told s note fails why = NotFound s note fails why ⊎ (KnowsNothing told note × FoundNo s fails why)
 
 -- what a line says that found a group of which nothing was known
 abbrev pub SaysFound : Node → ScriptLine → GroupNode → Said → Type 0
@@ -227,7 +236,7 @@ pub data GroupEnds (told : Type 0) (d : Doubted) (line : ScriptLine) (s : ℕ) (
   -- on disks of which nothing is known a group was found, or none: where contents are told nothing is known of them still
   FindsGroup : (next : GroupNode) → AreOf s fails → BringsUp line → KnowsNothing told (note_at (d.world.nodes s)) → (told → next.dark ≡ true)
       → SaysFound (d.world.nodes s) line next said → IsLeftOver s line next (run_as false d (group_events (d.world.nodes s) s line)) new → GroupEnds told d line s fails said new
-  FindsNoGroup : (next : GroupNode) (why : No) → AreOf s fails → BringsUp line → KnowsNothing told (note_at (d.world.nodes s)) → IsNoDevice why
+  FindsNoGroup : (next : GroupNode) (why : No) → AreOf s fails → BringsUp line → KnowsNothing told (note_at (d.world.nodes s)) → FoundNo s fails why
       → NotesRefused (note_at (d.world.nodes s)) next → said ≡ Refused why → IsLeftOver s line next (run_as false d (refused_events (d.world.nodes s) s line)) new → GroupEnds told d line s fails said new
 
 -- the line ended as these events do, in worlds that differ in notes alone

@@ -11,7 +11,7 @@ use Rattle.vx_config.specs.declared.entry.DiskEntry.{DiskEntry}
 use Rattle.vx_config.specs.declared.entry.VolumeEntry.{VolumeEntry}
 use Rattle.vx_layout.specs.declared.shape.Shape.{Shape}
 use Rattle.vx_events.specs.Fails.{Fails}
-use Rattle.vx_events.specs.GroupConfigs.{AddsVolume, ConfigLoses, VolumeStays}
+use Rattle.vx_events.specs.GroupConfigs.{AddsVolume, ConfigLoses, StateOpens, VolumeGoesBy, VolumeStays}
 use Rattle.vx_events.specs.GroupMaps.{MapsAdded, MapsFirst, MapsLost, MapsOfDoubt, MapsOfWrite, MapsRecovered, StoppedClean, WithMaps}
 use Rattle.vx_events.specs.GroupViews.{config_of}
 
@@ -26,6 +26,7 @@ no_note = record {
   others = λ v b. [];
   cut = None;
   maps = no_maps;
+  inside = λ v. false;
 }
 
 abbrev pub note_at : Node → GroupNode
@@ -69,6 +70,7 @@ pub record FirstNote (s disks blocks : ℕ) (fails : Fails) (new : GroupNode) : 
   pub others : (v b : ℕ) → new.others v b ≡ []
   pub cut : new.cut ≡ None
   pub maps : MapsFirst new
+  pub inside : (v : ℕ) → new.inside v ≡ false
 
 -- ---- volumes
 
@@ -116,7 +118,8 @@ pub record NotesCut (s : ℕ) (fails : Fails) (x : Write) (note new : GroupNode)
 
 -- A group came up from its disks: of all disks of its site, which are held as good but for those on which a call failed. Of disks that may not have
 -- agreed nothing may be known then. Where contents are known the volumes that were noted are there but for the states of their plexes, and each block has
--- what it had and might have, or one of these values: one of these where imports agreed and nothing was begun, but in a volume that stopped cleanly.
+-- what it had and might have, or one of these values. Where imports agreed and nothing was begun there are no other volumes, each plex that took part does but
+-- for calls that failed, and each block has one of these values, but in a volume that stopped cleanly.
 pub record NotesBack (told : Type 0) (s : ℕ) (n : Node) (fails : Fails) (note new : GroupNode) : Type 0 where
   pub old : Config
   pub now : Config
@@ -132,14 +135,18 @@ pub record NotesBack (told : Type 0) (s : ℕ) (n : Node) (fails : Fails) (note 
   pub size : (v : ℕ) → new.bytes.size v ≡ blocks_of now.volumes v
   pub block : (v b : ℕ) → ((new.bytes.block v b ≡ note.bytes.block v b) × (new.others v b ≡ note.others v b)) ⊎ (new.others v b ≡ [])
   pub may : IsKnown told new → (v b : ℕ) → b < note.bytes.size v → BlockMay note v b (new.bytes.block v b)
+  pub opens : IsKnown told new → note.loose ≡ false → note.begun ≡ [] → (v : ℕ) → Matched (VolumeGoesBy (StateOpens s fails)) (slice_get old.volumes v) (slice_get now.volumes v)
+  pub parts : IsKnown told new → note.loose ≡ false → note.begun ≡ [] → (now.site ≡ old.site) × (now.rvg ≡ old.rvg)
   pub one : IsKnown told new → note.loose ≡ false → note.begun ≡ [] → (v b : ℕ) → b < new.bytes.size v → (new.others v b ≡ []) ⊎ StoppedClean old v
   pub cut : new.cut ≡ None
+  pub inside : new.inside ≡ note.inside
 
--- the same where what is kept of a write that was cut is still to be read
+-- the same where a write was cut, and what is kept of it is still to be read
 pub record NotesUnread (told : Type 0) (s : ℕ) (n : Node) (fails : Fails) (note new : GroupNode) : Type 0 where
   pub middle : GroupNode
   pub back : NotesBack told s n fails note middle
   pub maps : IsKnown told middle → MapsRecovered note middle
+  pub cut : note.cut ≡ None → ⊥
   pub is : new ≡ record middle { cut = note.cut }
 
 -- a recovery or an import was refused: nothing changes, or it is not known any more what the disks hold

@@ -25,6 +25,16 @@ pub mod LinksFit
 pub mod Lists
 pub mod Parts
 pub mod Plain
+pub mod RvgBack
+pub mod RvgFits
+pub mod RvgLinks
+pub mod RvgMakes
+pub mod RvgNotes
+pub mod RvgOver
+pub mod RvgParts
+pub mod RvgSteps
+pub mod RvgViews
+pub mod RvgWorks
 pub mod Sayings
 pub mod Sent
 pub mod Settles

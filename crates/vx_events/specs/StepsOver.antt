@@ -2,7 +2,7 @@
 -- without groups it is what a line does there.
 use Rattle.std.specs.Prelude.{◌≡◌, ◌⊎◌, ℕ, Bool, true, false, List, length, Option, Some, None, if◌then◌else◌}
 use Rattle.vx_model.specs.declared.no.No.{No}
-use Rattle.vx_model.specs.declared.site.SiteState.TheVariants.{Bare}
+use Rattle.vx_model.specs.declared.site.SiteState.TheVariants.{Bare, Up}
 use Rattle.vx_history.specs.Doubts.{Doubted}
 use Rattle.vx_history.specs.Groups.{GroupNode}
 use Rattle.vx_history.specs.World.{Node, World}
@@ -91,13 +91,14 @@ abbrev pub ShowsNoCut : Said → Type 0
 ShowsNoCut (Resumed view kept) = kept ≡ None
 ShowsNoCut other = Unit {0}
 
--- a recovery of a bare site, of whose disks nothing is told, found a group that was kept on them
+-- a recovery of a bare site, of whose disks nothing is told, found a group that was kept on them, and it came up
 pub record FindsKept (told : Type 0) (d : Doubted) (line : ScriptLine) (s : ℕ) (fails : Fails) (said : Said) (new : Doubted) : Type 0 where
   pub untold : told → ⊥
   pub site : List ℕ
   pub recovers : line ≡ Recover site
   pub bare : (d.world.nodes s).state ≡ Bare
   pub shows : ShowsNoCut said
+  pub up : (new.world.nodes s).state ≡ Up
   pub ends : GroupEnds told d line s fails said new
 
 -- a line that no test refuses: one that works on a group, or another

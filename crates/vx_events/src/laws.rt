@@ -1,5 +1,5 @@
 // What the tests of a line and those of its event have to do with each other.
-ghost use Rattle.std.specs.Prelude.{◌≡◌, ◌⊎◌, ◌+◌, ◌*◌, ◌<◌, ◌≤◌, ℕ, List, [], Bool, true, false, None, length, min, replicate, IsTrue};
+ghost use Rattle.std.specs.Prelude.{◌≡◌, ◌⊎◌, ◌+◌, ◌*◌, ◌<◌, ◌≤◌, ℕ, List, [], Bool, true, false, None, Some, length, min, replicate, IsTrue};
 ghost use Rattle.vx_model.specs.Content.{Write, blocks_from};
 ghost use Rattle.vx_model.specs.Sites.{is_origin};
 ghost use Rattle.vx_model.specs.declared.limits.TheConstants.{MOST_NUMBER};
@@ -8,22 +8,35 @@ ghost use Rattle.vx_history.specs.Admission.{Goes};
 ghost use Rattle.vx_history.specs.Events.{admitted};
 ghost use Rattle.vx_history.specs.Doubts.{Doubted};
 ghost use Rattle.vx_history.specs.Step.{step, joined_blocks};
-ghost use Rattle.vx_history.specs.World.{World};
+ghost use Rattle.vx_history.specs.Groups.{GroupNode};
+ghost use Rattle.vx_history.specs.World.{Node, World};
 ghost use Rattle.vx_history.specs.declared.event.Event.TheVariants.{Site as MakeSite, Raw as MakeRaw, Write as WriteAt, Read as ReadAt, Apply as ApplyAt, Crash as CrashAt};
 ghost use Rattle.vx_history.specs.declared.event.Said.TheVariants.{Done, DoneAt, Got};
 ghost use Rattle.vx_order.specs.Order.{line_refusal};
 ghost use Rattle.vx_script.specs.declared.line.ScriptLine.{ScriptLine};
-ghost use Rattle.vx_script.specs.declared.line.ScriptLine.TheVariants.{Site, Raw, Crash, Write as WriteLine, Put, Read, Show, Apply};
+ghost use Rattle.vx_script.specs.declared.line.ScriptLine.TheVariants.{Site, Raw, Crash, Rvg, Write as WriteLine, Put, Read, Show, Apply};
 ghost use Rattle.vx_events.specs.Facts.{facts_of, site_number, volume_number};
-ghost use Rattle.vx_events.specs.GroupEnds.{GroupEnds, GroupStops};
-ghost use Rattle.vx_events.specs.GroupNotes.{note_at};
+ghost use Rattle.vx_events.specs.GroupEnds.{BringsUp, GroupEnds, GroupStops};
+ghost use Rattle.vx_events.specs.GroupNotes.{IsKnown, NotesBack, note_at};
 ghost use Rattle.vx_events.specs.Known.{MayDarken};
+ghost use Rattle.vx_config.specs.declared.config.Config.{Config};
+ghost use Rattle.vx_events.specs.GroupViews.{config_of};
+ghost use Rattle.vx_events.specs.RvgFits.{FitsNoted, FitsSome, MayGetRvg, NoteKeepsRvg, rvg_noted};
+ghost use Rattle.vx_events.specs.RvgBack.{RvgBack};
+ghost use Rattle.vx_events.specs.RvgWorks.{AgreesOr, FuseRanOut, NoneFailed, NoteAgrees};
+ghost use Rattle.vx_events.specs.declared.said.Said.TheVariants.{Done as SaysDone};
+ghost use Rattle.vx_events.specs.RvgLinks.{AllKnown, LinksOver};
+ghost use Rattle.vx_events.specs.RvgMakes.{MakesRvg, RvgStops};
+ghost use Rattle.vx_events.specs.RvgOver.{OpensFor, OverRvg};
+ghost use Rattle.vx_events.specs.RvgParts.{RvgShort};
+ghost use Rattle.vx_events.specs.RvgSteps.{AgreeFor, FoundPlain, HasNoRvgs, MakesNoRvg, StepFull, refused_full};
+ghost use Rattle.vx_events.specs.RvgViews.{is_over_rvg};
 ghost use Rattle.vx_events.specs.Fails.{AreBorne, Fails};
 ghost use Rattle.vx_events.specs.Lines.{LineStep, is_of_links};
 ghost use Rattle.vx_events.specs.Lists.{Choice};
 ghost use Rattle.vx_events.specs.Parts.{DonePart, FellFirst, ReadFirst, StopsShort, first_part, goes_in_parts, may_stop};
 ghost use Rattle.vx_events.specs.Plain.{HasNoGroups, IsUnlinked, IsSizedAs};
-ghost use Rattle.vx_events.specs.StepsOver.{MakesNoGroup, StepOver, is_for_group};
+ghost use Rattle.vx_events.specs.StepsOver.{MakesNoGroup, StepOver, group_place, is_for_group};
 ghost use Rattle.vx_events.specs.Stopping.{StopsBy};
 ghost use Rattle.vx_events.specs.declared.said.Said.{Said};
 
@@ -85,6 +98,71 @@ pub fn known_disks_stay_known()
         → (note_at (d.world.nodes s)).dark ≡ false → (MayDarken (note_at (d.world.nodes s)) line said → ⊥) → (note_at (new.world.nodes s)).dark ≡ false }
 {}
 
+/// The same of a group with a replicated volume group; and a line that makes one leaves it known.
+pub fn known_rvgs_stay_known()
+    ensures over { (d : Doubted) (line : ScriptLine) (s : ℕ) (fails : Fails) (said : Said) (new : Doubted) → OverRvg (Unit {0}) d line s fails said new
+        → (note_at (d.world.nodes s)).dark ≡ false → (MayDarken (note_at (d.world.nodes s)) line said → ⊥) → (note_at (new.world.nodes s)).dark ≡ false }
+    ensures makes { (d : Doubted) (line : ScriptLine) (s : ℕ) (fails : Fails) (said : Said) (new : Doubted) → MakesRvg (Unit {0}) d line s fails said new
+        → (note_at (d.world.nodes s)).dark ≡ false → (note_at (new.world.nodes s)).dark ≡ false }
+{}
+
+/// A line that makes a replicated volume group of volumes of a disk group ends as events of the world do, from a world on that differs in
+/// what its site notes of the group.
+pub fn rvg_lines_are_events()
+    ensures { (tells : Bool) (d : Doubted) (line : ScriptLine) (s : ℕ) (fails : Fails) (said : Said) (new : Doubted) → MakesRvg (IsTrue tells) d line s fails said new
+        → RvgStops d new }
+{}
+
+/// Where it is done its site has the replicated volume group of the configuration; and where no test refused the line, its units are volumes of the group.
+pub fn made_rvgs_fit()
+    ensures fits { (tells : Bool) (d : Doubted) (line : ScriptLine) (s : ℕ) (fails : Fails) (said : Said) (new : Doubted) (c : Config) → MayGetRvg d.world s
+        → MakesRvg (IsTrue tells) d line s fails said new → said ≡ SaysDone → config_of (note_at (new.world.nodes s)).config ≡ Some c → FitsSome (new.world.nodes s) c }
+    ensures noted { (tells files : Bool) (d : Doubted) (site srl maps : List ℕ) (volumes : List (List ℕ)) (fails : Fails) (said : Said) (new : Doubted)
+        → MayGetRvg d.world (site_number d.world site) → refused_full d.world files (Rvg site srl maps volumes) ≡ None
+        → MakesRvg (IsTrue tells) d (Rvg site srl maps volumes) (site_number d.world site) fails said new → said ≡ SaysDone
+        → FitsNoted (new.world.nodes (site_number d.world site)) }
+{}
+
+/// So does each line at a site over a group of disks with a replicated volume group, and each of links of such a site, where it is known what the disks hold; of one
+/// that brings the site up, where imports agree, or it is known behind it too.
+pub fn lines_over_rvgs_are_events()
+    ensures over { (d : Doubted) (line : ScriptLine) (s : ℕ) (fails : Fails) (said : Said) (new : Doubted) → OpensFor d.world line
+        → (note_at (d.world.nodes s)).dark ≡ false → (BringsUp line → AgreesOr (note_at (d.world.nodes s)) (note_at (new.world.nodes s))) → OverRvg (Unit {0}) d line s fails said new
+        → RvgStops d new }
+    ensures links { (d : Doubted) (line : ScriptLine) (fails : Fails) (said : Said) (new : Doubted) → AllKnown (Unit {0}) d.world line
+        → LinksOver (Unit {0}) d line fails said new → RvgStops d new }
+{}
+
+/// So does what want of memory leaves of a recovery or an import of such a site, or of a line that makes a replicated volume group.
+pub fn rvg_shorts_are_events()
+    ensures { (tells : Bool) (d : Doubted) (line : ScriptLine) (s : ℕ) (new : Doubted) → RvgShort (IsTrue tells) d line s new → RvgStops d new }
+{}
+
+/// Where no call of a line failed at such a site, and its fuse did not run out, imports of its group agree behind the line as before, and nothing is begun. So do they
+/// behind a line of links.
+pub fn quiet_rvgs_stay_agreed()
+    ensures over { (d : Doubted) (line : ScriptLine) (s : ℕ) (fails : Fails) (said : Said) (new : Doubted) → NoneFailed s fails
+        → (FuseRanOut (d.world.nodes s) said → ⊥) → (note_at (d.world.nodes s)).dark ≡ false → NoteAgrees (note_at (d.world.nodes s))
+        → OverRvg (Unit {0}) d line s fails said new → NoteAgrees (note_at (new.world.nodes s)) }
+    ensures links { (tells : Bool) (d : Doubted) (line : ScriptLine) (fails : Fails) (said : Said) (new : Doubted) → LinksOver (IsTrue tells) d line fails said new
+        → (i : ℕ) → is_over_rvg (d.world.nodes i) ≡ true → NoneFailed i fails → (FuseRanOut (d.world.nodes i) said → ⊥) → NoteAgrees (note_at (d.world.nodes i))
+        → NoteAgrees (note_at (new.world.nodes i)) }
+{}
+
+/// However a line at such a site ends, the configuration that the site notes has the replicated volume group that it had, and the volumes that it had with their names
+/// and their blocks, as long as it is known what the disks hold. So has it behind a line of links, and behind a recovery or an import that found what is noted. It did where it is
+/// known what the disks hold, and the group came up with the same replicated volume group.
+pub fn rvgs_stay_noted()
+    ensures over { (d : Doubted) (line : ScriptLine) (s : ℕ) (fails : Fails) (said : Said) (new : Doubted) → is_over_rvg (d.world.nodes s) ≡ true
+        → OverRvg (Unit {0}) d line s fails said new → (note_at (new.world.nodes s)).dark ≡ false → NoteKeepsRvg (note_at (d.world.nodes s)) (note_at (new.world.nodes s)) }
+    ensures back { (tells : Bool) (d : Doubted) (line : ScriptLine) (s : ℕ) (fails : Fails) (said : Said) (new : Doubted) → is_over_rvg (d.world.nodes s) ≡ true
+        → RvgBack (IsTrue tells) d line s fails said new → NoteKeepsRvg (note_at (d.world.nodes s)) (note_at (new.world.nodes s)) }
+    ensures found { (tells : Bool) (s : ℕ) (n : Node) (fails : Fails) (note middle : GroupNode) → IsKnown (IsTrue tells) middle → rvg_noted middle ≡ rvg_noted note
+        → NotesBack (IsTrue tells) s n fails note middle → NoteKeepsRvg note middle }
+    ensures links { (tells : Bool) (d : Doubted) (line : ScriptLine) (fails : Fails) (said : Said) (new : Doubted) → LinksOver (IsTrue tells) d line fails said new
+        → (i : ℕ) → is_over_rvg (d.world.nodes i) ≡ true → NoteKeepsRvg (note_at (d.world.nodes i)) (note_at (new.world.nodes i)) }
+{}
+
 /// In a world without groups of disks, over disks that tell their contents, a line that makes none does what it does there. A line that works on a group, and is refused or not, ends as
 /// events of the world do.
 pub fn steps_over_groups()
@@ -94,6 +172,23 @@ pub fn steps_over_groups()
         → StepOver (IsTrue tells) files d line fails said new → LineStep (IsTrue tells) files d line fails said new }
     ensures stops { (tells files : Bool) (d : Doubted) (line : ScriptLine) (fails : Fails) (said : Said) (new : Doubted) → is_for_group d.world line ≡ true
         → StepOver (IsTrue tells) files d line fails said new → GroupStops d new }
+{}
+
+/// However a line ends that is refused or not, in worlds in which sites are over groups of disks with replicated volume groups or without: it ends as events of the
+/// world do, where it is known what the disks of groups hold, and imports agree of a group that the line brings up, or it is known behind the line too what its disks
+/// hold.
+pub fn full_lines_are_events()
+    ensures { (files : Bool) (d : Doubted) (line : ScriptLine) (fails : Fails) (said : Said) (new : Doubted) → AgreeFor d.world line new.world
+        → StepFull (Unit {0}) files d line fails said new → RvgStops d new }
+{}
+
+/// In a world in which no site is over a group of disks with a replicated volume group, a line that makes none does what it does there. Only one that brings a group
+/// up may find one, which another line had begun to make.
+pub fn steps_over_rvgs()
+    ensures full { (tells files : Bool) (d : Doubted) (line : ScriptLine) (fails : Fails) (said : Said) (new : Doubted) → HasNoRvgs d.world → MakesNoRvg line
+        → FoundPlain line (group_place d.world line) new → StepOver (IsTrue tells) files d line fails said new → StepFull (IsTrue tells) files d line fails said new }
+    ensures over { (tells files : Bool) (d : Doubted) (line : ScriptLine) (fails : Fails) (said : Said) (new : Doubted) → HasNoRvgs d.world → MakesNoRvg line
+        → (BringsUp line → ⊥) → StepFull (IsTrue tells) files d line fails said new → StepOver (IsTrue tells) files d line fails said new }
 {}
 
 /// Only of the line's own site may a call fail in a line that is done, and only where it is over a group: at a raw set no call failed in it.

@@ -13,7 +13,7 @@ pub enum Said {
     Shown(SiteView),
     /// The last number of the log that a site came up with, and how the site stands.
     Recovered(u64, SiteView),
-    /// How a site without a replicated volume group stands that came up, and what is kept of a write that its crash cut.
+    /// How a site over a group of disks stands that came up, and what is kept of a write that its crash cut.
     Resumed(SiteView, Option<Kept>),
     /// The number of a write that some link has to confirm.
     Logged(u64),

@@ -24,7 +24,7 @@ use Rattle.vx_layout.specs.Places.{place}
 use Rattle.vx_volume.specs.Plexes.{DisksFit, Inside, SomeActive, active}
 use Rattle.vx_kept.specs.Commits.{Member, MissedCommit, Taken}
 use Rattle.vx_kept.specs.Groups.{group_meaning}
-use Rattle.vx_kept.specs.Finds.{FindsFrom, NoConfiguration}
+use Rattle.vx_kept.specs.Finds.{FindsFrom, NoConfiguration, IsTryOf}
 use Rattle.vx_kept.specs.Keeping.{Acts, AllOn, MayBeNext, IsTidy, Kept, Sees}
 use Rattle.vx_kept.proofs.Chosen.{active_volumes, alike_shape, place_volumes, same_extends}
 use Rattle.vx_kept.proofs.Lasting.{low_Acts}
@@ -43,6 +43,9 @@ use Rattle.vx_group.specs.declared.inner.Inner.{Inner}
 use Rattle.vx_group.proofs.DetachLemmas.{some_good, stop_sure}
 use Rattle.vx_group.proofs.LongerLemmas.{active_more, blocks_last, blocks_more, last_some, longer_count, longer_follows, longer_on}
 use Rattle.vx_group.proofs.Standing.{apart_of_core, can_of, fit_of, kept_of, low_Stands, low_finds, made, still_large, tidy_of}
+use Rattle.vx_group.specs.Settles.{KeepsAlike}
+use Rattle.vx_group.proofs.SettleFinds.{NoMoreLeft, alike_tried}
+use Rattle.vx_group.proofs.SettleCalls.{alike_behind, less_acts}
 
 module _ (core : Inner) (next : Config) (m : Meaning) (stands : InnerStands core m) (is_next : IsNextConfig core.config next) where
   abbrev n : ℕ
@@ -126,6 +129,22 @@ module _ (core : Inner) (next : Config) (m : Meaning) (stands : InnerStands core
 
     pub zero_finds : FindsFrom NoConfiguration m m1
     zero_finds = low_finds core (ZerosOn next n) m m1 goes zeros_high before mid stands
+
+    -- no more is left of plexes that are ACTIVE
+    zero_less : NoMoreLeft core.config m m1
+    zero_less = record {
+      each = λ w p b x is_on in_it left. ⊎_elim (λ was. was) (λ put. absurd (zeros_off w p b x in_it is_on put)) (goes.leaves _ _ x left);
+    }
+
+    pub zero_alike : KeepsAlike m m1
+    zero_alike = record { alike = alike_behind core.config (Member core.good m) m m1 stands.kept zero_less zero_finds }
+
+    -- nor behind a commit that is refused
+    pub left_alike : (m2 : Meaning) → Acts Nothing (Sees core.config (Member core.good m1) m1) m1 m2 → FindsFrom (IsTryOf next) m1 m2 → KeepsAlike m m2
+    left_alike m2 acts tries = record {
+      alike = λ was v.
+          alike_tried core.config (Member core.good m1) m1 m2 zero_Stands.kept (less_acts core.config (Sees core.config (Member core.good m1) m1) m1 m2 (apart_of_core core m1 zero_Stands) acts) v (zero_alike.alike was v) next next_on tries;
+    }
 
     zero_acts : Acts (ZerosOn next n) (Sees core.config (Member core.good m) m) m m1
     zero_acts = low_Acts core.config (Member core.good m) m m1 (ZerosOn next n) goes zeros_high before mid (kept_of core m stands)

@@ -21,6 +21,7 @@ use Rattle.vx_group.specs.declared.inner.Inner.{Inner}
 use Rattle.vx_group.proofs.CallLemmas.{narrows_Goes}
 use Rattle.vx_group.proofs.HoldLemmas.{back_rest, wide_none}
 use Rattle.vx_group.proofs.LoseLemmas.{then_parts}
+use Rattle.vx_group.specs.Settles.{CoreSettles}
 
 module _ (c d : GroupCore) (e : Inner) (m m' : Meaning) (none : c.held ≡ None) (is : wide d ≡ e) where
   pub alone_attaches : (v p : ℕ) (f : Option Missed) → Attaches v p f c.inner e m m' → SameShape d.inner.config e.config → ((w q : ℕ) → (w ≡ v → q ≡ p → ⊥) → active d.inner.config w q ≡ active e.config w q) → SameParts e.config d.inner.config → GroupAttaches v p f c d m m'
@@ -36,6 +37,9 @@ module _ (c d : GroupCore) (e : Inner) (m m' : Meaning) (none : c.held ≡ None)
 
   pub alone_core : CoreFinds c.inner e m m' → CoreFinds (wide c) (wide d) m m'
   alone_core finds = subst (λ (i : Inner). CoreFinds (wide c) i m m') (sym is) (subst (λ (i : Inner). CoreFinds i e m m') (sym (wide_none c none)) finds)
+
+  pub alone_told : CoreSettles c.inner e m m' → CoreSettles (wide c) (wide d) m m'
+  alone_told told = subst (λ (i : Inner). CoreSettles (wide c) i m m') (sym is) (subst (λ (i : Inner). CoreSettles i e m m') (sym (wide_none c none)) told)
 
 -- the disks are those of before
 pub back_failing : (v p : ℕ) (c d : GroupCore) → c.held ≡ None → HeldBack v p c d → (ds : List DiskEntry) (m m' : Meaning) → MoreFailed m m' ds c.inner.config.disks → MoreFailed m m' ds d.inner.config.disks

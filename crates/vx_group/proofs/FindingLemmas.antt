@@ -1,15 +1,18 @@
 -- Which configurations images have behind calls in a row.
-use Rattle.std.proofs.Common.{◌≡◌, inl, inr, ⊎_elim, true, false, Option, None, List, [], ◌∷◌, ◌++◌, refl, ap, sym, ◌∙◌}
+use Rattle.std.proofs.Common.{◌≡◌, inl, inr, ⊎_elim, true, false, IsTrue, Option, None, List, [], ◌∷◌, ◌++◌, refl, ap, sym, ◌∙◌}
 use Rattle.std.proofs.lemmas.Bool.{both_ways}
 use Rattle.vx_disk.specs.Shelf.{Goes, Lawful, Meaning, Nothing}
 use Rattle.vx_config.specs.declared.config.Config.{Config}
 use Rattle.vx_kept.specs.Cleans.{at_serial}
-use Rattle.vx_kept.specs.Commits.{IsCommitted}
+use Rattle.vx_kept.specs.Commits.{IsCommitted, Member}
 use Rattle.vx_kept.specs.Finds.{AllAtOnce, FindsFrom, IsTryAmong, IsTryOf, NoConfiguration}
 use Rattle.vx_kept.proofs.Findings.{first_tries, last_tries, newest_at, same_from, then_from, wider_from}
 use Rattle.vx_kept.proofs.Trusting.{less_finds}
-use Rattle.vx_group.specs.Finds.{CoreEnds, CoreFinds, FindsStill, GroupFinds, MissesOpenly}
+use Rattle.vx_group.specs.Finds.{CoreEnds, CoreFinds, FindsStill, GroupFinds, GroupImages, MissesOpenly, MoreUnsure}
 use Rattle.vx_group.specs.Holding.{config_by, wide}
+use Rattle.vx_group.specs.Stands.{InnerStands}
+use Rattle.vx_group.proofs.SettleCalls.{idle_told, quiet_told, same_told, then_told}
+use Rattle.vx_group.proofs.SettleFinds.{NoMoreLeft}
 use Rattle.vx_group.specs.declared.group_core.Held.{Held}
 use Rattle.vx_group.specs.declared.group_core.GroupCore.{GroupCore}
 use Rattle.vx_group.specs.declared.inner.Inner.{Inner}
@@ -135,19 +138,42 @@ quiet_finds m m' law law' goes = less_finds m m' law law' goes.units goes.size g
 -- ---- a whole group
 
 pub still_group : (c : GroupCore) (m : Meaning) → GroupFinds c c m m
-still_group c m = record { core = none_finds (wide c) m; free = λ none. none }
+still_group c m = record { core = none_finds (wide c) m; settles = same_told (wide c) m; unsure = λ v is. is; free = λ none. none }
 
 pub then_group : (c d e : GroupCore) (m m1 m2 : Meaning) → GroupFinds c d m m1 → GroupFinds d e m1 m2 → GroupFinds c e m m2
-then_group c d e m m1 m2 one two = record { core = then_finds (wide c) (wide d) (wide e) m m1 m2 one.core two.core; free = λ none. two.free (one.free none) }
+then_group c d e m m1 m2 one two = record {
+  core = then_finds (wide c) (wide d) (wide e) m m1 m2 one.core two.core;
+  settles = then_told (wide c) (wide d) (wide e) m m1 m2 one.settles two.settles;
+  unsure = λ v is. one.unsure v (two.unsure v is);
+  free = λ none. two.free (one.free none);
+}
 
--- no image has another configuration, and memory has what it had
-pub idle_group : (c : GroupCore) (m m' : Meaning) → FindsFrom NoConfiguration m m' → GroupFinds c c m m'
-idle_group c m m' finds = record { core = stays_finds (wide c) (wide c) m m' refl refl refl finds; free = λ none. none }
+-- its configurations
+pub images_of : (c d : GroupCore) (m m' : Meaning) → GroupFinds c d m m' → GroupImages c d m m'
+images_of c d m m' finds = record { core = finds.core; free = finds.free }
+
+pub still_images : (c : GroupCore) (m : Meaning) → GroupImages c c m m
+still_images c m = images_of c c m m (still_group c m)
+
+pub then_images : (c d e : GroupCore) (m m1 m2 : Meaning) → GroupImages c d m m1 → GroupImages d e m1 m2 → GroupImages c e m m2
+then_images c d e m m1 m2 one two = record { core = then_finds (wide c) (wide d) (wide e) m m1 m2 one.core two.core; free = λ none. two.free (one.free none) }
+
+-- no image has another configuration, and memory has what it had; no plex that is ACTIVE is written
+pub idle_group : (c : GroupCore) (m m' : Meaning) → InnerStands (wide c) m → NoMoreLeft (wide c).config m m' → (IsTrue m.down → IsTrue m'.down) → FindsFrom NoConfiguration m m' → GroupFinds c c m m'
+idle_group c m m' stands less falls finds = record {
+  core = stays_finds (wide c) (wide c) m m' refl refl refl finds;
+  settles = quiet_told (wide c) (wide c) m m' refl refl finds (Member (wide c).good m) stands.kept less falls;
+  unsure = λ v is. is;
+  free = λ none. none;
+}
 
 -- the same where marks of volumes changed
-pub marked_group : (c d : GroupCore) (m m' : Meaning) → d.inner.config ≡ c.inner.config → d.held ≡ c.held → d.inner.committed ≡ c.inner.committed → d.inner.unsettled ≡ c.inner.unsettled → FindsFrom NoConfiguration m m' → GroupFinds c d m m'
-marked_group c d m m' config held committed unsettled finds = record {
+pub marked_group : (c d : GroupCore) (m m' : Meaning) → InnerStands (wide c) m → Goes Nothing m m' → d.inner.config ≡ c.inner.config → d.held ≡ c.held → d.inner.committed ≡ c.inner.committed → d.inner.unsettled ≡ c.inner.unsettled → MoreUnsure c.inner.unsure d.inner.unsure → FindsFrom NoConfiguration m m' → GroupFinds c d m m'
+marked_group c d m m' stands goes config held committed unsettled more finds = record {
+  settles =
+      idle_told (wide c) (wide d) (Member (wide c).good m) m m' (ap (λ (x : Config). (config_by d.held x).serial) config ∙ ap (λ (o : Option Held). (config_by o c.inner.config).serial) held) unsettled stands.kept goes finds;
   core = stays_finds (wide c) (wide d) m m' (ap (λ (x : Config). at_serial 0 (config_by d.held x)) config ∙ ap (λ (o : Option Held). at_serial 0 (config_by o c.inner.config)) held) committed unsettled finds;
+  unsure = more;
   free = λ none. held ∙ none;
 }
 

@@ -3,19 +3,33 @@ use Rattle.std.proofs.Common.{◌≡◌, ◌⊎◌, inl, inr, true, false, Optio
 use Rattle.std.proofs.lemmas.Bool.{both_ways}
 use Rattle.vx_disk.specs.Shelf.{Meaning}
 use Rattle.vx_config.specs.declared.entry.DiskEntry.{DiskEntry}
-use Rattle.vx_group.specs.Finds.{CoreEnds, CoreFinds, GroupFinds, HeadersMissed}
+use Rattle.vx_group.specs.Finds.{CoreEnds, CoreFinds, GroupFinds, GroupImages, HeadersMissed, MoreUnsure}
 use Rattle.vx_group.specs.Holding.{HeldAgain, wide}
+use Rattle.vx_group.specs.Settles.{CoreSettles}
 use Rattle.vx_group.specs.declared.group_core.GroupCore.{GroupCore}
 use Rattle.vx_group.specs.declared.group_core.Held.{Held}
 use Rattle.vx_group.specs.declared.inner.Inner.{Inner}
 use Rattle.vx_group.proofs.FindingLemmas.{ends_finds, open_finds, then_finds}
 use Rattle.vx_group.proofs.HoldLemmas.{wide_none}
+use Rattle.vx_group.proofs.SettleCalls.{then_told}
+use Rattle.vx_kept.specs.Cleans.{is_unsure}
 
 -- ---- behind the commit that detaches the plex that is held back
 
 -- where none is held back
-pub second_finds : (c0 mid : GroupCore) (d : Inner) (m m1 m2 : Meaning) → mid.held ≡ None → GroupFinds c0 mid m m1 → CoreFinds mid.inner d m1 m2 → GroupFinds c0 (record { inner = d; held = mid.held }) m m2
-second_finds c0 mid d m m1 m2 none first second = record {
+pub second_finds : (c0 mid : GroupCore) (d : Inner) (m m1 m2 : Meaning) → mid.held ≡ None → GroupFinds c0 mid m m1 → CoreFinds mid.inner d m1 m2 → CoreSettles mid.inner d m1 m2
+    → MoreUnsure mid.inner.unsure d.unsure → GroupFinds c0 (record { inner = d; held = mid.held }) m m2
+second_finds c0 mid d m m1 m2 none first second told more = record {
+  unsure = λ v is. first.unsure v (more v is);
+  settles = subst (λ (i : Inner). CoreSettles (wide c0) i m m2) (sym (wide_none (record { inner = d; held = mid.held }) none))
+      (then_told (wide c0) (wide mid) d m m1 m2 first.settles (subst (λ (i : Inner). CoreSettles i d m1 m2) (sym (wide_none mid none)) told));
+  core = subst (λ (i : Inner). CoreFinds (wide c0) i m m2) (sym (wide_none (record { inner = d; held = mid.held }) none))
+      (then_finds (wide c0) (wide mid) d m m1 m2 first.core (subst (λ (i : Inner). CoreFinds i d m1 m2) (sym (wide_none mid none)) second));
+  free = λ h. first.free h;
+}
+
+pub second_images : (c0 mid : GroupCore) (d : Inner) (m m1 m2 : Meaning) → mid.held ≡ None → GroupFinds c0 mid m m1 → CoreFinds mid.inner d m1 m2 → GroupImages c0 (record { inner = d; held = mid.held }) m m2
+second_images c0 mid d m m1 m2 none first second = record {
   core = subst (λ (i : Inner). CoreFinds (wide c0) i m m2) (sym (wide_none (record { inner = d; held = mid.held }) none))
       (then_finds (wide c0) (wide mid) d m m1 m2 first.core (subst (λ (i : Inner). CoreFinds i d m1 m2) (sym (wide_none mid none)) second));
   free = λ h. first.free h;
@@ -23,8 +37,11 @@ second_finds c0 mid d m m1 m2 none first second = record {
 
 -- where one may be
 pub through_finds : (c0 mid c2 new : GroupCore) (x e : Inner) (m m1 m2 : Meaning) → x ≡ wide mid → wide new ≡ e → (held : Option Held) → held ≡ mid.held → c2.held ≡ None → HeldAgain held c2 new → GroupFinds c0 mid m m1 → CoreFinds x e m1 m2
-    → GroupFinds c0 new m m2
-through_finds c0 mid c2 new x e m m1 m2 x_is e_is held held_is none again first second = record {
+    → CoreSettles x e m1 m2 → MoreUnsure x.unsure e.unsure → GroupFinds c0 new m m2
+through_finds c0 mid c2 new x e m m1 m2 x_is e_is held held_is none again first second told more = record {
+  unsure = λ v is. first.unsure v (ap (λ (i : Inner). is_unsure i.unsure v) (sym x_is) ∙ more v (ap (λ (i : Inner). is_unsure i.unsure v) (sym e_is) ∙ is));
+  settles = subst (λ (i : Inner). CoreSettles (wide c0) i m m2) (sym e_is)
+      (then_told (wide c0) (wide mid) e m m1 m2 first.settles (subst (λ (i : Inner). CoreSettles i e m1 m2) x_is told));
   core = subst (λ (i : Inner). CoreFinds (wide c0) i m m2) (sym e_is)
       (then_finds (wide c0) (wide mid) e m m1 m2 first.core (subst (λ (i : Inner). CoreFinds i e m1 m2) x_is second));
   free = λ h. by held again (held_is ∙ first.free h);
@@ -35,8 +52,10 @@ through_finds c0 mid c2 new x e m m1 m2 x_is e_is held held_is none again first 
     by (Some h) at is = absurd (let clash : Some h ≡ None = is in cc)
 
 -- a call of the parts of a group of which no plex is held back
-pub alone_finds : (c d : GroupCore) (m m' : Meaning) → c.held ≡ None → d.held ≡ None → CoreFinds c.inner d.inner m m' → GroupFinds c d m m'
-alone_finds c d m m' none still goes = record {
+pub alone_finds : (c d : GroupCore) (m m' : Meaning) → c.held ≡ None → d.held ≡ None → CoreFinds c.inner d.inner m m' → CoreSettles c.inner d.inner m m' → MoreUnsure c.inner.unsure d.inner.unsure → GroupFinds c d m m'
+alone_finds c d m m' none still goes told more = record {
+  unsure = more;
+  settles = subst (λ (i : Inner). CoreSettles (wide c) i m m') (sym (wide_none d still)) (subst (λ (i : Inner). CoreSettles i d.inner m m') (sym (wide_none c none)) told);
   core = subst (λ (i : Inner). CoreFinds (wide c) i m m') (sym (wide_none d still)) (subst (λ (i : Inner). CoreFinds i d.inner m m') (sym (wide_none c none)) goes);
   free = λ h. still;
 }
@@ -70,3 +89,7 @@ module _ (c held d : Inner) (ds : List DiskEntry) (m m' : Meaning) where
 pub ahead_finds : (c0 mid new : GroupCore) (d : Inner) (m m1 m2 : Meaning) → mid.held ≡ None → wide new ≡ d → GroupFinds c0 mid m m1 → CoreFinds mid.inner d m1 m2 → CoreFinds (wide c0) (wide new) m m2
 ahead_finds c0 mid new d m m1 m2 none is first second = subst (λ (i : Inner). CoreFinds (wide c0) i m m2) (sym is)
     (then_finds (wide c0) (wide mid) d m m1 m2 first.core (subst (λ (i : Inner). CoreFinds i d m1 m2) (sym (wide_none mid none)) second))
+
+pub ahead_told : (c0 mid new : GroupCore) (d : Inner) (m m1 m2 : Meaning) → mid.held ≡ None → wide new ≡ d → GroupFinds c0 mid m m1 → CoreSettles mid.inner d m1 m2 → CoreSettles (wide c0) (wide new) m m2
+ahead_told c0 mid new d m m1 m2 none is first told = subst (λ (i : Inner). CoreSettles (wide c0) i m m2) (sym is)
+    (then_told (wide c0) (wide mid) d m m1 m2 first.settles (subst (λ (i : Inner). CoreSettles i d m1 m2) (sym (wide_none mid none)) told))

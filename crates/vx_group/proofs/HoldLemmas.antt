@@ -25,6 +25,7 @@ use Rattle.vx_kept.proofs.StateLemmas.{active_apart, active_off, live_apart, liv
 use Rattle.vx_group.specs.Attaches.{HasOther}
 use Rattle.vx_group.specs.Dets.{any_below, det_refusal, is_other}
 use Rattle.vx_group.specs.Finds.{CoreFinds}
+use Rattle.vx_group.specs.Settles.{CoreSettles}
 use Rattle.vx_group.specs.Holding.{GroupStands, HeldBack, IsHeld, active_at, config_by, wide, with_config}
 use Rattle.vx_group.specs.Moves.{Narrows}
 use Rattle.vx_group.specs.Stands.{InnerStands}
@@ -387,6 +388,10 @@ module _ (c0 : GroupCore) (h : Held) (m : Meaning) (it : GroupStands c0 m) (is :
       pub e_finds : (m' : Meaning) → CoreFinds x e m m' → CoreFinds (wide c0) (wide c3) m m'
       e_finds m' finds =
           subst (λ (i : Inner). CoreFinds (wide c0) i m m') (sym (back_wide h.vol h.plex c2 c3 none back ∙ inner)) (subst (λ (i : Inner). CoreFinds i e m m') x_is finds)
+
+      pub e_told : (m' : Meaning) → CoreSettles x e m m' → CoreSettles (wide c0) (wide c3) m m'
+      e_told m' told =
+          subst (λ (i : Inner). CoreSettles (wide c0) i m m') (sym (back_wide h.vol h.plex c2 c3 none back ∙ inner)) (subst (λ (i : Inner). CoreSettles i e m m') x_is told)
 
       pub e_Stands : (m' : Meaning) → InnerStands e m' → GroupStands c3 m'
       e_Stands m' stands = back_Stands h.vol h.plex c2 c3 none back m' (subst (λ (i : Inner). InnerStands i m') (sym inner) stands)

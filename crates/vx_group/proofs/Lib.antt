@@ -52,4 +52,9 @@ pub mod UnitLemmas
 pub mod MissingLemmas
 pub mod TrustingLemmas
 pub mod TrustStillLemmas
+pub mod SettleFinds
+pub mod SettleCalls
+pub mod SettleMore
+pub mod SettleDeport
+pub mod UnsureMarks
 pub mod UnsureLemmas

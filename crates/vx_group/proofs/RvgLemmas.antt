@@ -24,9 +24,11 @@ use Rattle.vx_kept.proofs.Chosen.{active_volumes, alike_shape}
 use Rattle.vx_kept.proofs.Committed.{take_on}
 use Rattle.vx_kept.proofs.StateLemmas.{same_shape}
 use Rattle.vx_kept.proofs.Steps.{same_Acts}
+use Rattle.vx_kept.proofs.Trusting.{unsaid_trusts}
 use Rattle.vx_kept.specs.Keeping.{Sees}
 use Rattle.vx_group.specs.Calls.{GroupNarrows, members_by}
 use Rattle.vx_group.specs.Dets.{margin}
+use Rattle.vx_group.specs.Finds.{CoreEnds}
 use Rattle.vx_group.specs.Holding.{wide, with_config}
 use Rattle.vx_group.specs.Moves.{Narrows}
 use Rattle.vx_group.specs.Rvgs.{set_rvg_refusal, with_rvg}
@@ -149,3 +151,46 @@ module _ (core : Inner) (rvg : Option Units) where
 pub may_before : (core d : Inner) (m : Meaning) (rvg : Option Units) → InnerStands core m → rvg ≡ core.config.rvg → d.config.volumes ≡ core.config.volumes → group_or_none d.config.volumes rvg ≡ true
 may_before core d m rvg stands is volumes =
     ap (λ (vs : List VolumeEntry). group_or_none vs rvg) volumes ∙ ap (λ (r : Option Units). group_or_none core.config.volumes r) is ∙ group_sound core.config (sound_of core m stands)
+
+-- ---- the group of before, behind a commit that was refused: images may have another one
+
+module _ (core : Inner) (rvg : Option Units) where
+  abbrev pub undone_core : Inner
+  undone_core = record {
+    config = with_rvg rvg core.config;
+    good = core.good;
+    room = core.room;
+    unsettled = core.unsettled;
+    committed = false;
+    agreed = core.agreed;
+    next = core.next;
+    faults = core.faults;
+    unsure = core.unsure;
+  }
+
+  pub undone_Stands : (m : Meaning) → InnerStands core m → group_or_none core.config.volumes rvg ≡ true → InnerStands undone_core m
+  undone_Stands m stands may = let it = rvg_Stands core rvg m stands may in record {
+    wanted = it.wanted;
+    serial = it.serial;
+    disks = it.disks;
+    rvg = it.rvg;
+    few = it.few;
+    small = it.small;
+    large = it.large;
+    on = it.on;
+    some = it.some;
+    kept = it.kept;
+    tidy = it.tidy;
+    trusts = unsaid_trusts core.committed core.agreed core.good m stands.trusts;
+  }
+
+  pub undone_Narrows : (c : Inner) (old m : Meaning) → Narrows c core old m → Narrows c undone_core old m
+  undone_Narrows c old m narrows = let it = rvg_Narrows core rvg c old m narrows in record { acts = it.acts; shape = it.shape; on = it.on; faults = it.faults; unsure = it.unsure }
+
+  pub undone_ends : (old m : Meaning) → CoreEnds core old m → CoreEnds undone_core old m
+  undone_ends old m ends = record {
+    begun = ends.begun;
+    finds = ends.finds;
+    openly = λ is. refl;
+    newest = λ is. let clash : false ≡ true = is in absurd (cc);
+  }

@@ -1,12 +1,13 @@
 -- Which configurations images have behind calls of a group, and whether each has the one in memory.
-use Rattle.std.specs.Prelude.{◌≡◌, ◌⊎◌, true, false, List, None, Result, Ok, Err}
+use Rattle.std.specs.Prelude.{◌≡◌, ◌⊎◌, ℕ, Bool, true, false, List, None, Result, Ok, Err}
 use Rattle.vx_disk.specs.declared.shelf.ShelfError.{ShelfError}
 use Rattle.vx_disk.specs.Shelf.{Meaning}
 use Rattle.vx_model.specs.declared.errors.Stop.{Stop}
 use Rattle.vx_config.specs.declared.config.Config.{Config}
-use Rattle.vx_kept.specs.Cleans.{at_serial}
+use Rattle.vx_kept.specs.Cleans.{at_serial, is_unsure}
 use Rattle.vx_kept.specs.Finds.{AllAtOnce, FindsFrom, IsTryAmong, NoConfiguration}
 use Rattle.vx_group.specs.Holding.{wide}
+use Rattle.vx_group.specs.Settles.{CoreSettles}
 use Rattle.vx_group.specs.declared.group_core.GroupCore.{GroupCore}
 use Rattle.vx_group.specs.declared.inner.Inner.{Inner}
 
@@ -47,12 +48,23 @@ abbrev pub Recommits : {T : Type 0} → Inner → Inner → Meaning → Meaning 
 Recommits c d old new (Ok x) = CoreEnds d old new
 Recommits c d old new (Err error) = HeadersMissed c d old new ⊎ CoreEnds d old new
 
--- the same of a whole group, as the disks may keep it; and no plex is held back where none was
+-- each volume that is unsure is so still
+abbrev pub MoreUnsure : List Bool → List Bool → Type 0
+MoreUnsure old new = (v : ℕ) → is_unsure new v ≡ false → is_unsure old v ≡ false
+
+-- the same of a whole group, as the disks may keep it, with what images say of volumes that stopped cleanly; and no plex is held back where none was
 pub record GroupFinds (c d : GroupCore) (old new : Meaning) : Type 0 where
+  pub core : CoreFinds (wide c) (wide d) old new
+  pub settles : CoreSettles (wide c) (wide d) old new
+  pub unsure : MoreUnsure c.inner.unsure d.inner.unsure
+  pub free : c.held ≡ None → d.held ≡ None
+
+-- the configurations alone
+pub record GroupImages (c d : GroupCore) (old new : Meaning) : Type 0 where
   pub core : CoreFinds (wide c) (wide d) old new
   pub free : c.held ≡ None → d.held ≡ None
 
 -- the same of a group that is given back
 abbrev pub BackFinds : {S G : Type 0} → GroupCore → Meaning → (G → GroupCore) → (G → Meaning) → Result S (G × Stop) → Type 0
 BackFinds c old core meaning (Ok s) = Unit {0}
-BackFinds c old core meaning (Err (g, stop)) = GroupFinds c (core g) old (meaning g)
+BackFinds c old core meaning (Err (g, stop)) = GroupImages c (core g) old (meaning g)

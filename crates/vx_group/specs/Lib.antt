@@ -22,4 +22,5 @@ pub mod Loses
 pub mod Holding
 pub mod Finds
 pub mod Calls
+pub mod Settles
 pub mod Turns

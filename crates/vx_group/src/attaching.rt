@@ -13,6 +13,7 @@ ghost use Rattle.vx_group.specs.GivesUp.{MissesOrHas, NoCommit};
 ghost use Rattle.vx_group.specs.Stands.{InnerStands};
 ghost use Rattle.vx_volume.specs.Copies.{CopyCause};
 ghost use Rattle.vx_volume.specs.Plexes.{active};
+ghost use Rattle.vx_group.specs.Settles.{CoreSettles, EndsSettled, KeepsSettled};
 
 use crate::detaching::{detach, fault_of};
 use crate::inner::Inner;
@@ -153,6 +154,7 @@ fn take_back<S: Shelf>(shelf: &mut S, core: &mut Inner, vol: u32, plex: u32)
     ensures missed { NoCommit core.old (S.meaning shelf.old) → MissesOrHas core.new (S.meaning shelf.new) }
     ensures failing { MoreFailed (S.meaning shelf.old) (S.meaning shelf.new) core.old.config.disks core.new.config.disks }
     ensures finds { CoreFinds core.old core.new (S.meaning shelf.old) (S.meaning shelf.new) }
+    ensures settles { KeepsSettled core.old core.new (S.meaning shelf.old) (S.meaning shelf.new) }
     ensures logs { TrustsStill core.old.config core.new.config }
 {
     if shelf.is_down() {
@@ -193,6 +195,7 @@ fn commit_open<S: Shelf>(
     ensures trust { OnOk result (core.old.committed ≡ true → core.new.committed ≡ true) }
     ensures missed { IfErr result (λ e. MissesOrHas core.new (S.meaning shelf.new)) }
     ensures finds { CoreEnds core.new (S.meaning shelf.old) (S.meaning shelf.new) }
+    ensures settles { EndsSettled core.new (S.meaning shelf.old) (S.meaning shelf.new) }
     ensures logs { TrustsStill core.old.config core.new.config }
     ensures cause { Blames (S.meaning shelf.old) (S.meaning shelf.new) result }
 {
@@ -231,6 +234,7 @@ pub fn attach<S: Shelf>(
     ensures trust { OnOk result (core.old.committed ≡ true → core.new.committed ≡ true) }
     ensures missed { core.old.unsettled ≡ true → IfErr result (λ e. MissesOrHas core.new (S.meaning shelf.new)) }
     ensures finds { CoreFinds core.old core.new (S.meaning shelf.old) (S.meaning shelf.new) }
+    ensures settles { CoreSettles core.old core.new (S.meaning shelf.old) (S.meaning shelf.new) }
     ensures logs { TrustsStill core.old.config core.new.config }
     ensures cause { Blames (S.meaning shelf.old) (S.meaning shelf.new) result }
     ensures count { IfOk result (λ n. n ≡ missed_regions core.old.config vol plex (option_copied fmr.entry)) }

@@ -1,6 +1,6 @@
 // The flushes and the commit by which a group is deported.
 ghost use Rattle.vx_group.specs.Loses.{TrustsStill};
-ghost use Rattle.vx_group.specs.Finds.{CoreFinds, GroupFinds};
+ghost use Rattle.vx_group.specs.Finds.{CoreFinds, GroupImages};
 ghost use Rattle.std.specs.Prelude.{Err, IfErr, IsTrue, OnOk, false, true, ◌-◌, ◌<◌, ◌≡◌, ◌≤◌};
 ghost use Rattle.vx_disk.specs.Shelf.{Goes, Nothing};
 ghost use Rattle.vx_config.specs.Table.{greatest};
@@ -14,6 +14,7 @@ ghost use Rattle.vx_model.specs.declared.errors.Stop.TheVariants.{No as Refused}
 ghost use Rattle.vx_model.specs.declared.no.Counted.TheVariants.{Number as Numbers};
 ghost use Rattle.vx_model.specs.declared.no.No.TheVariants.{Limit};
 ghost use Rattle.vx_copyio.specs.Putting.{KeepsUp};
+ghost use Rattle.vx_group.specs.Settles.{ClosesSettled, CoreSettles, ReadsSure};
 
 use crate::detaching::fault_of;
 use crate::group_core::GroupCore;
@@ -35,6 +36,7 @@ fn commit_closed<S: Shelf>(shelf: &mut S, core: &mut Inner) -> Result<(), ShelfE
     ensures up { OnOk result (KeepsUp (S.meaning shelf.old) (S.meaning shelf.new)) }
     ensures agreed { IfErr result (λ e. core.old.committed ≡ true → core.new.agreed ≡ true) }
     ensures finds { IfErr result (λ e. CoreFinds core.old core.new (S.meaning shelf.old) (S.meaning shelf.new)) }
+    ensures settles { IfErr result (λ e. ClosesSettled core.old core.new (S.meaning shelf.old) (S.meaning shelf.new)) }
     ensures logs { IfErr result (λ e. TrustsStill core.old.config core.new.config) }
     ensures cause { StopsByDevice (S.meaning shelf.old) (S.meaning shelf.new) result }
 {
@@ -67,6 +69,7 @@ fn close<S: Shelf>(shelf: &mut S, core: &mut Inner) -> Result<(), ShelfError>
     ensures up { OnOk result (IsTrue (S.meaning shelf.new).down → ⊥) }
     ensures agreed { IfErr result (λ e. core.old.committed ≡ true → core.new.agreed ≡ true) }
     ensures finds { IfErr result (λ e. CoreFinds core.old core.new (S.meaning shelf.old) (S.meaning shelf.new)) }
+    ensures settles { ReadsSure core.old (S.meaning shelf.old) → IfErr result (λ e. CoreSettles core.old core.new (S.meaning shelf.old) (S.meaning shelf.new)) }
     ensures logs { IfErr result (λ e. TrustsStill core.old.config core.new.config) }
     ensures cause { StopsByDevice (S.meaning shelf.old) (S.meaning shelf.new) result }
 {
@@ -95,7 +98,8 @@ pub fn deport_in<S: Shelf>(shelf: &mut S, core: &mut GroupCore) -> Result<(), St
     ensures up { OnOk result (IsTrue (S.meaning shelf.new).down → ⊥) }
     ensures back { IfErr result (λ e. Goes Nothing (inner_meaning (wide core.old) (S.meaning shelf.old)) (inner_meaning (wide core.new) (S.meaning shelf.new))) }
     ensures agreed { IfErr result (λ e. core.old.inner.committed ≡ true → core.new.inner.agreed ≡ true) }
-    ensures finds { IfErr result (λ e. GroupFinds core.old core.new (S.meaning shelf.old) (S.meaning shelf.new)) }
+    ensures finds { IfErr result (λ e. GroupImages core.old core.new (S.meaning shelf.old) (S.meaning shelf.new)) }
+    ensures settles { ((IsTrue (S.meaning shelf.old).down → ⊥) → ReadsSure (wide core.old) (S.meaning shelf.old)) → IfErr result (λ e. CoreSettles (wide core.old) (wide core.new) (S.meaning shelf.old) (S.meaning shelf.new)) }
     ensures logs { IfErr result (λ e. TrustsStill core.old.inner.config core.new.inner.config) }
     ensures cause { core.old.inner.config.serial ≤ greatest - margin → DetStops (S.meaning shelf.old) (S.meaning shelf.new) result }
 {

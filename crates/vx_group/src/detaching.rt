@@ -6,6 +6,7 @@ ghost use Rattle.vx_copies.specs.Commits.{MoreFailed, NamesFailed};
 ghost use Rattle.vx_group.specs.GivesUp.{KeepsVolumes, NoCommit};
 ghost use Rattle.vx_group.specs.Blames.{Blames, BlamesOr, fault_of as fault_is};
 ghost use Rattle.vx_group.specs.Moves.{AreOff, Narrows};
+ghost use Rattle.vx_group.specs.Settles.{EndsSettled};
 ghost use Rattle.vx_group.specs.Stands.{InnerStands};
 ghost use Rattle.vx_disk.specs.Blocks.{bit_at};
 ghost use Rattle.vx_kept.specs.Commits.{IsCommitted};
@@ -68,6 +69,7 @@ pub fn detach_named<S: Shelf>(
     ensures whole { OnOk result ((core.new.committed ≡ true) ⊎ HasFailed core.new.config.disks) }
     ensures committed { OnOk result (IsCommitted core.new.config (S.meaning shelf.new)) }
     ensures finds { CoreEnds core.new (S.meaning shelf.old) (S.meaning shelf.new) }
+    ensures settles { EndsSettled core.new (S.meaning shelf.old) (S.meaning shelf.new) }
     ensures named { IfOk result (NamesFailed core.old.config core.new.config (S.meaning shelf.old) (S.meaning shelf.new)) }
     ensures logs { TrustsStill core.old.config core.new.config }
     ensures cause { BlamesOr failed.disk (S.meaning shelf.old) (S.meaning shelf.new) result }
@@ -133,6 +135,7 @@ pub fn detach<S: Shelf>(
     ensures whole { OnOk result ((core.new.committed ≡ true) ⊎ HasFailed core.new.config.disks) }
     ensures committed { OnOk result (IsCommitted core.new.config (S.meaning shelf.new)) }
     ensures finds { CoreEnds core.new (S.meaning shelf.old) (S.meaning shelf.new) }
+    ensures settles { EndsSettled core.new (S.meaning shelf.old) (S.meaning shelf.new) }
     ensures logs { TrustsStill core.old.config core.new.config }
     ensures cause { BlamesOr failed.disk (S.meaning shelf.old) (S.meaning shelf.new) result }
     ensures sure { core.old.config.serial < greatest → Blames (S.meaning shelf.old) (S.meaning shelf.new) result }

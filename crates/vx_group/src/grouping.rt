@@ -1,5 +1,5 @@
 // The volumes of a group that are its replicated volume group.
-ghost use Rattle.std.specs.Prelude.{◌≡◌, ◌⊎◌, ◌+◌, ◌<◌, ℕ, true, IsTrue, Some, None, Err, OnOk, IfErr};
+ghost use Rattle.std.specs.Prelude.{◌≡◌, ◌⊎◌, ◌+◌, ◌<◌, ◌≤◌, ℕ, true, IsTrue, Some, None, Err, OnOk, IfErr};
 ghost use Rattle.vx_config.specs.Checks.{is_group, is_sound};
 ghost use Rattle.vx_config.specs.Table.{greatest};
 ghost use Rattle.vx_copies.specs.Commits.{MoreFailed};
@@ -7,6 +7,7 @@ ghost use Rattle.vx_disk.specs.Shelf.{Goes, Nothing};
 ghost use Rattle.vx_group.specs.Blames.{Blames};
 ghost use Rattle.vx_group.specs.Calls.{GroupNarrows};
 ghost use Rattle.vx_group.specs.Dets.{DetStops};
+ghost use Rattle.vx_group.specs.Finds.{CoreFinds, GroupFinds};
 ghost use Rattle.vx_group.specs.Holding.{GroupStands, wide};
 ghost use Rattle.vx_group.specs.Moves.{Narrows};
 ghost use Rattle.vx_group.specs.Rvgs.{RvgEnds, set_rvg_refusal};
@@ -14,6 +15,7 @@ ghost use Rattle.vx_group.specs.Stands.{InnerStands, inner_meaning};
 ghost use Rattle.vx_kept.specs.Trusts.{HasFailed};
 ghost use Rattle.vx_model.specs.declared.errors.Stop.TheVariants.{No as Refused};
 ghost use Rattle.vx_model.specs.declared.no.No.{No as NoValue};
+ghost use Rattle.vx_group.specs.Settles.{CoreSettles};
 
 use crate::detaching::detach;
 use crate::group_core::GroupCore;
@@ -36,8 +38,8 @@ fn named_by(config: &Config) -> Option<Units>
     }
 }
 
-// Whether the configuration would be sound with these volumes as the replicated volume group. It is left as it was.
-fn may_name(config: &mut Config, units: &Units) -> bool
+/// Whether the configuration would be sound with these volumes as the replicated volume group. It is left as it was.
+pub fn may_name(config: &mut Config, units: &Units) -> bool
     requires sound { is_sound config.old ≡ true }
     ensures same { config.new ≡ config.old }
     ensures is { result ≡ is_group config.old.volumes units.now }
@@ -64,6 +66,9 @@ fn commit_rvg<S: Shelf>(shelf: &mut S, core: &mut Inner, units: &Units) -> Resul
     ensures trust { OnOk result (core.old.committed ≡ true → core.new.committed ≡ true) }
     ensures whole { OnOk result ((core.new.committed ≡ true) ⊎ HasFailed core.new.config.disks) }
     ensures agreed { IfErr result (λ e. core.old.committed ≡ true → core.new.agreed ≡ true) }
+    ensures later { core.old.config.serial ≤ core.new.config.serial }
+    ensures finds { CoreFinds core.old core.new (S.meaning shelf.old) (S.meaning shelf.new) }
+    ensures settles { CoreSettles core.old core.new (S.meaning shelf.old) (S.meaning shelf.new) }
     ensures cause { Blames (S.meaning shelf.old) (S.meaning shelf.new) result }
 {
     match settle_headers(shelf, core) {
@@ -76,6 +81,7 @@ fn commit_rvg<S: Shelf>(shelf: &mut S, core: &mut Inner, units: &Units) -> Resul
         Ok(()) => Ok(()),
         Err(error) => {
             core.config.rvg = before;
+            core.committed = false;
             Err(error)
         }
     }
@@ -96,6 +102,9 @@ fn name_rvg<S: Shelf>(shelf: &mut S, core: &mut GroupCore, units: &Units) -> Res
     ensures trust { OnOk result (core.old.inner.committed ≡ true → core.new.inner.committed ≡ true) }
     ensures whole { OnOk result ((core.new.inner.committed ≡ true) ⊎ HasFailed core.new.inner.config.disks) }
     ensures agreed { IfErr result (λ e. core.old.inner.committed ≡ true → core.new.inner.agreed ≡ true) }
+    ensures later { core.old.inner.config.serial ≤ core.new.inner.config.serial }
+    ensures finds { GroupFinds core.old core.new (S.meaning shelf.old) (S.meaning shelf.new) }
+    ensures up { OnOk result (IsTrue (S.meaning shelf.new).down → ⊥) }
     ensures cause { DetStops (S.meaning shelf.old) (S.meaning shelf.new) result }
 {
     if shelf.is_down() {
@@ -129,6 +138,9 @@ pub fn set_rvg_in<S: Shelf>(shelf: &mut S, core: &mut GroupCore, units: &Units) 
     ensures trust { OnOk result (core.old.inner.committed ≡ true → core.new.inner.committed ≡ true) }
     ensures whole { OnOk result ((core.new.inner.committed ≡ true) ⊎ HasFailed core.new.inner.config.disks) }
     ensures agreed { IfErr result (λ e. core.old.inner.committed ≡ true → core.new.inner.agreed ≡ true) }
+    ensures later { core.old.inner.config.serial ≤ core.new.inner.config.serial }
+    ensures finds { GroupFinds core.old core.new (S.meaning shelf.old) (S.meaning shelf.new) }
+    ensures up { OnOk result (IsTrue (S.meaning shelf.new).down → ⊥) }
     ensures cause { set_rvg_refusal core.old.inner.config units.now ≡ None → DetStops (S.meaning shelf.old) (S.meaning shelf.new) result }
 {
     if MOST_NUMBER - COMMIT_MARGIN < core.inner.config.serial {

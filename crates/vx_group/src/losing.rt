@@ -8,6 +8,7 @@ ghost use Rattle.vx_group.specs.Blames.{Blames};
 ghost use Rattle.vx_group.specs.GivesUp.{KeepsVolumes, NoCommit};
 ghost use Rattle.vx_group.specs.Loses.{SameParts, TrustsBut};
 ghost use Rattle.vx_group.specs.Moves.{Narrows};
+ghost use Rattle.vx_group.specs.Settles.{CoreSettles, EndsSettled};
 ghost use Rattle.vx_group.specs.Stands.{InnerStands};
 ghost use Rattle.vx_kept.specs.Commits.{IsCommitted};
 ghost use Rattle.vx_kept.specs.LogRuns.{log_trusted};
@@ -49,6 +50,7 @@ fn lose_settled<S: Shelf>(
     ensures agreed { IfErr result (λ e. core.old.committed ≡ true → core.new.agreed ≡ true) }
     ensures committed { OnOk result (IsCommitted core.new.config (S.meaning shelf.new)) }
     ensures finds { CoreEnds core.new (S.meaning shelf.old) (S.meaning shelf.new) }
+    ensures settles { EndsSettled core.new (S.meaning shelf.old) (S.meaning shelf.new) }
     ensures logs { TrustsBut vol log core.old.config core.new.config }
     ensures cause { Blames (S.meaning shelf.old) (S.meaning shelf.new) result }
 {
@@ -102,6 +104,7 @@ pub fn lose_log<S: Shelf>(
     ensures agreed { IfErr result (λ e. core.old.committed ≡ true → core.new.agreed ≡ true) }
     ensures committed { OnOk result (IsCommitted core.new.config (S.meaning shelf.new)) }
     ensures finds { CoreFinds core.old core.new (S.meaning shelf.old) (S.meaning shelf.new) }
+    ensures settles { CoreSettles core.old core.new (S.meaning shelf.old) (S.meaning shelf.new) }
     ensures logs { TrustsBut vol log core.old.config core.new.config }
     ensures cause { Blames (S.meaning shelf.old) (S.meaning shelf.new) result }
 {

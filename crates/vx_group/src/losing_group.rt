@@ -13,6 +13,7 @@ ghost use Rattle.vx_kept.specs.LogRuns.{log_trusted};
 ghost use Rattle.vx_kept.specs.PlexActs.{PlexActs};
 ghost use Rattle.vx_layout.specs.Places.{plex_at};
 ghost use Rattle.vx_volume.specs.Plexes.{active};
+ghost use Rattle.vx_group.specs.Settles.{CoreSettles};
 
 use crate::counting::give_up;
 use crate::group_core::GroupCore;
@@ -44,6 +45,7 @@ fn lose_in<S: Shelf>(
     ensures trust { OnOk result (core.old.committed ≡ true → core.new.committed ≡ true) }
     ensures agreed { IfErr result (λ e. core.old.committed ≡ true → core.new.agreed ≡ true) }
     ensures finds { CoreFinds core.old core.new (S.meaning shelf.old) (S.meaning shelf.new) }
+    ensures settles { CoreSettles core.old core.new (S.meaning shelf.old) (S.meaning shelf.new) }
     ensures logs { TrustsBut vol log core.old.config core.new.config }
     ensures marks { MarksOn vol core.old.unsure core.new.unsure result }
     ensures misses { FaultMisses core.new result }

@@ -18,6 +18,7 @@ ghost use Rattle.vx_kept.specs.Commits.{IsCommitted};
 ghost use Rattle.vx_kept.specs.Keeping.{Acts};
 ghost use Rattle.vx_kept.specs.Trusts.{HasFailed};
 ghost use Rattle.vx_group.specs.Stands.{InnerStands};
+ghost use Rattle.vx_group.specs.Settles.{CoreSettles, FindsNoneClean, KeepsAlike};
 
 use crate::detaching::fault_of;
 use crate::group_core::GroupCore;
@@ -90,6 +91,9 @@ fn add_last<S: Shelf>(shelf: &mut S, core: &mut Inner, next: Config) -> Result<(
     ensures agreed { IfErr result (λ e. core.old.committed ≡ true → core.new.agreed ≡ true) }
     ensures off { IfErr result (λ e. core.old.committed ≡ false → core.new.committed ≡ false) }
     ensures finds { CoreFinds core.old core.new (S.meaning shelf.old) (S.meaning shelf.new) }
+    ensures alikes { KeepsAlike (S.meaning shelf.old) (S.meaning shelf.new) }
+    ensures nones { ((v : ℕ) → FindsNoneClean v (S.meaning shelf.old)) → core.new.unsettled ≡ false → (v : ℕ) → FindsNoneClean v (S.meaning shelf.new) }
+    ensures dones { OnOk result ((v : ℕ) → FindsNoneClean v (S.meaning shelf.new)) }
     ensures logs { TrustsStill core.old.config core.new.config }
     ensures cause { StopsByDevice (S.meaning shelf.old) (S.meaning shelf.new) result }
 {
@@ -139,6 +143,7 @@ fn add<S: Shelf>(shelf: &mut S, core: &mut Inner, next: Config) -> Result<(), Sh
     ensures agreed { IfErr result (λ e. core.old.committed ≡ true → core.new.agreed ≡ true) }
     ensures missed { core.old.unsettled ≡ true → IfErr result (λ e. core.new.unsettled ≡ true) }
     ensures finds { CoreFinds core.old core.new (S.meaning shelf.old) (S.meaning shelf.new) }
+    ensures settles { CoreSettles core.old core.new (S.meaning shelf.old) (S.meaning shelf.new) }
     ensures logs { TrustsStill core.old.config core.new.config }
     ensures cause { StopsByDevice (S.meaning shelf.old) (S.meaning shelf.new) result }
 {

@@ -1,11 +1,12 @@
 // The flushes that come before the commit of a deport.
 ghost use Rattle.vx_group.specs.Loses.{TrustsStill};
 ghost use Rattle.vx_group.specs.Finds.{CoreFinds};
-ghost use Rattle.std.specs.Prelude.{◌≡◌, ◌<◌, ℕ, length, false, true, IfErr, IsTrue};
+ghost use Rattle.std.specs.Prelude.{IfErr, IsTrue, false, length, true, ℕ, ◌<◌, ◌≡◌};
 ghost use Rattle.vx_config.specs.Table.{greatest};
 ghost use Rattle.vx_group.specs.Blames.{Blames, MarksUnsure};
 ghost use Rattle.vx_group.specs.Deports.{IsVolumeOf};
 ghost use Rattle.vx_group.specs.Quiesces.{GoesOnBy, QuiesceEnds};
+ghost use Rattle.vx_group.specs.Settles.{EndsSettled, KeepsAlike};
 ghost use Rattle.vx_group.specs.Stands.{InnerStands};
 ghost use Rattle.vx_model.specs.declared.limits.TheConstants.{MOST_VOLUMES};
 
@@ -56,6 +57,8 @@ fn flush_one<S: Shelf>(shelf: &mut S, core: &mut Inner, vol: u32) -> Result<(), 
     ensures ends { QuiesceEnds (λ (v : ℕ). v ≡ vol) core.old core.new (S.meaning shelf.old) (S.meaning shelf.new) result }
     ensures agreed { IfErr result (λ e. core.old.committed ≡ true → core.new.agreed ≡ true) }
     ensures finds { CoreFinds core.old core.new (S.meaning shelf.old) (S.meaning shelf.new) }
+    ensures alikes { KeepsAlike (S.meaning shelf.old) (S.meaning shelf.new) }
+    ensures settles { IfErr result (λ e. EndsSettled core.new (S.meaning shelf.old) (S.meaning shelf.new)) }
     ensures logs { TrustsStill core.old.config core.new.config }
     ensures cause { Blames (S.meaning shelf.old) (S.meaning shelf.new) result }
 {
@@ -92,6 +95,8 @@ pub fn flush_volumes<S: Shelf>(shelf: &mut S, core: &mut Inner) -> Result<(), Sh
     ensures ends { QuiesceEnds (IsVolumeOf core.old) core.old core.new (S.meaning shelf.old) (S.meaning shelf.new) result }
     ensures agreed { IfErr result (λ e. core.old.committed ≡ true → core.new.agreed ≡ true) }
     ensures finds { CoreFinds core.old core.new (S.meaning shelf.old) (S.meaning shelf.new) }
+    ensures alikes { KeepsAlike (S.meaning shelf.old) (S.meaning shelf.new) }
+    ensures settles { IfErr result (λ e. EndsSettled core.new (S.meaning shelf.old) (S.meaning shelf.new)) }
     ensures logs { TrustsStill core.old.config core.new.config }
     ensures cause { Blames (S.meaning shelf.old) (S.meaning shelf.new) result }
 {

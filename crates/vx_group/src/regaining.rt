@@ -10,6 +10,7 @@ ghost use Rattle.vx_volume.specs.Plexes.{uses as uses_is};
 ghost use Rattle.vx_group.specs.Loses.{SameParts};
 ghost use Rattle.vx_group.specs.Moves.{Narrows};
 ghost use Rattle.vx_group.specs.Regains.{AreHeld, HeldOne, HoldsNow, LiesOnFailed, Regained, Regains};
+ghost use Rattle.vx_group.specs.Settles.{CoreSettles, EndsSettled};
 ghost use Rattle.vx_group.specs.Stands.{InnerStands};
 ghost use Rattle.vx_model.specs.declared.limits.TheConstants.{MOST_DISKS};
 
@@ -93,6 +94,7 @@ fn recommit<S: Shelf>(
     ensures committed { OnOk result (IsCommitted core.new.config (S.meaning shelf.new)) }
     ensures trust { OnOk result (core.old.committed ≡ true → core.new.committed ≡ true) }
     ensures finds { Recommits core.old core.new (S.meaning shelf.old) (S.meaning shelf.new) result }
+    ensures settles { EndsSettled core.new (S.meaning shelf.old) (S.meaning shelf.new) }
     ensures cause { Blames (S.meaning shelf.old) (S.meaning shelf.new) result }
 {
     let first = match settle_named(shelf, core) {
@@ -133,6 +135,7 @@ pub fn regain<S: Shelf>(
     ensures held { OnOk result (HoldsNow core.old.config core.new.config vol plex (S.meaning shelf.new)) }
     ensures trust { OnOk result (core.old.committed ≡ true → core.new.committed ≡ true) }
     ensures finds { CoreFinds core.old core.new (S.meaning shelf.old) (S.meaning shelf.new) }
+    ensures settles { CoreSettles core.old core.new (S.meaning shelf.old) (S.meaning shelf.new) }
     ensures cause { Blames (S.meaning shelf.old) (S.meaning shelf.new) result }
 {
     let kept = core.config.disks.copy();

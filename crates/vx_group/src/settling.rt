@@ -9,6 +9,7 @@ ghost use Rattle.vx_group.specs.Loses.{SameParts};
 ghost use Rattle.vx_group.specs.Moves.{Narrows};
 ghost use Rattle.vx_group.specs.Quiesces.{AnyFailed};
 ghost use Rattle.vx_group.specs.Settled.{SameBut};
+ghost use Rattle.vx_group.specs.Settles.{CoreSettles, LacksCommit};
 ghost use Rattle.vx_group.specs.Stands.{InnerStands};
 ghost use Rattle.vx_config.specs.Table.{greatest};
 
@@ -119,6 +120,7 @@ pub fn make_ready<S: Shelf>(shelf: &mut S, core: &mut Inner) -> Result<(), Shelf
     ensures trust { OnOk result (core.old.committed ≡ true → core.new.committed ≡ true) }
     ensures agreed { IfErr result (λ e. core.old.committed ≡ true → core.new.agreed ≡ true) }
     ensures finds { CoreFinds core.old core.new (S.meaning shelf.old) (S.meaning shelf.new) }
+    ensures settles { CoreSettles core.old core.new (S.meaning shelf.old) (S.meaning shelf.new) }
     ensures cause { Blames (S.meaning shelf.old) (S.meaning shelf.new) result }
 {
     if !core.unsettled {
@@ -132,4 +134,17 @@ pub fn make_ready<S: Shelf>(shelf: &mut S, core: &mut Inner) -> Result<(), Shelf
         Err(error) => return Err(error),
     }
     detach(shelf, core, 0, Failed { set: 0, disk: 0 })
+}
+
+/// Whether a commit is missed for which no serial is left: then writes go to plexes without it.
+pub fn lacks_commit(core: &Inner) -> bool
+    ensures free { result ≡ false → LacksCommit core.now → ⊥ }
+{
+    if !core.unsettled {
+        return false;
+    }
+    if core.config.serial < MOST_NUMBER {
+        return false;
+    }
+    true
 }

@@ -10,6 +10,7 @@ ghost use Rattle.vx_group.specs.Blames.{Blames};
 ghost use Rattle.vx_group.specs.Holding.{GroupStands, wide};
 ghost use Rattle.vx_group.specs.GivesUp.{FaultMisses, NoCommit};
 ghost use Rattle.vx_group.specs.Loses.{LosesPlexes, TrustsStill};
+ghost use Rattle.vx_group.specs.Settles.{CoreSettles};
 ghost use Rattle.vx_group.specs.Stands.{InnerStands, inner_meaning};
 ghost use Rattle.vx_kept.specs.Commits.{IsCommitted};
 ghost use Rattle.vx_kept.specs.PlexActs.{PlexActs};
@@ -57,6 +58,7 @@ fn trust_log<S: Shelf>(
     ensures agreed { IfErr result (λ e. core.old.committed ≡ true → core.new.agreed ≡ true) }
     ensures committed { OnOk result (IsCommitted core.new.config (S.meaning shelf.new)) }
     ensures finds { CoreFinds core.old core.new (S.meaning shelf.old) (S.meaning shelf.new) }
+    ensures settles { CoreSettles core.old core.new (S.meaning shelf.old) (S.meaning shelf.new) }
     ensures logs { TrustsStill core.old.config core.new.config }
     ensures missed { IfErr result (λ e. NoCommit core.new (S.meaning shelf.new)) }
     ensures cause { Blames (S.meaning shelf.old) (S.meaning shelf.new) result }

@@ -11,6 +11,7 @@ ghost use Rattle.vx_group.specs.Loses.{LosesPlexes, TrustsStill};
 ghost use Rattle.vx_group.specs.Moves.{AllWrote};
 ghost use Rattle.vx_kept.specs.PlexActs.{PlexActs};
 ghost use Rattle.vx_volume.specs.Volumes.{OnPlexes};
+ghost use Rattle.vx_group.specs.Settles.{CoreSettles};
 ghost use Rattle.vx_group.specs.Stands.{InnerStands, inner_meaning};
 
 use crate::counting::give_up;
@@ -35,6 +36,7 @@ fn write_plexes<S: Shelf>(
     requires stands { InnerStands core.old (S.meaning shelf.old) }
     requires fits { Fits (inner_meaning core.old (S.meaning shelf.old)) vol block (length bytes.now) }
     requires up { IsTrue (S.meaning shelf.old).down → ⊥ }
+    requires ready { core.old.unsettled ≡ true → greatest ≤ core.old.config.serial }
     ensures stands { InnerStands core.new (S.meaning shelf.new) }
     ensures goes { Goes (Written vol block bytes.now) (inner_meaning core.old (S.meaning shelf.old)) (inner_meaning core.new (S.meaning shelf.new)) }
     ensures ok { OnOk result (Wrote vol block bytes.now (inner_meaning core.old (S.meaning shelf.old)) (inner_meaning core.new (S.meaning shelf.new))) }
@@ -49,6 +51,7 @@ fn write_plexes<S: Shelf>(
     ensures trust { OnOk result (core.old.committed ≡ true → core.new.committed ≡ true) }
     ensures agreed { IfErr result (λ e. core.old.committed ≡ true → core.new.agreed ≡ true) }
     ensures finds { CoreFinds core.old core.new (S.meaning shelf.old) (S.meaning shelf.new) }
+    ensures settles { CoreSettles core.old core.new (S.meaning shelf.old) (S.meaning shelf.new) }
     ensures logs { TrustsStill core.old.config core.new.config }
     ensures cause { Blames (S.meaning shelf.old) (S.meaning shelf.new) result }
 {
@@ -86,6 +89,7 @@ pub fn write_in<S: Shelf>(
     ensures trust { OnOk result (core.old.committed ≡ true → core.new.committed ≡ true) }
     ensures agreed { IfErr result (λ e. core.old.committed ≡ true → core.new.agreed ≡ true) }
     ensures finds { CoreFinds core.old core.new (S.meaning shelf.old) (S.meaning shelf.new) }
+    ensures settles { CoreSettles core.old core.new (S.meaning shelf.old) (S.meaning shelf.new) }
     ensures logs { TrustsStill core.old.config core.new.config }
     ensures cause { Cause (inner_meaning core.old (S.meaning shelf.old)) (inner_meaning core.new (S.meaning shelf.new)) vol result }
     ensures unit_faults { (u : ℕ) → (S.meaning shelf.old).faults u ≤ (S.meaning shelf.new).faults u }

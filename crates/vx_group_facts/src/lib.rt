@@ -4,5 +4,5 @@
 mod seen;
 mod shown;
 
-pub use seen::volumes_seen;
+pub use seen::{kinds_seen, volumes_seen};
 pub use shown::{disks_shown, volumes_shown};

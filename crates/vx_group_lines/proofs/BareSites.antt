@@ -12,7 +12,7 @@ use Rattle.vx_diskset.specs.GroupCalls.{bare_disks}
 use Rattle.vx_diskset.specs.Holds.{KeptBeside, beside_of, header_links}
 use Rattle.vx_diskset.specs.Stands.{SiteStands, bare_with, faults_at}
 use Rattle.vx_diskset.specs.declared.disk_set.DiskSet.{DiskSet}
-use Rattle.vx_diskset.specs.declared.disk_set.DiskSet.TheVariants.{Bare, Spoiled, Up as RaisedSet, Receives, Down as DownSet, OfGroup, Gone as GoneSet}
+use Rattle.vx_diskset.specs.declared.disk_set.DiskSet.TheVariants.{Bare, Spoiled, Up as RaisedSet, Receives, Down as DownSet, OfGroup, Over, Gone as GoneSet}
 use Rattle.vx_events.proofs.OverSeats.{fact_apart}
 use Rattle.vx_events.proofs.Steps.{no_sites}
 use Rattle.vx_events.specs.Facts.{seat_of, site_number}
@@ -25,6 +25,7 @@ use Rattle.vx_yard.proofs.OverGroup.{bare_apart}
 use Rattle.vx_yard.specs.Standing.{StandsFor}
 use Rattle.vx_yard.specs.Yards.{IsShaped, IsYardKept}
 use Rattle.vx_yard.specs.declared.yard.Yard.{Yard}
+use Rattle.vx_diskset.proofs.GroupFinding.{over_made}
 
 -- the tests see its state, whether it is over a group or not
 pub over_state : (n : Node) (w : World) (s : ℕ) (b : Bool) → n ≡ w.nodes s → (if b then fact_of_group (w.nodes s) (note_at (w.nodes s)) else linked_fact w s).state ≡ n.state
@@ -51,20 +52,22 @@ module _ {R : Type 0} {g : Ghosts R} where
   pub bare_is : (beside : KeptBeside) (n : Node) (e : DiskSet R g) → SiteStands beside n e → n.state ≡ IsBare → n ≡ bare_with n
   bare_is beside n (Bare rack) it bare = it.bare.is
   bare_is beside n (Spoiled rack) it bare = it.is
-  bare_is beside n (RaisedSet rvg) it bare = absurd (never_up (sym bare ∙ it.state))
-  bare_is beside n (Receives s) it bare = absurd (never_up (sym bare ∙ it.state))
+  bare_is beside n (RaisedSet rvg) it bare = absurd (never_up (sym bare ∙ it.1.state))
+  bare_is beside n (Receives s) it bare = absurd (never_up (sym bare ∙ it.1.state))
   bare_is beside n (DownSet rack) it bare = absurd (never_down (sym bare ∙ it.state))
   bare_is beside n (OfGroup s) it bare = it.bare bare
+  bare_is beside n (Over s) it bare = absurd (over_made beside n s.site it.1 bare)
   bare_is beside n GoneSet it bare = absurd it
 
   -- the counts of its disks
   pub bare_counts : (beside : KeptBeside) (n : Node) (e : DiskSet R g) → SiteStands beside n e → n.state ≡ IsBare → (k : ℕ) → (bare_disks e).disk_faults k ≡ faults_at e k
   bare_counts beside n (Bare rack) it bare k = refl
   bare_counts beside n (Spoiled rack) it bare k = refl
-  bare_counts beside n (RaisedSet rvg) it bare k = absurd (never_up (sym bare ∙ it.state))
-  bare_counts beside n (Receives s) it bare k = absurd (never_up (sym bare ∙ it.state))
+  bare_counts beside n (RaisedSet rvg) it bare k = absurd (never_up (sym bare ∙ it.1.state))
+  bare_counts beside n (Receives s) it bare k = absurd (never_up (sym bare ∙ it.1.state))
   bare_counts beside n (DownSet rack) it bare k = absurd (never_down (sym bare ∙ it.state))
   bare_counts beside n (OfGroup s) it bare k = refl
+  bare_counts beside n (Over s) it bare k = absurd (over_made beside n s.site it.1 bare)
   bare_counts beside n GoneSet it bare k = absurd it
 
   -- the bare site of this number, and its disks

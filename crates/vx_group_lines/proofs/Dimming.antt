@@ -3,11 +3,10 @@ use Rattle.std.proofs.Common.{◌≡◌, ◌∙◌, ◌⊎◌, inl, inr, ℕ, Bo
 use Rattle.std.specs.Prelude.{Contains}
 use Rattle.vx_model.specs.declared.no.No.{No}
 use Rattle.vx_model.specs.declared.no.No.TheVariants.{NoConfig}
-use Rattle.vx_model.specs.Refusals.{IsNoDevice}
 use Rattle.vx_history.specs.Groups.{GroupNode}
 use Rattle.vx_grouped.specs.GroupNotes.{note_dimmed}
 use Rattle.vx_events.specs.Fails.{Fails}
-use Rattle.vx_events.specs.GroupEnds.{KnowsNothing, NotFound, NotFoundLeaves}
+use Rattle.vx_events.specs.GroupEnds.{FoundNo, KnowsNothing, NotFound, NotFoundLeaves}
 use Rattle.vx_events.specs.GroupNotes.{NotesRefused, NotesShort}
 
 -- the note behind an import of disks that may disagree, or not, which was refused behind its first write, or before
@@ -40,9 +39,9 @@ dark_moves false note next loose is = inl is
 
 -- why none was found before the first write, and what is left of the note
 abbrev pub KnownBy : (told : Type 0) (late dims : Bool) (s : ℕ) → GroupNode → Fails → No → Type 0
-KnownBy told late dims s note fails why = (NotFound s note fails why × NotFoundLeaves why note (dimmed_by late dims note)) ⊎ (KnowsNothing told note × IsNoDevice why)
+KnownBy told late dims s note fails why = (NotFound s note fails why × NotFoundLeaves why note (dimmed_by late dims note)) ⊎ (KnowsNothing told note × FoundNo s fails why)
 
-pub early_known : (told : Type 0) (dims : Bool) (s : ℕ) (note : GroupNode) (fails : Fails) (why : No) → (dims ≡ true → note.loose ≡ true) → NotFound s note fails why → IsNoDevice why → ((k : GroupNode) → NotFoundLeaves why k k)
+pub early_known : (told : Type 0) (dims : Bool) (s : ℕ) (note : GroupNode) (fails : Fails) (why : No) → (dims ≡ true → note.loose ≡ true) → NotFound s note fails why → FoundNo s fails why → ((k : GroupNode) → NotFoundLeaves why k k)
     → KnownBy told false dims s note fails why
 early_known told true s note fails why loose none other same = inr (inr (inl (loose refl)), other)
 early_known told false s note fails why loose none other same = inl (none, same note)

@@ -24,7 +24,7 @@ use Rattle.vx_script.specs.declared.line.ScriptLine.TheVariants.{Recover}
 use Rattle.vx_grouped.specs.Begins.{group_begun}
 use Rattle.vx_grouped.specs.GroupSites.{UpNoted, site_config}
 use Rattle.vx_grouped.specs.SiteReturns.{ImportWhy}
-use Rattle.vx_diskset.specs.Asked.{FailsAs, SameFailing}
+use Rattle.vx_diskset.specs.Asked.{IsRawSet, FailsAs, SameFailing}
 use Rattle.vx_diskset.specs.GroupCalls.{AtSite, bare_disks, cut_in}
 use Rattle.vx_diskset.specs.GroupFinds.{FindsIs, FoundUp}
 use Rattle.vx_diskset.specs.GroupSets.{cut_value}
@@ -59,11 +59,12 @@ use Rattle.vx_yard.specs.OfSites.{OfSite, RecoversAs}
 use Rattle.vx_yard.specs.Replies.{reply_to}
 use Rattle.vx_yard.specs.Standing.{LeadsFound, LeadsFoundIs, StandsFor, StaysFor}
 use Rattle.vx_yard.specs.Stands.{RoseAll}
+use Rattle.vx_yard.proofs.RawSites.{bare_set, raw_rack, raw_told}
 use Rattle.vx_yard.specs.Yards.{IsTold, count_of}
 use Rattle.vx_yard.specs.declared.yard.Yard.{Yard}
 use Rattle.vx_group_lines.specs.Founds.{IsBareUntold}
 use Rattle.vx_group_lines.specs.Views.{view_with}
-use Rattle.vx_group_lines.proofs.Arriving.{arrives_made, arrives_none, arrives_noted, noted_at}
+use Rattle.vx_group_lines.proofs.Arriving.{Arrives, arrives_made, arrives_none, arrives_noted, noted_at}
 use Rattle.vx_group_lines.proofs.BareSites.{IsBareSite, bare_counts, bare_sure, bare_unfused, blank_links, never_up, over_state}
 use Rattle.vx_group_lines.proofs.GroupAt.{up_notes}
 use Rattle.vx_group_lines.proofs.GroupCalls.{SetThen, set_then}
@@ -107,7 +108,8 @@ module _ {R : Type 0} {g : Ghosts R} where
 
     module _ (untold : IsToldAt before → ⊥) where
       never : IsTold new → ⊥
-      never told = untold ((told_by old new s before after changed told).each s before changed.there)
+      never told =
+          untold (raw_told before (bare_set (beside_of d s) n before site.stood site.bare) ((told_by old new s before after changed told).each s before changed.there))
 
       -- ---- none came up
 
@@ -167,6 +169,7 @@ module _ {R : Type 0} {g : Ghosts R} where
           recovers = refl;
           bare = site.bare;
           shows = refl;
+          up = ap (λ (x : Node). x.state) comes.node ∙ (up_notes m note to.set.site up).1;
           ends = ends;
         }));
         stands = follows.stands;
@@ -207,13 +210,17 @@ module _ {R : Type 0} {g : Ghosts R} where
           cut : cut_value to.set.cut ≡ None
           cut = ap (λ (x : DiskSet R g). cut_in x) (sym to.is) ∙ found.2
 
+          comes : Arrives d e s m (d.world.gathering s)
+          comes =
+              arrives_noted d h s (group_set s n) note (d.world.gathering s)
+              (arrives_made d d s n (d.world.gathering s)
+              (arrives_none d s stands.links (bare_sure d s site.bare stands.links) (blank_links d s (stands.links.bare s site.bare))) site.below site.bare)
+
           follows : Follows d e old new
           follows =
               follows_on d e s m note facts_now old new before to.set stands site.below
               (subst (λ (x : DiskSet R g). Changed old new s before x) to.is changed)
-              (arrives_noted d h s (group_set s n) note (d.world.gathering s)
-              (arrives_made d d s n (d.world.gathering s)
-              (arrives_none d s stands.links (bare_sure d s site.bare stands.links) (blank_links d s (stands.links.bare s site.bare))) site.below site.bare))
+              comes
               (up_notes m note to.set.site up).0
               (up_set m note to.set (record { few = site.few; some = site.some }) up to.holds.5 cut to.holds.2.cut)
               (subst (λ (x : DiskSet R g). FailsAs m x) to.is (fails_as m refl)) (fused_none m (OfGroup to.set) unfused) fact so.0 load
@@ -246,14 +253,14 @@ module _ {R : Type 0} {g : Ghosts R} where
       state_or (Some x) = x.state
 
   -- its disks had a label, and so they tell nothing
-  pub untold_now : (d : Doubted) (old new : Yard R g) (name : List ℕ) (s : ℕ) (before after : DiskSet R g) (holds : Bool) → site_number d.world name ≡ s → (d.world.nodes s).state ≡ IsBare → Changed old new s before after
-      → (IsToldAt before → holds ≡ false) → slice_get new.disk_sets.items s ≡ Some after → holds ≡ true → IsBareUntold d name new
-  untold_now d old new name s before after holds number bare changed none there is = record {
+  pub untold_now : (d : Doubted) (old new : Yard R g) (name : List ℕ) (s : ℕ) (before after : DiskSet R g) (holds : Bool) → site_number d.world name ≡ s → (d.world.nodes s).state ≡ IsBare → IsRawSet before
+      → IsRawSet after → Changed old new s before after → (IsToldAt before → holds ≡ false) → slice_get new.disk_sets.items s ≡ Some after → holds ≡ true → IsBareUntold d name new
+  untold_now d old new name s before after holds number bare raw raw_after changed none there is = record {
     bare = ap (λ (k : ℕ). (d.world.nodes k).state) number ∙ bare;
     untold = λ e at told.
         let same : Some e ≡ Some after = sym at ∙ ap (λ (k : ℕ). slice_get new.disk_sets.items k) number ∙ there in
         let is_told : IsToldAt after = subst (λ (x : DiskSet R g). IsToldAt x) (some_same same) told in
-        let never : true ≡ false = sym is ∙ none (changed.later.told is_told) in
+        let never : true ≡ false = sym is ∙ none (raw_told before raw (changed.later.told (raw_rack after raw_after is_told))) in
         absurd (cc);
   }
 

@@ -12,12 +12,11 @@ use Rattle.vx_grouped.specs.GroupSites.{AwayNoted, DownNoted, GroupSiteStands, N
 use Rattle.vx_grouped.specs.SiteReturns.{is_dimmed}
 use Rattle.vx_grouped.specs.declared.group_site.GroupSite.{GroupSite}
 use Rattle.vx_grouped.specs.declared.group_site.GroupSite.TheVariants.{Up, Deported, Down, Marked, Gone}
-use Rattle.vx_diskset.specs.GroupCalls.{AtSite}
 use Rattle.vx_diskset.specs.GroupSets.{cut_value}
 use Rattle.vx_diskset.specs.Holds.{KeptBeside, beside_of}
 use Rattle.vx_diskset.specs.Stands.{CutLies, IsGroupSet, SiteStands}
 use Rattle.vx_diskset.specs.declared.disk_set.DiskSet.{DiskSet}
-use Rattle.vx_diskset.specs.declared.disk_set.DiskSet.TheVariants.{Bare, Spoiled, Up as RaisedSet, Receives, Down as DownSet, OfGroup, Gone as GoneSet}
+use Rattle.vx_diskset.specs.declared.disk_set.DiskSet.TheVariants.{OfGroup}
 use Rattle.vx_diskset.specs.declared.group_set.CutWrite.{CutWrite}
 use Rattle.vx_diskset.specs.declared.group_set.GroupSet.{GroupSet}
 use Rattle.vx_events.proofs.OverSeats.{fact_grouped}
@@ -168,16 +167,6 @@ module _ {R : Type 0} {g : Ghosts R} where
   down_notes n note Gone it = absurd it
 
   -- ---- the disk set of the site
-
-  -- a disk set that is a group
-  pub at_site : (P : GroupSite R g → Type 0) (Q : DiskSet R g → Type 0) (e : DiskSet R g) → AtSite P e → ((set : GroupSet R g) → P set.site → Q (OfGroup set)) → Q e
-  at_site P Q (Bare rack) it f = absurd it
-  at_site P Q (Spoiled rack) it f = absurd it
-  at_site P Q (RaisedSet rvg) it f = absurd it
-  at_site P Q (Receives s) it f = absurd it
-  at_site P Q (DownSet rack) it f = absurd it
-  at_site P Q (OfGroup set) it f = f set it
-  at_site P Q GoneSet it f = absurd it
 
   -- the site of this number is over a group, and these are its disks
   pub record GroupAt (d : Doubted) (y : Yard R g) (name : List ℕ) (s : ℕ) (e : DiskSet R g) : Type 0 where

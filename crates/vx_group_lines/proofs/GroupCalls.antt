@@ -22,12 +22,12 @@ use Rattle.vx_grouped.specs.declared.group_site.GroupSite.{GroupSite}
 use Rattle.vx_grouped.specs.declared.group_site.GroupSite.TheVariants.{Up as SiteUp, Deported as SiteAway, Down as SiteDown, Marked, Gone as SiteGone}
 use Rattle.vx_diskset.specs.Asked.{FailsAs, FusedAs, SameFailing, disks_told}
 use Rattle.vx_diskset.specs.Fuses.{HasLeft, LeftAs}
-use Rattle.vx_diskset.specs.GroupCalls.{AtSite, OnSites, cut_in}
+use Rattle.vx_diskset.specs.GroupCalls.{AtPlain, AtSite, OnSites, cut_in}
 use Rattle.vx_diskset.specs.GroupSets.{cut_value}
 use Rattle.vx_diskset.specs.Holds.{beside_of}
 use Rattle.vx_diskset.specs.Stands.{faults_at}
 use Rattle.vx_diskset.specs.declared.disk_set.DiskSet.{DiskSet}
-use Rattle.vx_diskset.specs.declared.disk_set.DiskSet.TheVariants.{Bare, Spoiled, Up as RaisedSet, Receives, Down as DownSet, OfGroup, Gone as GoneSet}
+use Rattle.vx_diskset.specs.declared.disk_set.DiskSet.TheVariants.{Bare, Spoiled, Up as RaisedSet, Receives, Down as DownSet, OfGroup, Over, Gone as GoneSet}
 use Rattle.vx_diskset.specs.declared.group_set.CutWrite.{CutWrite}
 use Rattle.vx_diskset.specs.declared.group_set.GroupSet.{GroupSet}
 use Rattle.vx_events.specs.Fails.{Fails}
@@ -94,13 +94,14 @@ module _ {R : Type 0} {g : Ghosts R} where
     pub is : e ≡ OfGroup set
     pub holds : P set.site
 
-  pub set_then : (P : GroupSite R g → Type 0) (e : DiskSet R g) → AtSite P e → SetThen P e
+  pub set_then : (P : GroupSite R g → Type 0) (e : DiskSet R g) → AtPlain P e → SetThen P e
   set_then P (Bare rack) it = absurd it
   set_then P (Spoiled rack) it = absurd it
   set_then P (RaisedSet rvg) it = absurd it
   set_then P (Receives s) it = absurd it
   set_then P (DownSet rack) it = absurd it
   set_then P (OfGroup set) it = record { set = set; is = refl; holds = it }
+  set_then P (Over set) it = absurd it
   set_then P GoneSet it = absurd it
 
   pub sets_then : (P : GroupSite R g → GroupSite R g → Type 0) (before after : DiskSet R g) (set : GroupSet R g) → before ≡ OfGroup set → OnSites P before after → SetThen (P set.site) after

@@ -32,7 +32,7 @@ use Rattle.vx_grouped.specs.declared.group_site.GroupSite.{GroupSite}
 use Rattle.vx_diskset.specs.GroupCalls.{AtSite, OnSites, cut_in}
 use Rattle.vx_diskset.specs.GroupSets.{cut_value, noted_cut}
 use Rattle.vx_diskset.specs.Holds.{beside_of}
-use Rattle.vx_diskset.specs.Stands.{IsToldAt}
+use Rattle.vx_diskset.specs.Stands.{IsRackTold}
 use Rattle.vx_diskset.specs.declared.disk_set.DiskSet.{DiskSet}
 use Rattle.vx_diskset.specs.declared.disk_set.DiskSet.TheVariants.{OfGroup}
 use Rattle.vx_diskset.specs.declared.group_set.GroupSet.{GroupSet}
@@ -97,7 +97,7 @@ module _ {R : Type 0} {g : Ghosts R} where
 
     told_at : (next : GroupSet R g) → after ≡ OfGroup next → IsTold new → IsTrue (site_below next.site).tells
     told_at next is told =
-        subst (λ (x : DiskSet R g). IsToldAt x) is
+        subst (λ (x : DiskSet R g). IsRackTold x) is
         (told.each s after (ap (λ (es : List (DiskSet R g)). slice_get es s) call.changed.disk_sets ∙ get-set_same old.disk_sets.items s after (slice_get_within old.disk_sets.items s before call.changed.there)))
 
     -- imports that may disagree are noted

@@ -137,6 +137,7 @@ module _ {R : Type 0} {g : Ghosts R} where
             doubt = λ v. ap (λ (w : MissedNote). w.doubt v) first.maps;
             serial = let same : note.maps.serial ≡ first.serial = ap (λ (w : MissedNote). w.serial) first.maps in let small = first.small in omega (arith, same, small);
           };
+          inside = first.inside;
         },
         table_is note c is ∙ ap (λ (vs : List VolumeEntry). map plain_fact vs) empty.volumes,
       )

@@ -19,7 +19,7 @@ use Rattle.vx_grouped.specs.declared.group_site.GroupSite.TheVariants.{Up as Sit
 use Rattle.vx_disk.specs.Disks.{SameBlocks}
 use Rattle.vx_diskset.specs.Fuses.{HasLeft}
 use Rattle.vx_yard.proofs.CrashSite.{crash_up}
-use Rattle.vx_diskset.proofs.FailGroup.{stands_failing}
+use Rattle.vx_diskset.proofs.FailSets.{stands_failing}
 use Rattle.vx_diskset.specs.Asked.{FailsAs, FusedAs, SetsDisk, SetsFuse, disks_told, units_in}
 use Rattle.vx_diskset.specs.Holds.{KeptBeside, beside_of, doubt_of}
 use Rattle.vx_diskset.specs.Stands.{IsGroupSet, SiteStands}

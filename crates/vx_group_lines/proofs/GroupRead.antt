@@ -20,7 +20,7 @@ use Rattle.vx_grouped.specs.declared.group_site.GroupSite.{GroupSite}
 use Rattle.vx_grouped.specs.declared.group_site.GroupSite.TheVariants.{Up as SiteUp, Deported as SiteAway, Down as SiteDown, Marked, Gone as SiteGone}
 use Rattle.vx_diskset.specs.Asked.{FusedAs, SameFailing}
 use Rattle.vx_diskset.specs.GroupCalls.{CalledOn, OnSites, cut_in}
-use Rattle.vx_diskset.specs.Stands.{IsToldAt}
+use Rattle.vx_diskset.specs.Stands.{IsRackTold}
 use Rattle.vx_diskset.specs.declared.disk_set.DiskSet.{DiskSet}
 use Rattle.vx_diskset.specs.declared.disk_set.DiskSet.TheVariants.{OfGroup}
 use Rattle.vx_diskset.specs.declared.group_set.GroupSet.{GroupSet}
@@ -150,7 +150,7 @@ module _ {R : Type 0} {g : Ghosts R} where
         let now : slice_get new.disk_sets.items s ≡ Some after =
         ap (λ (es : List (DiskSet R g)). slice_get es s) called.changed.disk_sets ∙ get-set_same old.disk_sets.items s after (slice_get_within old.disk_sets.items s before called.changed.there) in
         lit_up n note called.at.set.site (up_noted n called.at.set.site called.at.stands.stands plain.up) known.1
-        (subst (λ (e : DiskSet R g). IsToldAt e) called.at.is_set (called.changed.later.told (known.0.each s after now)))
+        (subst (λ (e : DiskSet R g). IsRackTold e) called.at.is_set (called.changed.later.told (known.0.each s after now)))
 
     pub read_done : (bytes : List ℕ) → length bytes ≡ 512 * count → OnSites (λ o e. GavePlain n note place start o e (Ok bytes)) before after → OnSites (λ o e. StaysMapped o e) before after → cut_in after ≡ cut_in before → LeadsOver d line (Got bytes) old new
     read_done bytes size gave maps cut =

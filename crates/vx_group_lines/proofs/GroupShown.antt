@@ -20,9 +20,10 @@ use Rattle.vx_untold.specs.Shades.{shade_meaning}
 use Rattle.vx_grouped.specs.GroupSites.{GroupSiteStands, UpNoted, site_config}
 use Rattle.vx_grouped.specs.declared.group_site.GroupSite.{GroupSite}
 use Rattle.vx_grouped.specs.declared.group_site.GroupSite.TheVariants.{Up, Deported, Down, Marked, Gone}
+use Rattle.vx_diskset.specs.Aboves.{site_in}
 use Rattle.vx_diskset.specs.GroupCalls.{AtSite, config_in}
 use Rattle.vx_diskset.specs.declared.disk_set.DiskSet.{DiskSet}
-use Rattle.vx_diskset.specs.declared.disk_set.DiskSet.TheVariants.{Bare, Spoiled, Up as RaisedSet, Receives, Down as DownSet, OfGroup, Gone as GoneSet}
+use Rattle.vx_diskset.specs.declared.disk_set.DiskSet.TheVariants.{Bare, Spoiled, Up as RaisedSet, Receives, Down as DownSet, OfGroup, Over, Gone as GoneSet}
 use Rattle.vx_order.specs.declared.facts.SiteFacts.{SiteFacts}
 use Rattle.vx_script.specs.declared.line.ScriptLine.TheVariants.{Status}
 use Rattle.vx_report.specs.declared.view.SiteView.{SiteView}
@@ -89,6 +90,7 @@ module _ {R : Type 0} {g : Ghosts R} where
   small_set (Receives s) c is = absurd (cc)
   small_set (DownSet rack) c is = absurd (cc)
   small_set (OfGroup s) c is = small_site s.site c is
+  small_set (Over s) c is = small_site (site_in s) c is
   small_set GoneSet c is = absurd (cc)
 
   pub config_at : (e : DiskSet R g) (o : Option Config) → AtSite (λ s. site_config s ≡ o) e → config_in e ≡ o
@@ -98,6 +100,7 @@ module _ {R : Type 0} {g : Ghosts R} where
   config_at (Receives s) o is = absurd is
   config_at (DownSet rack) o is = absurd is
   config_at (OfGroup s) o is = is
+  config_at (Over s) o is = is
   config_at GoneSet o is = absurd is
 
   -- one that is up has the configuration that is noted

@@ -75,7 +75,7 @@ module _ (told : Type 0) (dims : Bool) (s : ℕ) (note : GroupNode) (fails : Fai
   why_is IsOff tells names it none not_device not_off = absurd (not_off refl)
   why_is (Missing disk) tells names it none not_device not_off = record {
     quiet = record { facts = λ f. refl; loads = λ s a b h. h };
-    known = early_known told dims s note fails (Missing disk) loose (names disk refl it) tt (λ k. refl);
+    known = early_known told dims s note fails (Missing disk) loose (names disk refl it) (names disk refl it) (λ k. refl);
     refuses = inl (names disk refl it);
   }
   why_is NoConfig tells names it none not_device not_off = ⊎_elim

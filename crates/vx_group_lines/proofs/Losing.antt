@@ -17,10 +17,10 @@ use Rattle.vx_layout.specs.Space.{IsFound, IsSpaceShort}
 use Rattle.vx_layout.specs.declared.shape.Found.{Found}
 use Rattle.vx_layout.specs.declared.shape.Shape.{Shape}
 use Rattle.vx_volume.specs.Plexes.{uses, uses_or}
-use Rattle.vx_grouped.specs.ConfigMoves.{ConfigMoves, DiskMoves, OpensMost, OpensSame, PlexMoves, PlexRose, StateMoves, VolumeMoves, VolumeRose}
+use Rattle.vx_grouped.specs.ConfigMoves.{ConfigMoves, DiskMoves, OpensMost, OpensMoves, OpensSame, PlexMoves, PlexRose, StateMoves, VolumeMoves, VolumeRose}
 use Rattle.vx_order.specs.declared.facts.VolumeFacts.{VolumeFacts}
 use Rattle.vx_events.specs.Fails.{Fails}
-use Rattle.vx_events.specs.GroupConfigs.{ConfigGoesBy, DiskLosesBut, PlexFails, PlexGoesBy, StateLoses, StateRests, VolumeFails, VolumeGoesBy, has_part, lies_on_disk, opened_again, plex_again, volume_again}
+use Rattle.vx_events.specs.GroupConfigs.{ConfigGoesBy, DiskLosesBut, PlexFails, PlexGoesBy, StateLoses, StateOpens, StateRests, VolumeFails, VolumeGoesBy, has_part, lies_on_disk, opened_again, plex_again, volume_again}
 use Rattle.vx_events.specs.GroupViews.{plain_fact}
 
 -- ---- lists, place by place
@@ -79,6 +79,12 @@ state_loses s n fails old new names v p t (inl same) = inl same
 state_loses s n fails old new names v p t (inr (inl lost)) = inr (inl (lost.0, plex_fails s n fails old new names p lost.1))
 state_loses s n fails old new names v p t (inr (inr back)) = inr (inr (back.0, volume_fails s n fails old new names v back.1))
 
+-- and in an import
+pub state_opens : (s n : ℕ) (fails : Fails) (old new : Meaning) → Names s n fails old new → (v : VolumeEntry) (p : PlexEntry) (t : PlexState) → OpensMoves old new v p t → StateOpens s fails v p t
+state_opens s n fails old new names v p t (inl same) = inl same
+state_opens s n fails old new names v p t (inr (inl lost)) = inr (inl (lost.0, plex_fails s n fails old new names p lost.1))
+state_opens s n fails old new names v p t (inr (inr back)) = inr (inr (back.0, volume_fails s n fails old new names v back.1))
+
 -- and behind a deport, with what stopped cleanly taking part again
 pub opens_rests : (s : ℕ) (fails : Fails) (v : VolumeEntry) (p : PlexEntry) (t : PlexState) → OpensSame v p t → StateRests s fails (volume_again v) (plex_again p) (live_again t)
 opens_rests s fails v p t same = inl same
@@ -103,7 +109,7 @@ module _ (By To : VolumeEntry → PlexEntry → PlexState → Type 0) (fails : F
   plex_goes : ((v : VolumeEntry) (p : PlexEntry) (t : PlexState) → By v p t → To v p t) → (v : VolumeEntry) (p q : PlexEntry) → PlexMoves (By v) p q → PlexGoesBy (To v) p q
   plex_goes step v p q it = record { subdisks = it.subdisks; state = step v p q.state it.state }
 
-  volume_goes : ((v : VolumeEntry) (p : PlexEntry) (t : PlexState) → By v p t → To v p t) → (v u : VolumeEntry) → VolumeMoves By v u → VolumeGoesBy To v u
+  pub volume_goes : ((v : VolumeEntry) (p : PlexEntry) (t : PlexState) → By v p t → To v p t) → (v u : VolumeEntry) → VolumeMoves By v u → VolumeGoesBy To v u
   volume_goes step v u it = record {
     name = it.name;
     blocks = it.blocks;

@@ -35,7 +35,7 @@ early_by false is = absurd (let clash : true ≡ false = is in cc)
 -- ---- what a note says besides
 
 pub returns_with : (w : MissedNote) (told : Type 0) (note next : GroupNode) → NoteReturns told note next → NoteReturns told note (with_maps w next)
-returns_with w told note next it = record { begun = it.begun; loose = it.loose; cut = it.cut; dark = it.dark; block = it.block; may = it.may; size = it.size }
+returns_with w told note next it = record { begun = it.begun; loose = it.loose; cut = it.cut; dark = it.dark; inside = it.inside; block = it.block; may = it.may; size = it.size }
 
 -- what is known behind it was known before
 pub bright_before : (dims : Bool) (note next : GroupNode) → next.dark ≡ (note_dimmed dims note).dark → next.dark ≡ false → note.dark ≡ false
@@ -52,6 +52,8 @@ module _ {R : Type 0} {g : Ghosts R} where
     sizes = it.sizes;
     change = it.change;
     one = it.one;
+    opens = it.opens;
+    parts = it.parts;
   }
 
   -- ---- a group that came up

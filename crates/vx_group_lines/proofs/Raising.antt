@@ -11,7 +11,6 @@ use Rattle.vx_model.specs.declared.no.Counted.TheVariants.{Number as Numbers}
 use Rattle.vx_model.specs.declared.no.No.{No}
 use Rattle.vx_model.specs.declared.no.No.TheVariants.{Damaged, Device, Format, Limit, Missing as Lacks, NoConfig}
 use Rattle.vx_model.specs.declared.site.SiteState.TheVariants.{Down as IsDown}
-use Rattle.vx_model.specs.Refusals.{IsNoDevice}
 use Rattle.vx_disk.specs.Counts.{Rose}
 use Rattle.vx_disk.specs.declared.shelf.Shelf.{Ghosts}
 use Rattle.vx_history.specs.Doubts.{Doubted}
@@ -35,7 +34,7 @@ use Rattle.vx_diskset.specs.declared.disk_set.DiskSet.TheVariants.{OfGroup}
 use Rattle.vx_diskset.specs.declared.group_set.CutWrite.{CutWrite}
 use Rattle.vx_diskset.specs.declared.group_set.GroupSet.{GroupSet}
 use Rattle.vx_events.specs.Doubts.{IsAs, run_as}
-use Rattle.vx_events.specs.GroupEnds.{FindsNoGroup, GroupEnds, GroupFails, GroupNotFound, KnowsNothing, NotFound, NotFoundLeaves}
+use Rattle.vx_events.specs.GroupEnds.{FindsNoGroup, FoundNo, GroupEnds, GroupFails, GroupNotFound, KnowsNothing, NotFound, NotFoundLeaves}
 use Rattle.vx_events.specs.GroupLines.{crash_first, is_over_group, noting}
 use Rattle.vx_events.specs.GroupNotes.{note_at, NotesRefused}
 use Rattle.vx_events.specs.StepsOver.{fact_of_group}
@@ -211,7 +210,7 @@ module _ {R : Type 0} {g : Ghosts R} where
         (named_in set is n.disks some.disk (let low = some.below in let same = (sits_down n note call.at.set.site is_down).units in omega (arith, low, same)) some.rose)
 
     -- none was found, and nothing was written
-    not_found : (many : ℕ) (why : No) (d : Doubted) (name : List ℕ) → ComesDown d e s → IsNoDevice why → NotFound s (note_at (e.world.nodes s)) (calls s old new many) why → ((k : GroupNode) → NotFoundLeaves why k k)
+    not_found : (many : ℕ) (why : No) (d : Doubted) (name : List ℕ) → ComesDown d e s → FoundNo s (calls s old new many) why → NotFound s (note_at (e.world.nodes s)) (calls s old new many) why → ((k : GroupNode) → NotFoundLeaves why k k)
         → GroupEnds (IsTold new) d (Recover name) s (calls s old new many) (Refused why) (noted_at e s (left_note false))
     not_found many why d name comes other none same = ⊎_elim
         (λ known.
@@ -223,7 +222,7 @@ module _ {R : Type 0} {g : Ghosts R} where
         (early_known (IsTold new) dims s note (calls s old new many) why loose none other same)
 
     -- what was found no disk has that tells its contents
-    strange : (many : ℕ) (why : No) (set : GroupSet R g) → after ≡ OfGroup set → DownNoted (left_node false) (left_note false) set.site → (IsTrue (site_disks set.site).tells → ⊥) → IsNoDevice why → (d : Doubted) (name : List ℕ) → ComesDown d e s
+    strange : (many : ℕ) (why : No) (set : GroupSet R g) → after ≡ OfGroup set → DownNoted (left_node false) (left_note false) set.site → (IsTrue (site_disks set.site).tells → ⊥) → FoundNo s (calls s old new many) why → (d : Doubted) (name : List ℕ) → ComesDown d e s
         → GroupEnds (IsTold new) d (Recover name) s (calls s old new many) (Refused why) (noted_at e s (left_note false))
     strange many why set is holds never other d name comes =
         FindsNoGroup (left_note false) why (calls_are e old new [] s before after begin.stands call many) tt
@@ -247,7 +246,7 @@ module _ {R : Type 0} {g : Ghosts R} where
     by_why (Lacks disk) set is holds maps cut rose mid facts load result it =
         subst (λ (r : Result Said OutOfMemory). RisesIs e s old new r) (sym it.said)
         (answered false (suc disk) (Lacks disk) set is holds maps cut (quiet mid facts it.facts) (loaded mid load it.same it.assemblies)
-        (λ d name comes. not_found (suc disk) (Lacks disk) d name comes tt (named_by set is disk rose) (λ k. refl)))
+        (λ d name comes. not_found (suc disk) (Lacks disk) d name comes (named_by set is disk rose) (named_by set is disk rose) (λ k. refl)))
     by_why NoConfig set is holds maps cut rose mid facts load result it =
         subst (λ (r : Result Said OutOfMemory). RisesIs e s old new r) (sym it.said)
         (answered false n.disks NoConfig set is holds maps cut (quiet mid facts it.facts) (loaded mid load it.same it.assemblies) (λ d name comes. ⊎_elim

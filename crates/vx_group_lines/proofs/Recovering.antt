@@ -30,7 +30,7 @@ use Rattle.vx_diskset.specs.Asked.{SameFailing}
 use Rattle.vx_diskset.specs.DiskSets.{Later}
 use Rattle.vx_diskset.specs.GroupCalls.{AtSite, OnSites}
 use Rattle.vx_diskset.specs.Recovers.{LooksAt, RaisesGroup, RaisesMaps}
-use Rattle.vx_diskset.specs.Stands.{IsToldAt, faults_at}
+use Rattle.vx_diskset.specs.Stands.{IsRackTold, faults_at}
 use Rattle.vx_diskset.specs.declared.disk_set.DiskSet.{DiskSet}
 use Rattle.vx_diskset.specs.declared.disk_set.DiskSet.TheVariants.{OfGroup}
 use Rattle.vx_diskset.specs.declared.group_set.CutWrite.{CutWrite}
@@ -210,7 +210,7 @@ module _ {R : Type 0} {g : Ghosts R} where
           looked e s old new before st.after begin call rm.set.site next (returns_with came.maps (IsTrue (site_disks rm.set.site).tells) (note_dimmed (is_dimmed at.set.site) note) seen rm.holds.1)
           (config_with came.maps (note_dimmed (is_dimmed at.set.site) note) seen (as_imported at.set.site) rm.set.site rm.holds.3) (lit_up (returned_with next n) next rm.set.site rm_up)
           (λ set is. record {
-            tells = λ yes_. subst (λ (x : DiskSet R g). IsToldAt x) rm.is (st.later.told (subst (λ (x : DiskSet R g). IsToldAt x) (sym is) yes_));
+            tells = λ yes_. subst (λ (x : DiskSet R g). IsRackTold x) rm.is (st.later.told (subst (λ (x : DiskSet R g). IsRackTold x) (sym is) yes_));
             from = λ k. omega (arith, later.counts k, ap (λ (x : DiskSet R g). faults_at x k) at.is_set, ap (λ (x : DiskSet R g). faults_at x k) rm.is);
             counts = λ k. omega (arith, st.later.counts k, ap (λ (x : DiskSet R g). faults_at x k) rm.is, ap (λ (x : DiskSet R g). faults_at x k) is);
           })

@@ -33,7 +33,7 @@ use Rattle.vx_grouped.specs.SiteMaps.{StandMaps}
 use Rattle.vx_grouped.specs.SiteReturns.{ConfigReturns, NoteReturns, as_imported, returned_with, is_dimmed}
 use Rattle.vx_grouped.specs.declared.group_site.GroupSite.{GroupSite}
 use Rattle.vx_diskset.specs.Asked.{FailsAs}
-use Rattle.vx_diskset.specs.GroupCalls.{AtSite, cut_in}
+use Rattle.vx_diskset.specs.GroupCalls.{AtPlain, AtSite, cut_in}
 use Rattle.vx_diskset.specs.GroupSets.{cut_value}
 use Rattle.vx_diskset.specs.Recovers.{KeptIs, RisesWith, still_cut}
 use Rattle.vx_diskset.specs.declared.disk_set.DiskSet.{DiskSet}
@@ -67,7 +67,7 @@ use Rattle.vx_group_lines.proofs.GroupLeads.{Follows, Sized, down_set, follows_o
 use Rattle.vx_group_lines.proofs.GroupShown.{view_up}
 use Rattle.vx_group_lines.proofs.GroupStatus.{config_is, table_is}
 use Rattle.vx_group_lines.proofs.Returning.{SitsOn, back_of, NoneKnown, none_known}
-use Rattle.vx_group_lines.proofs.Rising.{HasUp, fits_by, has_up, risen_is, risen_node, shows_cut, sits_down, some_config, told_of, unfused_down, unread_as, up_as}
+use Rattle.vx_group_lines.proofs.Rising.{HasUp, cut_some, fits_by, has_up, risen_is, risen_node, shows_cut, sits_down, some_config, told_of, unfused_down, unread_as, up_as}
 use Rattle.vx_grouped.specs.GroupNotes.{note_dimmed}
 use Rattle.vx_group_lines.proofs.Dimming.{dark_moves}
 use Rattle.vx_group_lines.proofs.MapGoing.{stand_as}
@@ -194,7 +194,7 @@ module _ {R : Type 0} {g : Ghosts R} where
             arrives_up e e s n (e.world.gathering s) starts begin.below (ap (λ (t : SiteState). is_at_rest t) begin.down) none.role none.volumes none.log
 
         -- it stays up, with what is kept
-        kept_up : (kept : Option KeptWrite) → AtSite (UpNoted (worked (returned_with next (e.world.nodes s))) next) after → cut_in after ≡ None → KeptIs next (site_disks m) cut kept
+        kept_up : (kept : Option KeptWrite) → AtPlain (UpNoted (worked (returned_with next (e.world.nodes s))) next) after → cut_in after ≡ None → KeptIs next (site_disks m) cut kept
             → StandsSo s (fact_of_group (e.world.nodes s) (note_at (e.world.nodes s))) c after (Ok kept) mid new result → RisesIs e s old new result
         kept_up kept at clear is_kept so = subst (λ (r : Result Said OutOfMemory). RisesIs e s old new r) (sym replied) (record {
           next = noted_at (happened e (Regroup s) false) s next;
@@ -266,11 +266,11 @@ module _ {R : Type 0} {g : Ghosts R} where
                 (shown, ap (λ (v : SiteView). Resumed v shown) (seen d comes)) (record { world = refl; after = λ i. refl })))
 
         -- it went down again
-        unread : (disk : ℕ) → AtSite (DownNoted (crashed (with_note (still_cut cut next) (returned_with next (e.world.nodes s))) 0) (still_cut cut next)) after → cut_in after ≡ cut_value cut
-            → ((x : CutWrite) → (k : Option CutWrite) → cut_value k ≡ cut_value cut → k ≡ Some x → FitsPlain next x.volume x.block (length x.bytes))
-            → AtSite (λ x. Rose ((site_disks m).disk_faults disk) ((site_disks x).disk_faults disk)) after
+        unread : (disk : ℕ) → AtPlain (DownNoted (crashed (with_note (still_cut cut next) (returned_with next (e.world.nodes s))) 0) (still_cut cut next)) after → cut_in after ≡ cut_value cut
+            → ((x : CutWrite) → (k : Option CutWrite) → cut_value k ≡ cut_value cut → k ≡ Some x → FitsPlain next x.volume x.block (length x.bytes)) → (cut_value cut ≡ None → ⊥)
+            → AtPlain (λ x. Rose ((site_disks m).disk_faults disk) ((site_disks x).disk_faults disk)) after
             → StandsSo s (fact_of_group (e.world.nodes s) (note_at (e.world.nodes s))) c after (Err (StopsBy (Device disk))) mid new result → RisesIs e s old new result
-        unread disk at stays_cut fits rose so = subst (λ (r : Result Said OutOfMemory). RisesIs e s old new r) (sym so.2) (record {
+        unread disk at stays_cut fits some rose so = subst (λ (r : Result Said OutOfMemory). RisesIs e s old new r) (sym so.2) (record {
           next = noted_at (happened (happened e (Regroup s) false) (CrashAt s 0) false) s (still_cut cut next);
           fails = calls s old new (MOST_DISKS + suc disk);
           done = ends;
@@ -314,7 +314,7 @@ module _ {R : Type 0} {g : Ghosts R} where
             named =
                 calls_named e old new [] s before after begin.stands call call.at.set t.set call.at.is_set t.is (MOST_DISKS + suc disk) disk (omega arith)
                 (rose_down ((site_disks call.at.set.site).disk_faults disk) ((site_disks m).disk_faults disk) ((site_disks t.set.site).disk_faults disk) ((since t.set t.is).from disk)
-                (subst (λ (x : DiskSet R g). AtSite (λ y. Rose ((site_disks m).disk_faults disk) ((site_disks y).disk_faults disk)) x) t.is rose))
+                (subst (λ (x : DiskSet R g). AtPlain (λ y. Rose ((site_disks m).disk_faults disk) ((site_disks y).disk_faults disk)) x) t.is rose))
 
             ends : (d : Doubted) (name : List ℕ) → ComesDown d e s
                 → GroupEnds (IsTold new) d (Recover name) s (calls s old new (MOST_DISKS + suc disk)) (Refused (Device disk)) (noted_at (happened (happened e (Regroup s) false) (CrashAt s 0) false) s (still_cut cut next))
@@ -327,6 +327,7 @@ module _ {R : Type 0} {g : Ghosts R} where
                   middle = next;
                   back = back_for t.set t.is (MOST_DISKS + suc disk) (omega arith) d comes;
                   maps = maps_for t.set t.is d comes;
+                  cut = λ none. some (cut_for d comes ∙ none);
                   is = ap (λ (w : Option Write). let q : GroupNode = record next { cut = w } in q) (cut_for d comes);
                 })
                 refl (record { world = refl; after = λ i. refl }))
@@ -334,5 +335,5 @@ module _ {R : Type 0} {g : Ghosts R} where
         pub looked : (answer : Result (Option KeptWrite) Stop) → RisesWith (returned_with next (e.world.nodes s)) next cut m after answer
             → StandsSo s (fact_of_group (e.world.nodes s) (note_at (e.world.nodes s))) c after answer mid new result → RisesIs e s old new result
         looked (Ok kept) it so = kept_up kept it.0 it.1 it.2 so
-        looked (Err (StopsBy (Device disk))) it so = unread disk it.0 it.1 (λ x o same is. fits_by next cut o same it.2 x is) it.3 so
+        looked (Err (StopsBy (Device disk))) it so = unread disk it.0 it.1 (λ x o same is. fits_by next cut o same it.2 x is) (cut_some next cut it.2) it.3 so
         looked (Err other) it so = absurd it

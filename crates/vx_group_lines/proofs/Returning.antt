@@ -13,19 +13,19 @@ use Rattle.vx_kept.specs.Cleans.{at_serial}
 use Rattle.vx_history.specs.Groups.{GroupNode}
 use Rattle.vx_history.specs.World.{Node}
 use Rattle.vx_grouped.specs.Clean.{StopsClean}
-use Rattle.vx_grouped.specs.ConfigMoves.{AnyState, PlexMoves, VolumeMoves}
+use Rattle.vx_grouped.specs.ConfigMoves.{AnyState, OpensMoves, PlexMoves, VolumeMoves}
 use Rattle.vx_grouped.specs.GroupNotes.{note_dimmed}
 use Rattle.vx_grouped.specs.GroupSites.{site_disks}
 use Rattle.vx_grouped.specs.SiteReturns.{ConfigReturns, NoteReturns}
 use Rattle.vx_grouped.specs.declared.group_site.GroupSite.{GroupSite}
 use Rattle.vx_events.specs.Fails.{Fails}
-use Rattle.vx_events.specs.GroupConfigs.{PlexStays, VolumeStays}
+use Rattle.vx_events.specs.GroupConfigs.{PlexStays, StateOpens, VolumeGoesBy, VolumeStays}
 use Rattle.vx_events.specs.GroupEnds.{KnowsNothing}
 use Rattle.vx_events.specs.GroupMaps.{StoppedClean}
 use Rattle.vx_events.specs.GroupNotes.{IsKnown, NotesBack}
 use Rattle.vx_group_lines.proofs.Dimming.{dark_moves}
 use Rattle.vx_group_lines.proofs.GroupStatus.{config_is}
-use Rattle.vx_group_lines.proofs.Losing.{placed_as}
+use Rattle.vx_group_lines.proofs.Losing.{Names, placed_as, state_opens, volume_goes}
 use Rattle.vx_group_lines.proofs.MapReturns.{clean_to}
 
 plex_stays : (v : VolumeEntry) (p q : PlexEntry) → PlexMoves (AnyState v) p q → PlexStays p q
@@ -91,13 +91,21 @@ module _ {R : Type 0} {g : Ghosts R} where
     size = λ v. config.sizes v;
     block = λ v b. back.block v b;
     may = λ yes_ v b low. back.may (tells yes_) v b low;
+    opens = λ yes_ tight none v.
+        placed_as (VolumeMoves (OpensMoves old (site_disks e))) (VolumeGoesBy (StateOpens s fails)) (slice_get config.was.volumes v) (slice_get config.now.volumes v)
+        (λ x y _ _ moves. volume_goes (OpensMoves old (site_disks e)) (StateOpens s fails) fails (state_opens s n.disks fails old (site_disks e) named) x y moves) (config.opens (tells yes_) tight none v);
+    parts = λ yes_ tight none. config.parts (tells yes_) tight none;
     one = λ yes_ tight none v b low. ones v b (config.one (tells yes_) tight none v b low);
     cut = back.cut;
+    inside = back.inside;
   }
     where
       ones : (v b : ℕ) → (next.others v b ≡ []) ⊎ ((v < length config.was.volumes) × StopsClean config.was v) → (next.others v b ≡ []) ⊎ StoppedClean (at_serial 0 config.was) v
       ones v b (inl none) = inl none
       ones v b (inr clean) = inr (clean_to config.was v clean.1)
+
+      named : Names s n.disks fails old (site_disks e)
+      named = record { many = (let same = sits.units in omega (arith, same)); each = names }
 
       within : (k : ℕ) (disk : DiskEntry) → slice_get config.now.disks k ≡ Some disk → k < n.disks
       within k disk at = omega (arith, slice_get_within config.now.disks k disk at, config.change.count, sits.units)

@@ -25,7 +25,7 @@ use Rattle.vx_grouped.specs.declared.group_site.GroupSite.{GroupSite}
 use Rattle.vx_grouped.specs.declared.group_site.GroupSite.TheVariants.{Up as SiteUp, Deported as SiteAway, Down as SiteDown, Marked, Gone as SiteGone}
 use Rattle.vx_diskset.specs.GroupSets.{cut_value}
 use Rattle.vx_diskset.specs.Recovers.{CutFits, KeptIs}
-use Rattle.vx_diskset.specs.Stands.{IsToldAt}
+use Rattle.vx_diskset.specs.Stands.{IsRackTold}
 use Rattle.vx_diskset.specs.declared.disk_set.DiskSet.{DiskSet}
 use Rattle.vx_diskset.specs.declared.disk_set.DiskSet.TheVariants.{OfGroup}
 use Rattle.vx_diskset.specs.declared.group_set.CutWrite.{CutWrite}
@@ -40,6 +40,7 @@ use Rattle.vx_events.specs.GroupViews.{config_of, plain_fact, volumes_of}
 use Rattle.vx_yard.specs.Yards.{IsTold}
 use Rattle.vx_yard.specs.declared.yard.Yard.{Yard}
 use Rattle.vx_group_lines.specs.Rises.{ComesDown, kept_of_volume, kept_shown}
+use Rattle.vx_group_lines.proofs.GroupAt.{no_value}
 use Rattle.vx_group_lines.proofs.GroupStatus.{config_is}
 use Rattle.vx_group_lines.proofs.Returning.{SitsOn}
 
@@ -96,6 +97,11 @@ cut_fits note (Some x) it = it
 pub fits_as : (note : GroupNode) (o k : Option CutWrite) → cut_value k ≡ cut_value o → ((x : CutWrite) → o ≡ Some x → FitsPlain note x.volume x.block (length x.bytes))
     → (x : CutWrite) → k ≡ Some x → FitsPlain note x.volume x.block (length x.bytes)
 fits_as note o k same fits x is = fits_each note k (subst (λ (w : Option Write). fits_write note w) (sym same) (fits_all note o fits)) x is
+
+-- a write that fits was cut
+pub cut_some : (note : GroupNode) (o : Option CutWrite) → CutFits note o → cut_value o ≡ None → ⊥
+cut_some note None fits none = fits
+cut_some note (Some x) fits none = let no_one : Some x ≡ None = no_value (Some x) none in cc
 
 pub fits_by : (note : GroupNode) (o k : Option CutWrite) → cut_value k ≡ cut_value o → CutFits note o → (x : CutWrite) → k ≡ Some x → FitsPlain note x.volume x.block (length x.bytes)
 fits_by note o k same fits x is = fits_each note k (subst (λ (w : Option Write). fits_write note w) (sym same) (cut_fits note o fits)) x is
@@ -184,4 +190,4 @@ module _ {R : Type 0} {g : Ghosts R} where
   sits_down n note SiteGone it = absurd it
 
   pub told_of : (y : Yard R g) (s : ℕ) (e : DiskSet R g) (set : GroupSet R g) → slice_get y.disk_sets.items s ≡ Some e → e ≡ OfGroup set → IsTold y → IsTrue (site_below set.site).tells
-  told_of y s e set there is told = subst (λ (x : DiskSet R g). IsToldAt x) is (told.each s e there)
+  told_of y s e set there is told = subst (λ (x : DiskSet R g). IsRackTold x) is (told.each s e there)

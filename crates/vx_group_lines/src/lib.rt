@@ -15,6 +15,7 @@ mod noting;
 mod plex;
 mod read;
 mod recover;
+mod rvg;
 mod status;
 mod views;
 mod volume;

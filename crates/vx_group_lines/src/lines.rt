@@ -16,12 +16,14 @@ use crate::init::init_line;
 use crate::marks::{crash_line, disk_line, fuse_line};
 use crate::plex::{attach_line, detach_line};
 use crate::recover::recover_line;
+use crate::rvg::rvg_line;
 use crate::status::status_line;
 use crate::volume::{shape_of, volume_line};
 use std::alloc::Global;
 use vx_disk::Rack;
 use vx_events::Said;
 use vx_model::{Name, OutOfMemory};
+use vx_order::VolumeKind;
 use vx_script::ScriptLine;
 use vx_yard::Yard;
 
@@ -35,6 +37,25 @@ fn is_group<R: Rack>(yard: &Yard<R>, name: &Name) -> bool
     yard.facts[site].grouped && yard.facts[site].rvg.is_none()
 }
 
+// Whether the disks of a site are a group.
+fn is_grouped<R: Rack>(yard: &Yard<R>, name: &Name) -> bool {
+    let site = yard.site_of(name);
+    yard.facts[site].grouped
+}
+
+// Whether a volume is one of a group, and no data volume of a replicated volume group.
+fn is_plain<R: Rack>(yard: &Yard<R>, name: &Name, volume: &Name) -> bool {
+    let site = yard.site_of(name);
+    if !yard.facts[site].grouped {
+        return false;
+    }
+    let place = yard.volume_of(site, volume);
+    !matches!(
+        yard.facts[site].volumes.as_slice()[place].kind,
+        VolumeKind::Data
+    )
+}
+
 // Whether such a line goes to a group, whatever its site is.
 fn is_word_of_group(words: &ScriptLine) -> bool
     ensures { result ≡ is_group_line words.now }
@@ -46,6 +67,7 @@ fn is_word_of_group(words: &ScriptLine) -> bool
         ScriptLine::Volume { .. } => true,
         ScriptLine::PlexDetach { .. } => true,
         ScriptLine::PlexAttach { .. } => true,
+        ScriptLine::Rvg { .. } => true,
         _ => false,
     }
 }
@@ -79,9 +101,17 @@ pub fn is_of_group<R: Rack>(yard: &Yard<R>, words: &ScriptLine) -> bool
     if is_word_of_group(words) {
         return true;
     }
-    match site_named(words) {
-        Some(site) => is_group(yard, site),
-        None => false,
+    match words {
+        ScriptLine::Recover { site } => is_grouped(yard, site),
+        ScriptLine::Status { site } => is_grouped(yard, site),
+        ScriptLine::Write { site, volume, .. } => is_plain(yard, site, volume),
+        ScriptLine::Put { site, volume, .. } => is_plain(yard, site, volume),
+        ScriptLine::Read { site, volume, .. } => is_plain(yard, site, volume),
+        ScriptLine::Show { site, volume, .. } => is_plain(yard, site, volume),
+        _ => match site_named(words) {
+            Some(site) => is_group(yard, site),
+            None => false,
+        },
     }
 }
 
@@ -170,6 +200,12 @@ pub fn work_group<R: Rack>(
         ScriptLine::PlexAttach { site, volume, plex } => {
             attach_line(yard, alloc, site, volume, *plex)
         }
+        ScriptLine::Rvg {
+            site,
+            srl,
+            dcm,
+            volumes,
+        } => rvg_line(yard, alloc, site, srl, dcm, volumes),
         ScriptLine::Disk { site, disk, state } => Ok(disk_line(yard, site, *disk, *state)),
         ScriptLine::Crash { site, pick } => Ok(crash_line(yard, alloc, site, *pick)),
         ScriptLine::Fuse { site, writes, pick } => Ok(fuse_line(yard, site, *writes, *pick)),

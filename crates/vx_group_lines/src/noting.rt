@@ -12,11 +12,13 @@ ghost use Rattle.vx_group_lines.specs.Noting.{HasConfig, KeepsRest, reply_noted}
 use std::alloc::Global;
 use vx_config::Config;
 use vx_disk::Rack;
+use vx_diskset::DiskSet;
 use vx_events::Said;
-use vx_group_facts::volumes_seen;
+use vx_group_facts::{kinds_seen, volumes_seen};
 use vx_model::{No, OutOfMemory, Stop};
 use vx_order::{VolumeRoom, VolumeTable};
 use vx_yard::Yard;
+use vx_yard::facts::come_up;
 use vx_yard::group_facts::come_up_group;
 use vx_yard::load::let_go_if_down;
 use vx_yard::refusing::refused;
@@ -55,7 +57,10 @@ fn table_of(config: Option<&Config>, room: VolumeRoom) -> VolumeTable
     ensures { result ≡ map plain_fact (volumes_of (option_copied config.entry)) }
 {
     match config {
-        Some(config) => volumes_seen(room, config.volumes.as_slice()),
+        Some(config) => match &config.rvg {
+            Some(units) => kinds_seen(room, config.volumes.as_slice(), units),
+            None => volumes_seen(room, config.volumes.as_slice()),
+        },
         None => room.into_table(),
     }
 }
@@ -73,4 +78,21 @@ pub(crate) fn note_up<R: Rack>(yard: &mut Yard<R>, site: usize, room: VolumeRoom
 {
     let volumes = table_of(yard.disk_sets[site].config(), room);
     come_up_group(&mut yard.facts[site], volumes);
+    note_rvg(yard, site);
+}
+
+// The tests see the replicated volume group of a site that has one over its group.
+fn note_rvg<R: Rack>(yard: &mut Yard<R>, site: usize) {
+    match &yard.disk_sets[site] {
+        DiskSet::Over(over) => match over.core() {
+            Some(core) => come_up(
+                &mut yard.facts[site],
+                core.state(),
+                core.head(),
+                core.ring(),
+            ),
+            None => {}
+        },
+        _ => {}
+    }
 }

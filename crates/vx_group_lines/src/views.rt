@@ -12,6 +12,7 @@ use vx_disk::Rack;
 use vx_group_facts::{disks_shown, volumes_shown};
 use vx_model::OutOfMemory;
 use vx_report::{DiskViewRoom, DiskViews, LinkViews, SiteView, VolumeViewRoom, VolumeViews};
+use vx_site_lines::rvg_view;
 use vx_yard::Yard;
 
 /// What a status needs of memory.
@@ -70,7 +71,11 @@ pub(crate) fn view_at<R: Rack>(
         state: yard.facts[site].state,
         disks,
         volumes,
-        rvg: None,
+        rvg: rvg_view(
+            &yard.facts,
+            yard.disk_sets[site].session(),
+            &yard.facts[site],
+        ),
         links: LinkViews::new(alloc),
     }
 }

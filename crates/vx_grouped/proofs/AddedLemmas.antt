@@ -9,8 +9,9 @@ use Rattle.vx_model.specs.declared.errors.Stop.{Stop}
 use Rattle.vx_model.specs.declared.errors.Stop.TheVariants.{No as Refused, OutOfMemory}
 use Rattle.vx_model.specs.declared.no.No.{No}
 use Rattle.vx_model.specs.declared.no.No.TheVariants as refusal
+use Rattle.vx_disk.specs.Moves.{Nowhere}
+use Rattle.vx_disk.specs.Shelf.{Goes, Lawful, Meaning, Nothing, Values}
 use Rattle.vx_model.proofs.Lists.{get_end}
-use Rattle.vx_disk.specs.Shelf.{Goes, Lawful, Meaning, Nothing}
 use Rattle.vx_disk.proofs.Runs.{then_nothing}
 use Rattle.vx_history.specs.Groups.{BlockMay, GroupNode}
 use Rattle.vx_history.specs.World.{Node}
@@ -35,11 +36,13 @@ use Rattle.vx_group.proofs.Standing.{apart_of_core}
 use Rattle.vx_grouped.specs.Added.{VolumeLeaves, note_added}
 use Rattle.vx_grouped.specs.GroupNotes.{IsGroupAt, note_called}
 use Rattle.vx_grouped.specs.Plain.{HoldsPlain}
+use Rattle.vx_grouped.specs.Volumes.{VolumesGo}
 use Rattle.vx_grouped.proofs.KeepLemmas.{call_cut, call_none, call_up}
 use Rattle.vx_grouped.proofs.ImageLemmas.{called_tight, nexts_of}
 use Rattle.vx_grouped.proofs.NoteLemmas.{lies_called}
 use Rattle.vx_grouped.proofs.PlainLemmas.{same_holds}
-use Rattle.vx_kept.specs.Keeping.{SameShape}
+use Rattle.vx_kept.specs.Keeping.{Extends, SameShape}
+use Rattle.vx_volume.specs.Plexes.{Inside, active}
 use Rattle.vx_kept.proofs.Chosen.{active_volumes, alike_shape, place_volumes}
 use Rattle.vx_kept.proofs.StateLemmas.{same_shape}
 use Rattle.vx_kept.proofs.Steps.{inside_same}
@@ -68,7 +71,57 @@ apart_volumes c d same it = record {
     shape : SameShape d c
     shape = alike_shape d c c same (same_shape c)
 
+-- ---- volumes behind others leave those as they were
+
+extended_inside : (x c : Config) → Extends x c → (v b : ℕ) → v < length c.volumes → Inside x v b → Inside c v b
+extended_inside x c ext v b low it = record { volume = low; within = (let less = it.within in let same = ext.blocks v low in omega (arith, less, same)) }
+
+inside_extended : (x c : Config) → Extends x c → (v b : ℕ) → Inside c v b → Inside x v b
+inside_extended x c ext v b it = record {
+  volume = (let few = ext.volumes in let low = it.volume in omega (arith, few, low));
+  within = (let less = it.within in let same = ext.blocks v it.volume in omega (arith, less, same));
+}
+
+extended_seen : (told : Bool) (x c : Config) → Extends x c → ((v p : ℕ) → v < length c.volumes → active x v p ≡ active c v p) → (values : Values) (v b : ℕ) (value : List ℕ) → v < length c.volumes → seen told x values v b value
+    → seen told c values v b value
+extended_seen told x c ext on values v b value low (inl is) = inl (record {
+  inside = extended_inside x c ext v b low is.inside;
+  plex = is.plex;
+  is_on = sym (on v is.plex low) ∙ is.is_on;
+  value = subst (λ (at : ℕ × ℕ). values at.0 at.1 value) (ext.place v is.plex b low) is.value;
+})
+extended_seen told x c ext on values v b value low (inr out) = inr (record { tells = out.tells; outside = λ it. out.outside (inside_extended x c ext v b it); empty = out.empty })
+
 module _ (c d : GroupCore) (m m' : Meaning) (two : GroupStands d m') (lawful : Lawful m') (stays : GroupStays c d m m') where
+  module _ (none : d.held ≡ None) where
+    abbrev mid : Meaning
+    mid = group_meaning c.inner.config (volume_faults d.inner.faults) m'
+
+    mid_goes : Goes Nothing (inner_meaning (wide c) m) mid
+    mid_goes = subst (λ (o : Option Held). Goes Nothing (inner_meaning (wide c) m) (group_meaning (config_by o c.inner.config) (volume_faults d.inner.faults) m')) none stays.goes
+
+    low_here : (v : ℕ) → v < length (wide c).config.volumes → v < length c.inner.config.volumes
+    low_here v low = let same = (wide_shape c).volumes in omega (arith, low, same)
+
+    by_inner : VolumesGo Nowhere (inner_meaning (wide c) m) (inner_meaning d.inner m')
+    by_inner = record {
+      units = let same = (wide_shape c).volumes in let few = stays.shape.volumes in omega (arith, same, few);
+      size = λ v low. stays.shape.blocks v (low_here v low) ∙ sym ((wide_shape c).blocks v);
+      tells = mid_goes.tells;
+      reads = λ v b x low is. elim (mid_goes.reads v b x (extended_seen m'.tells d.inner.config c.inner.config stays.shape stays.on m'.reads v b x (low_here v low) is)) [
+        | inl (inl was) ↦ inl was
+        | inl (inr put) ↦ absurd put
+        | inr down ↦ inr (inr down)
+      ];
+      leaves = λ v b x low is. elim (mid_goes.leaves v b x (extended_seen m'.tells d.inner.config c.inner.config stays.shape stays.on m'.leaves v b x (low_here v low) is)) [ inl was ↦ inl was | inr put ↦ absurd put ];
+      falls = mid_goes.falls;
+      unarmed = mid_goes.unarmed;
+    }
+
+    -- the volumes that stood leave what they left
+    pub added_goes : VolumesGo Nowhere (inner_meaning (wide c) m) (inner_meaning (wide d) m')
+    added_goes = subst (λ (i : Inner). VolumesGo Nowhere (inner_meaning (wide c) m) (inner_meaning i m')) (sym (wide_none d none)) by_inner
+
   -- none was made
   pub same_goes : d.inner.config.volumes ≡ c.inner.config.volumes → Goes Nothing (inner_meaning (wide c) m) (inner_meaning (wide d) m')
   same_goes same =
@@ -119,11 +172,12 @@ module _ (c d : GroupCore) (m m' : Meaning) (two : GroupStands d m') (lawful : L
       added_last : (v b : ℕ) (x : List ℕ) → v ≡ vol → OnSome new m'.leaves v b x → BlockMay added v b x
       added_last v b x same is =
           let at : OnSome new m'.leaves vol b x = subst (λ (w : ℕ). OnSome new m'.leaves w b x) same is in
-          inl (made.begins.each at.plex b x at.is_on at.inside at.value ∙ sym (if_same v vol zero_block (note.bytes.block v b) same))
+          inr (inl (made.begins.each at.plex b x at.is_on at.inside at.value ∙ sym (if_same v vol zero_block (note.bytes.block v b) same)))
 
       may_else : (v b : ℕ) (x : List ℕ) → (v ≡ vol → ⊥) → BlockMay note v b x → BlockMay added v b x
-      may_else v b x apart (inl is) = inl (is ∙ sym (if_apart v vol zero_block (note.bytes.block v b) apart))
-      may_else v b x apart (inr among) = inr (subst (λ (xs : List (List ℕ)). Contains xs x) (sym (if_apart v vol [] (note.others v b) apart)) among)
+      may_else v b x apart (inl within) = inl within
+      may_else v b x apart (inr (inl is)) = inr (inl (is ∙ sym (if_apart v vol zero_block (note.bytes.block v b) apart)))
+      may_else v b x apart (inr (inr among)) = inr (inr (subst (λ (xs : List (List ℕ)). Contains xs x) (sym (if_apart v vol [] (note.others v b) apart)) among))
 
       -- of the others each is what it was
       added_else : (v b : ℕ) (x : List ℕ) → v < length old.volumes → OnSome new m'.leaves v b x → BlockMay added v b x
@@ -167,6 +221,12 @@ make_not_down false false false false false n1 n2 n3 n4 n5 x1 x2 x3 x4 x5 is = l
 pub stop_volumes : (name : List ℕ) (want : Shape) (c d : Inner) (m m' : Meaning) (stop : Stop) → MakeEnds name want c d m m' (Err stop) → d.config.volumes ≡ c.config.volumes
 stop_volumes name want c d m m' (Refused why) ends = ends.0
 stop_volumes name want c d m m' OutOfMemory same = same
+
+-- nor where a test refused it
+pub refused_volumes : (name : List ℕ) (want : Shape) (c d : GroupCore) (m m' : Meaning) (stop : Stop) (o : Option No) → (o ≡ None → MakeEnds name want c.inner d.inner m m' (Err stop)) → ((why : No) → o ≡ Some why → d ≡ c)
+    → d.inner.config.volumes ≡ c.inner.config.volumes
+refused_volumes name want c d m m' stop None ends refused = stop_volumes name want c.inner d.inner m m' stop (ends refl)
+refused_volumes name want c d m m' stop (Some why) ends refused = ap (λ (x : GroupCore). x.inner.config.volumes) (refused why refl)
 
 pub err_one : (r : Result ℕ Stop) (x y : Stop) → r ≡ Err x → r ≡ Err y → x ≡ y
 err_one r x y one two = cc

@@ -63,6 +63,7 @@ first_note core = record {
   others = λ v b. [];
   cut = None;
   maps = maps_none core.config.serial;
+  inside = λ v. false;
 }
 
 kept_tight : (kept : Bool) → kept ≡ true → not kept ≡ false
@@ -158,6 +159,7 @@ module _ (m m' : Meaning) (n : Node) (can : CanBegin n m) (since : CalledSince m
       serial = core.inner.config.serial;
       small = let used = new.few in let is = count in let same = since.units in let units = can.units in let few = can.few in omega (arith, used, is, same, units, few);
       maps = refl;
+      inside = λ v. refl;
     }
 
     trusted : (P : Type 0) → (HasFailed core.inner.config.disks → P) → ((first_note core.inner).loose ≡ false) ⊎ P

@@ -54,6 +54,7 @@ seen_note last w = record {
   others = λ v b. [];
   cut = None;
   maps = w;
+  inside = λ v. false;
 }
 
 seen_lies : (n : Node) (m : Meaning) (can : CanFind n m) (last : Config) (w : MissedNote) → AwayLies n (seen_note last w) last (untold m)
@@ -98,6 +99,7 @@ module _ {R : Type 0} {g : Ghosts R} (site : ℕ) (n : Node) (m : Meaning) (can 
     dark = refl;
     size = λ v. refl;
     cut = refl;
+    inside = λ v. refl;
   }
 
   -- what memory has of maps is noted

@@ -86,13 +86,23 @@ not_off : (x : Bool) → not x ≡ false → x ≡ true
 not_off true off = refl
 not_off false off = let clash : true ≡ false = off in cc
 
-abbrev memory_note : Config → List Logs → List Bool → Bool → MissedNote
+abbrev pub memory_note : Config → List Logs → List Bool → Bool → MissedNote
 memory_note d logs flags t = record {
   mapped = goes_by logs d t;
   missed = λ v p r. missed_by (fmr_at logs v) true p r;
   perhaps = λ v p r. false;
   doubt = λ v. not (is_alike flags v);
   serial = d.serial;
+}
+
+-- what memory has, whatever was noted
+pub memory_noted : (d : Config) (logs : List Logs) (flags : List Bool) (t : Bool) → MapsNoted (memory_note d logs flags t) d logs flags t
+memory_noted d logs flags t = record {
+  mapped = λ v. refl;
+  most = λ v p r f on at it has. inl (ap (λ (o : Option Missed). missed_by o true p r) at ∙ has);
+  least = λ v p r f on at it off has. sym (ap (λ (o : Option Missed). missed_by o true p r) at) ∙ has;
+  alike = λ v low sure. not_off (is_alike flags v) sure;
+  serial = refl;
 }
 
 module _ {S : Type 0} (meaning : S → Meaning) (rested : Rested) (old : Meaning) (law : Lawful old) (can : CanImport old) (core : GroupCore) (logs : List Logs) (flags : List Bool) (ended : Bool) (new : Meaning) (it : IsOpened meaning rested old core logs flags ended new)
@@ -256,20 +266,9 @@ module _ {S : Type 0} (meaning : S → Meaning) (rested : Rested) (old : Meaning
           record { image = it.resumed.taken.image; config = x; each = each_told tells; finds = finds_x tells; clean = clean_x v (not_alike v low flag.1); low = low_x v low };
     }
 
-  -- ---- what memory has, whatever was noted
-
-  memory_noted : MapsNoted (memory_note core.inner.config logs flags ended) core.inner.config logs flags ended
-  memory_noted = record {
-    mapped = λ v. refl;
-    most = λ v p r f on at it has. inl (ap (λ (o : Option Missed). missed_by o true p r) at ∙ has);
-    least = λ v p r f on at it off has. sym (ap (λ (o : Option Missed). missed_by o true p r) at) ∙ has;
-    alike = λ v low sure. not_off (is_alike flags v) sure;
-    serial = refl;
-  }
-
   pub parts_came : PartsBack rested old (map_parts core.inner.config logs flags ended) new
   parts_came = record {
     so = λ w c tells idle. (back_note w c core.inner.config logs flags ended, came_maps c tells idle.all w idle, came_noted c tells idle.all w idle);
-    some = (memory_note core.inner.config logs flags ended, memory_noted);
+    some = (memory_note core.inner.config logs flags ended, memory_noted core.inner.config logs flags ended);
     none = λ none. (crashed_note none, crashed_risen none, crashed_noted none);
   }

@@ -35,13 +35,17 @@ pub mod MovesLemmas
 pub mod PlexMoveLemmas
 pub mod SitePlexLemmas
 pub mod BothLemmas
+pub mod BringLemmas
 pub mod WhyLemmas
 pub mod NoneLemmas
+pub mod TakenLemmas
 pub mod SinceReturns
 pub mod ReadyLemmas
 pub mod FindLemmas
 pub mod TraceLemmas
+pub mod VolumeLemmas
 pub mod LitLemmas
+pub mod ComeLemmas
 pub mod MapNoteLemmas
 pub mod MapStandLemmas
 pub mod NotedMapLemmas

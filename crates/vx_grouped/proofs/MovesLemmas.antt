@@ -197,7 +197,7 @@ module _ (c : Config) (m m' : Meaning) (one : (u : ℕ) → m.disk_faults u ≡ 
   }
 
   -- or of some plex of the volume
-  volume_rose : (v : ℕ) (e : VolumeEntry) → slice_get c.volumes v ≡ Some e → (k : ℕ) → PlexBlamed c v k m m' → VolumeRose m m' e
+  pub volume_rose : (v : ℕ) (e : VolumeEntry) → slice_get c.volumes v ≡ Some e → (k : ℕ) → PlexBlamed c v k m m' → VolumeRose m m' e
   volume_rose v e at k it = by (slice_get e.plexes k) refl
     where
       in_e : plex_at c v k ≡ slice_get e.plexes k

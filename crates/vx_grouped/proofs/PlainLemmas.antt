@@ -58,21 +58,23 @@ module _ (note : GroupNode) (v block : ℕ) (bytes : List ℕ) where
   of_covers u b it = shows u v block b (512 * (b - block)) (length bytes) it.there it.first it.last
 
   doubt_old : (u b : ℕ) (x : List ℕ) → BlockMay note u b x → BlockMay (note_doubt own note) u b x
-  doubt_old u b x (inl same) = inl same
-  doubt_old u b x (inr among) = inr (more_of (touches own u b) (block_of bytes (b - block)) (note.others u b) x among)
+  doubt_old u b x (inl within) = inl within
+  doubt_old u b x (inr (inl same)) = inr (inl same)
+  doubt_old u b x (inr (inr among)) = inr (inr (more_of (touches own u b) (block_of bytes (b - block)) (note.others u b) x among))
 
   doubt_new : (u b : ℕ) (x : List ℕ) → Written v block bytes u b x → BlockMay (note_doubt own note) u b x
-  doubt_new u b x put = inr (one_of (touches own u b) (block_of bytes (b - block)) (note.others u b) x (of_covers u b put.covers) put.value)
+  doubt_new u b x put = inr (inr (one_of (touches own u b) (block_of bytes (b - block)) (note.others u b) x (of_covers u b put.covers) put.value))
 
   write_old : (u b : ℕ) (x : List ℕ) → touches own u b ≡ false → BlockMay note u b x → BlockMay (note_write own note) u b x
-  write_old u b x off (inl same) =
-      inl (same ∙ put_beside (leb (block + blocks_in bytes) (note.bytes.size v)) (touches own u b) (block_of bytes (b - block)) (note.bytes.block u b) off)
-  write_old u b x off (inr among) = inr (same_of (touches own u b) (note.others u b) x off among)
+  write_old u b x off (inl within) = inl within
+  write_old u b x off (inr (inl same)) =
+      inr (inl (same ∙ put_beside (leb (block + blocks_in bytes) (note.bytes.size v)) (touches own u b) (block_of bytes (b - block)) (note.bytes.block u b) off))
+  write_old u b x off (inr (inr among)) = inr (inr (same_of (touches own u b) (note.others u b) x off among))
 
   write_new : (u b : ℕ) (x : List ℕ) → block + blocks_in bytes ≤ note.bytes.size v → Written v block bytes u b x → BlockMay (note_write own note) u b x
   write_new u b x within put =
-      inl (put.value ∙ put_here (leb (block + blocks_in bytes) (note.bytes.size v)) (touches own u b) (block_of bytes (b - block)) (note.bytes.block u b)
-      (fits (block + blocks_in bytes) (note.bytes.size v) within) (of_covers u b put.covers))
+      inr (inl (put.value ∙ put_here (leb (block + blocks_in bytes) (note.bytes.size v)) (touches own u b) (block_of bytes (b - block)) (note.bytes.block u b)
+      (fits (block + blocks_in bytes) (note.bytes.size v) within) (of_covers u b put.covers)))
 
   -- a block is one of the write, or not
   beside : (u b : ℕ) → Covers v block bytes u b ⊎ (touches own u b ≡ false)

@@ -5,6 +5,7 @@ use Rattle.std.proofs.lemmas.Bool.{and_from, and_parts, cases_lt, eq-eqb, eqb-tr
 use Rattle.vx_disk.specs.Shelf.{Each, Goes, Image, Lawful, Meaning, Nothing}
 use Rattle.vx_history.specs.Groups.{BlockMay, GroupNode}
 use Rattle.vx_history.specs.World.{Node}
+use Rattle.vx_config.specs.Changes.{live_again}
 use Rattle.vx_config.specs.Checks.{blocks_of, is_sound, plexes_of, plexes_or}
 use Rattle.vx_config.specs.declared.config.Config.{Config}
 use Rattle.vx_config.specs.declared.entry.PlexEntry.{PlexEntry}
@@ -22,7 +23,7 @@ use Rattle.vx_layout.specs.Places.{HasBlock, has_plex, place, plex_at, plex_in}
 use Rattle.vx_volume.specs.Plexes.{Inside, active, active_or}
 use Rattle.vx_kept.specs.Choice.{chosen, live, live_or}
 use Rattle.vx_kept.specs.Groups.{OnSome, found, found_by, group_meaning}
-use Rattle.vx_kept.specs.Keeping.{Extends, frame_at}
+use Rattle.vx_kept.specs.Keeping.{AllOn, Extends, frame_at}
 use Rattle.vx_kept.proofs.Frames.{names_of}
 use Rattle.vx_kept.proofs.Chosen.{extends_shape, extends_volumes, live_volumes, place_volumes}
 use Rattle.vx_kept.proofs.Lasting.{cases_bool}
@@ -39,14 +40,16 @@ use Rattle.vx_group.specs.declared.inner.Inner.{Inner}
 use Rattle.vx_group.proofs.AgainLemmas.{goes_can}
 use Rattle.vx_group.proofs.FoundLemmas.{found_wanted}
 use Rattle.vx_group.proofs.HoldLemmas.{wide_none}
+use Rattle.vx_group.proofs.ResumeLemmas.{live_there}
 use Rattle.vx_grouped.specs.Away.{AwayLies}
 use Rattle.vx_grouped.specs.Plain.{HoldsPlain}
 use Rattle.vx_kept.specs.Facts.{is_found}
 use Rattle.vx_group.proofs.Standing.{disks_fit}
 use Rattle.vx_grouped.proofs.ImportMapLemmas.{clean_of}
 use Rattle.vx_grouped.proofs.NoteLemmas.{blocks_same}
+use Rattle.vx_grouped.proofs.StateChangeLemmas.{live_there as live_entry, on_there, opened_as}
 use Rattle.vx_grouped.specs.Clean.{StoppedSome}
-use Rattle.vx_grouped.specs.Returns.{DisksBack, HasNoMore, ImportLeft, VolumesReturn, note_imported, note_loose}
+use Rattle.vx_grouped.specs.Returns.{DisksBack, HasNoMore, ImportLeft, TakesOpened, VolumesReturn, note_imported, note_loose}
 use Rattle.vx_model.specs.declared.errors.Stop.{Stop}
 use Rattle.vx_kept.proofs.Steps.{inside_back}
 use Rattle.vx_kept.specs.Opens.{OpenVolumes}
@@ -251,8 +254,8 @@ module _ (n : Node) (note : GroupNode) (last : Config) (old : Meaning) (law : La
         stopped_by x v (chosen x v) ((extends_x can x opened up.readable up.image up.read up.is up.opens tells).fresh v (chosen x v) past on)
 
     has_by : (v b : ℕ) (y : List ℕ) (o : (v < length opened.volumes) ⊎ (length opened.volumes ≤ v)) (t : Bool) (is : stopped x v ≡ t) → v < length opened.volumes → b < blocks_of opened.volumes v → (inner_meaning core new).leaves v b y
-        → (y ≡ (if t then one_value v o t is b else note.bytes.block v b)) ⊎ Contains (if t then [] else note.others v b) y
-    has_by v b y (inl lt) true is there within left = inl ((r.mended v lt is).one b y (record { volume = there; within = within }) left)
+        → (note.inside v ≡ true) ⊎ (y ≡ (if t then one_value v o t is b else note.bytes.block v b)) ⊎ Contains (if t then [] else note.others v b) y
+    has_by v b y (inl lt) true is there within left = inr (inl ((r.mended v lt is).one b y (record { volume = there; within = within }) left))
     has_by v b y (inl lt) false is there within left =
         let on = was_opened can x opened up.readable up.image up.read up.is up.opens (inner_meaning core new) (λ w. 0) r.goes v b y (record { volume = there; within = within }) left in
         let tells = told can x opened up.readable up.image up.read up.is up.opens (place opened v on.plex b).0 (place opened v on.plex b).1 y on.value in
@@ -309,6 +312,36 @@ module _ (n : Node) (note : GroupNode) (last : Config) (old : Meaning) (law : La
       low = omega (arith, low, x_long);
     })
 
+    -- each plex that takes part is ACTIVE in what was opened
+    opened_on : IsTrue old.tells → AllOn opened
+    opened_on tells = record {
+      each = λ v p is.
+          let there = live_there x (sound_found up.image x (found_x can x opened up.readable up.image up.read up.is up.opens tells)) v p (sym (live_x can x opened up.readable up.image up.read up.is up.opens v p) ∙ is) in
+          up.opens.on v p (omega arith) there.0 there.1 is;
+    }
+
+    opened_state : IsTrue old.tells → (v k : ℕ) (p q : PlexEntry) → plex_at x v k ≡ Some p → plex_at opened v k ≡ Some q → q.state ≡ live_again p.state
+    opened_state tells v k p q at_p at_q =
+        opened_as p.state q.state (sym (live_entry opened v k q at_q) ∙ live_x can x opened up.readable up.image up.read up.is up.opens v k ∙ live_entry x v k p at_p)
+        (λ on. sym (on_there opened v k q at_q) ∙ (opened_on tells).each v k (live_entry opened v k q at_q ∙ on))
+
+    taken_opened : IsTrue old.tells → TakesOpened old core.config new
+    taken_opened tells = record {
+      image = up.image;
+      config = x;
+      opened = opened;
+      each = seen_image can x opened up.readable up.image up.read up.is up.opens tells;
+      finds = found_x can x opened up.readable up.image up.read up.is up.opens tells;
+      sound = sound_found up.image x (found_x can x opened up.readable up.image up.read up.is up.opens tells);
+      count = wanted_count old.units old.size x (found_wanted old up.readable up.image x up.is);
+      site = up.opens.alike.site;
+      rvg = up.opens.alike.rvg;
+      frames = λ v. up.opens.alike.shape.frames v;
+      states = opened_state tells;
+      on = opened_on tells;
+      loses = r.loses;
+    }
+
     pub group_returns : (group : GroupCore) → group.inner ≡ core → group.held ≡ None → VolumesReturn n note last old group new
     group_returns group is none = record {
       renewed = λ v. stopped x v;
@@ -327,6 +360,7 @@ module _ (n : Node) (note : GroupNode) (last : Config) (old : Meaning) (law : La
           let count = ap (λ (i : Inner). length i.config.volumes) is in
           let units = r.goes.units in
           stops_at tells v (omega (arith, low, count, units)) (stopped x v) refl;
+      takes = λ tells. subst (λ (i : Inner). TakesOpened old i.config new) (sym is) (taken_opened tells);
     }
 
   -- ---- refused behind what was taken up

@@ -24,6 +24,10 @@ volumes_as : (note : GroupNode) (last : Config) → note.begun ≡ [] → (x : C
 volumes_as note last none x (inl same) = ap (λ (c : Config). c.volumes) same
 volumes_as note last none x (inr has) = absurd (in_none note.begun (noted_try x) none has)
 
+pub noted_as_is : (note : GroupNode) (last : Config) → note.begun ≡ [] → (x : Config) → (at_serial 0 x ≡ at_serial 0 last) ⊎ Contains note.begun (noted_try x) → at_serial 0 x ≡ at_serial 0 last
+noted_as_is note last none x (inl same) = same
+noted_as_is note last none x (inr has) = absurd (in_none note.begun (noted_try x) none has)
+
 pub clean_noted : (note : GroupNode) (last : Config) (m : Meaning) → NotesFound note last m → note.loose ≡ false → note.begun ≡ [] → (v : ℕ) → StoppedSome m v → (v < length last.volumes) × StopsClean last v
 clean_noted note last m found tight none v some =
     let same : some.config.volumes ≡ last.volumes = volumes_as note last none some.config (found.each tight some.image some.config some.each some.finds) in (

@@ -38,14 +38,14 @@ agrees_called false false l was agrees = cc
 
 pub called_settles : (nexts : List (List ℕ)) (core : GroupCore) (note : GroupNode) → IsTight note core → NoteSettles note (note_called nexts core note)
 called_settles nexts core note tight = record {
-  same = record { dark = refl; bytes = refl; others = refl; cut = refl; maps = refl };
+  same = record { dark = refl; bytes = refl; others = refl; cut = refl; maps = refl; inside = refl };
   begun = begun_called (is_sure core) core.inner.agreed note.loose nexts note.begun;
   tight = λ was none. tight_called (is_sure core) core.inner.agreed note.loose nexts note.begun (tight was none);
 }
 
 pub called_unsettles : (twice : Bool) (nexts : List (List ℕ)) (core : GroupCore) (note : GroupNode) → (twice ≡ false → note.loose ≡ false → note.begun ≡ [] → core.inner.agreed ≡ true) → NoteUnsettles twice note (note_called nexts core note)
 called_unsettles twice nexts core note agrees = record {
-  same = record { dark = refl; bytes = refl; others = refl; cut = refl; maps = refl };
+  same = record { dark = refl; bytes = refl; others = refl; cut = refl; maps = refl; inside = refl };
   begun = begun_called (is_sure core) core.inner.agreed note.loose nexts note.begun;
   tight = λ once was none. agrees_called (is_sure core) core.inner.agreed note.loose was (agrees once was none);
 }
@@ -62,7 +62,7 @@ tight_deported false begun is = cc
 
 pub deport_settles : (x : Config) (core : Inner) (note : GroupNode) → (note.loose ≡ false → note.begun ≡ [] → core.committed ≡ true) → NoteSettles note (note_deported x core note)
 deport_settles x core note tight = record {
-  same = record { dark = refl; bytes = refl; others = refl; cut = refl; maps = refl };
+  same = record { dark = refl; bytes = refl; others = refl; cut = refl; maps = refl; inside = refl };
   begun = begun_deported core.committed note.loose note.begun;
   tight = λ was none. tight_deported core.committed note.begun (tight was none);
 }

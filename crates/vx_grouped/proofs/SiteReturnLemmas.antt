@@ -27,7 +27,7 @@ use Rattle.vx_group.specs.declared.group_core.GroupCore.{GroupCore}
 use Rattle.vx_watched.specs.Since.{CalledSince}
 use Rattle.vx_grouped.specs.Away.{AwayLies}
 use Rattle.vx_grouped.specs.GroupSites.{GroupAway, GroupDown, GroupUp, NotesGroup, laid_disks, AreStopped, IsLit, dimmed_site, laid_below}
-use Rattle.vx_grouped.specs.Returns.{GroupReturns, note_imported}
+use Rattle.vx_grouped.specs.Returns.{GroupReturns, TakesOpened, note_imported}
 use Rattle.vx_grouped.specs.SetFuses.{HasFuse}
 use Rattle.vx_grouped.specs.SiteEnds.{stops_down}
 use Rattle.vx_grouped.specs.SiteReturns.{ImportRefused, NoteReturns, KnownAway, returned_with, stops_early, ImportWhy, ImportsFrom, KeepsFuse, RecoversFrom, ReturnSince, ReturnsUp, TellsNone}
@@ -39,11 +39,13 @@ use Rattle.vx_grouped.proofs.AlikeLemmas.{less_away}
 use Rattle.vx_grouped.proofs.SettleLemmas.{fell_fused, fuse_burned}
 use Rattle.vx_grouped.proofs.ImageLemmas.{less_from, less_noted, none_noted, noted_as}
 use Rattle.vx_grouped.proofs.SiteLemmas.{lies_as, noted_dimmed, away_dimmed, lit_dimmed, runs_dimmed, some_as}
-use Rattle.vx_grouped.specs.ConfigMoves.{AnyState, ConfigBack}
+use Rattle.vx_grouped.specs.ConfigMoves.{AnyState, ConfigBack, OpensMoves, VolumeMoves}
 use Rattle.vx_config.specs.Configs.{HasSpelling}
 use Rattle.vx_grouped.specs.Clean.{StoppedSome, StopsClean}
 use Rattle.vx_grouped.specs.GroupNotes.{NotesConfig, NotesFound, note_dimmed}
-use Rattle.vx_grouped.proofs.RunMapLemmas.{clean_noted}
+use Rattle.vx_grouped.proofs.RunMapLemmas.{clean_noted, noted_as_is}
+use Rattle.vx_grouped.proofs.TakenLemmas.{takes_moves}
+use Rattle.vx_config.specs.Changes.{Matched}
 use Rattle.vx_kept.specs.Cleans.{at_serial}
 use Rattle.vx_grouped.proofs.MovesLemmas.{disk_blocks_at, disk_failed_at, rose_as, volume_moves}
 use Rattle.vx_kept.specs.Groups.{found, found_by}
@@ -72,7 +74,7 @@ some_volume (x ∷ xs) (suc v) b low = let rest = some_volume xs v b low in omeg
 
 may_by : (note : GroupNode) (v b : ℕ) (t : Bool) (value : List ℕ) → (t ≡ true → BlockMay note v b value) → BlockMay note v b (if t then value else note.bytes.block v b)
 may_by note v b true value may = may refl
-may_by note v b false value may = inl refl
+may_by note v b false value may = inr (inl refl)
 
 module _ (n : Node) (note : GroupNode) (last : Config) (m0 m : Meaning) (told : m.tells ≡ m0.tells) (lies : AwayLies n note last m) (core : GroupCore) (m' : Meaning) (back : GroupReturns n note last m core m') where
   abbrev pub next : GroupNode
@@ -89,6 +91,7 @@ module _ (n : Node) (note : GroupNode) (last : Config) (m0 m : Meaning) (told : 
     loose = refl;
     cut = refl;
     dark = refl;
+    inside = refl;
     block = λ v b. either_block (back.renewed v) (back.value v b) (note.bytes.block v b) (note.others v b);
     may = λ tells v b low. may_by note v b (back.renewed v) (back.value v b) (λ on. back.may (subst IsTrue (sym told) tells) v b (inside v b low) on);
     size = λ tells v low. back.sizes (subst IsTrue (sym told) tells) v (inside v 0 low).volume ∙ sym (lies.sizes v);
@@ -181,6 +184,21 @@ module _ {R : Type 0} {g : Ghosts R} (n : Node) (note : GroupNode) (last newest 
   renewed_or tight none v b (inl on) = inl (ap (λ (t : Bool). if t then [] else note.others v b) on)
   renewed_or tight none v b (inr some) = inr (clean_noted note newest (shade_meaning g.meaning first) before_found tight none v some)
 
+  -- what was taken up has the configuration that was noted, but for its serial
+  taken_was : note.loose ≡ false → note.begun ≡ [] → (t : TakesOpened (shade_meaning g.meaning first) now (laid_disks group)) → at_serial 0 t.config ≡ at_serial 0 newest
+  taken_was tight none t = noted_as_is note newest none t.config (before_found.each tight t.image t.config t.each t.finds)
+
+  opened_or : note.loose ≡ false → note.begun ≡ [] → TakesOpened (shade_meaning g.meaning first) now (laid_disks group) → (v : ℕ) → Matched (VolumeMoves (OpensMoves old (laid_disks group))) (slice_get newest.volumes v) (slice_get now.volumes v)
+  opened_or tight none t v =
+      subst (λ (c : Config). Matched (VolumeMoves (OpensMoves old (laid_disks group))) (slice_get c.volumes v) (slice_get now.volumes v)) (taken_was tight none t)
+      (takes_moves old (shade_meaning g.meaning first) (laid_disks group) units faults (racks first).counts (racks group.shelf).counts now back.on t v)
+
+  parts_or : note.loose ≡ false → note.begun ≡ [] → TakesOpened (shade_meaning g.meaning first) now (laid_disks group) → (now.site ≡ newest.site) × (now.rvg ≡ newest.rvg)
+  parts_or tight none t = (
+    t.loses.parts.site ∙ t.site ∙ ap (λ (c : Config). c.site) (taken_was tight none t),
+    t.loses.parts.rvg ∙ t.rvg ∙ ap (λ (c : Config). c.rvg) (taken_was tight none t),
+  )
+
   pub came_up : NotesGroup n note → HasFuse (burned n.fuse) (laid_disks group) → ReturnsUp n note old (Up group)
   came_up noted fuse = (
     noted_next,
@@ -196,6 +214,8 @@ module _ {R : Type 0} {g : Ghosts R} (n : Node) (note : GroupNode) (last newest 
       sizes = λ v. refl;
       change = config_back;
       one = λ tells tight none v b low. renewed_or tight none v b (back.stops (sym since.tells ∙ tells) v (some_volume now.volumes v b low));
+      opens = λ tells tight none v. opened_or tight none (back.takes (sym since.tells ∙ tells)) v;
+      parts = λ tells tight none. parts_or tight none (back.takes (sym since.tells ∙ tells));
     },
   )
 

@@ -3,6 +3,7 @@ use Rattle.std.proofs.Common.{◌≡◌, ◌⊎◌, inl, inr, ℕ, Bool, true, f
 use Rattle.vx_model.specs.declared.site.PlexState.{PlexState}
 use Rattle.vx_model.specs.declared.site.PlexState.TheVariants.{Active, Clean, Stale}
 use Rattle.vx_disk.specs.Shelf.{Meaning}
+use Rattle.vx_config.specs.Changes.{live_again}
 use Rattle.vx_config.specs.declared.config.Config.{Config}
 use Rattle.vx_config.specs.declared.entry.PlexEntry.{PlexEntry}
 use Rattle.vx_layout.specs.Places.{plex_at}
@@ -29,6 +30,18 @@ module _ (c : Config) (v k : ℕ) (m m' : Meaning) where
   by_state Clean t one two down up = absurd (let no_one : false ≡ true = one refl in cc)
   by_state Active Clean one two down up = absurd (let no_one : false ≡ true = two refl in cc)
   by_state Stale Clean one two down up = absurd (let no_one : false ≡ true = two refl in cc)
+
+-- a plex that takes part as one does that is ACTIVE where it takes part
+pub opened_as : (s t : PlexState) → live_state t ≡ live_state s → (live_state t ≡ true → on_state t ≡ true) → t ≡ live_again s
+opened_as Active Active same on = refl
+opened_as Active Clean same on = absurd (let no_one : false ≡ true = on refl in cc)
+opened_as Active Stale same on = absurd (let no_one : false ≡ true = same in cc)
+opened_as Clean Active same on = refl
+opened_as Clean Clean same on = absurd (let no_one : false ≡ true = on refl in cc)
+opened_as Clean Stale same on = absurd (let no_one : false ≡ true = same in cc)
+opened_as Stale Active same on = absurd (let no_one : true ≡ false = same in cc)
+opened_as Stale Clean same on = absurd (let no_one : true ≡ false = same in cc)
+opened_as Stale Stale same on = refl
 
 pub on_there : (c : Config) (v k : ℕ) (p : PlexEntry) → plex_at c v k ≡ Some p → active c v k ≡ on_state p.state
 unfolding active

@@ -46,6 +46,7 @@ pub record IsFirstNote (note : GroupNode) : Type 0 where
   pub serial : ℕ
   pub small : serial ≤ COMMIT_SERIALS
   pub maps : note.maps ≡ maps_none serial
+  pub inside : (v : ℕ) → note.inside v ≡ false
 
 -- a bare site as a group with this note
 abbrev pub group_begun : GroupNode → ℕ → Node → Node

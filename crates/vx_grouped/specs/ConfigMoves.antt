@@ -71,6 +71,11 @@ OpensSame v p t = live_again t ≡ live_again p.state
 abbrev pub OpensMost : Meaning → Meaning → VolumeEntry → PlexEntry → PlexState → Type 0
 OpensMost old new v p t = (live_again t ≡ live_again p.state) ⊎ ((t ≡ Stale) × PlexRose old new p) ⊎ ((live_again t ≡ Active) × (p.state ≡ Stale))
 
+-- in an import: it is ACTIVE where it took part, and STALE else; or STALE, and a call on one of its disks failed; or ACTIVE, and one on a disk of its volume
+-- did
+abbrev pub OpensMoves : Meaning → Meaning → VolumeEntry → PlexEntry → PlexState → Type 0
+OpensMoves old new v p t = (t ≡ live_again p.state) ⊎ ((t ≡ Stale) × PlexRose old new p) ⊎ ((t ≡ Active) × VolumeRose old new v)
+
 -- any state
 abbrev pub AnyState : VolumeEntry → PlexEntry → PlexState → Type 0
 AnyState v p t = Unit {0}

@@ -1,7 +1,7 @@
 -- What a call on a group over any shelf makes of its configuration.
 use Rattle.std.specs.Prelude.{◌≡◌, ℕ, Bool, true, false, length, Result, Ok, Err}
 use Rattle.vx_disk.specs.Counts.{Rose}
-use Rattle.vx_disk.specs.Shelf.{Meaning}
+use Rattle.vx_disk.specs.Shelf.{Goes, Meaning, Nothing}
 use Rattle.vx_model.specs.declared.errors.Stop.{Stop}
 use Rattle.vx_config.specs.Checks.{is_sound}
 use Rattle.vx_config.specs.declared.config.Config.{Config}
@@ -9,6 +9,7 @@ use Rattle.vx_copies.specs.Marks.{blocks_at, failed_at}
 use Rattle.vx_kept.specs.Keeping.{AllOn, frame_at}
 use Rattle.vx_group.specs.Deports.{DeportedBy}
 use Rattle.vx_group.specs.Holding.{wide}
+use Rattle.vx_group.specs.Stands.{inner_meaning}
 use Rattle.vx_group.specs.Loses.{LosesPlexes, SameParts}
 use Rattle.vx_group.specs.Resumes.{CanImport}
 use Rattle.vx_group.specs.declared.group_core.GroupCore.{GroupCore}
@@ -37,6 +38,7 @@ DeportCan c meaning (Err e) = Unit {0}
 
 -- the group that is given back has lost plexes alone, and imports agree where its newest configuration was committed
 pub record BackMoves (c d : GroupCore) (old new : Meaning) : Type 0 where
+  pub goes : Goes Nothing (inner_meaning (wide c) old) (inner_meaning (wide d) new)
   pub loses : LosesPlexes c.inner.config d.inner.config old new
   pub on : BothOn c.inner.config d.inner.config old.units
   pub agrees : c.inner.committed ≡ true → d.inner.agreed ≡ true

@@ -37,6 +37,7 @@ pub record IsFoundNote (note : GroupNode) (c : Config) : Type 0 where
   pub dark : note.dark ≡ true
   pub size : (v : ℕ) → note.bytes.size v ≡ blocks_of c.volumes v
   pub cut : note.cut ≡ None
+  pub inside : (v : ℕ) → note.inside v ≡ false
 
 -- the disks behind it: those of the group, or those that are handed back
 abbrev pub FoundSince : {S G : Type 0} → Meaning → (S → Meaning) → (G → Meaning) → Result G (S × Stop) → Type 0

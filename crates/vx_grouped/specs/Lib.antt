@@ -1,6 +1,7 @@
 pub mod Added
 pub mod Away
 pub mod Begins
+pub mod Brings
 pub mod ConfigMoves
 pub mod Copied
 pub mod CoreMoves
@@ -24,4 +25,5 @@ pub mod SiteMaps
 pub mod SiteReturns
 pub mod StateChanges
 pub mod Tracings
+pub mod Volumes
 pub mod Watches

@@ -1,19 +1,23 @@
 -- A group that comes back by an import, as its site notes it.
-use Rattle.std.specs.Prelude.{◌≡◌, ◌⊎◌, ℕ, ◌<◌, ◌≤◌, Bool, true, false, if◌then◌else◌, IsTrue, None, List, [], length, Result, Ok, Err}
+use Rattle.std.specs.Prelude.{◌≡◌, ◌⊎◌, ℕ, ◌<◌, ◌≤◌, Bool, true, false, if◌then◌else◌, IsTrue, Some, None, List, [], length, Result, Ok, Err}
 use Rattle.vx_model.specs.declared.errors.Stop.{Stop}
 use Rattle.vx_model.specs.declared.site.SiteState.TheVariants.{Up as IsUp}
 use Rattle.vx_disk.specs.Counts.{Rose}
 use Rattle.vx_disk.specs.Shelf.{Each, Image, Meaning}
 use Rattle.vx_history.specs.Groups.{BlockMay, GroupNode}
 use Rattle.vx_history.specs.World.{Node}
-use Rattle.vx_config.specs.Checks.{blocks_of}
+use Rattle.vx_config.specs.Changes.{live_again}
+use Rattle.vx_config.specs.Checks.{blocks_of, is_sound}
 use Rattle.vx_config.specs.declared.config.Config.{Config}
+use Rattle.vx_config.specs.declared.entry.PlexEntry.{PlexEntry}
 use Rattle.vx_copies.specs.Marks.{blocks_at, failed_at}
 use Rattle.vx_copyfmt.specs.Imports.{Found}
+use Rattle.vx_layout.specs.Places.{plex_at}
 use Rattle.vx_volume.specs.Plexes.{Inside}
 use Rattle.vx_kept.specs.Groups.{found}
-use Rattle.vx_kept.specs.Keeping.{frame_at, volume_name}
+use Rattle.vx_kept.specs.Keeping.{AllOn, frame_at, volume_name}
 use Rattle.vx_group.specs.Holding.{wide}
+use Rattle.vx_group.specs.Loses.{LosesPlexes}
 use Rattle.vx_group.specs.Resumes.{CanImportBehind}
 use Rattle.vx_group.specs.Stands.{inner_meaning}
 use Rattle.vx_group.specs.declared.group_core.GroupCore.{GroupCore}
@@ -40,6 +44,22 @@ pub record DisksBack (c : Config) (old new : Meaning) : Type 0 where
   pub blocks : (u : ℕ) → u < old.units → blocks_at c.disks u ≡ old.size u
   pub failed : (u : ℕ) → u < old.units → failed_at c.disks u ≡ true → Rose (old.faults u) (new.faults u)
 
+-- What was taken up of an image that the disks may have had: its configuration, with each plex that is CLEAN as ACTIVE. Since then plexes were lost alone.
+pub record TakesOpened (old : Meaning) (d : Config) (new : Meaning) : Type 0 where
+  pub image : Image
+  pub config : Config
+  pub opened : Config
+  pub each : Each old.leaves image
+  pub finds : found old image ≡ Found config
+  pub sound : is_sound config ≡ true
+  pub count : length config.disks ≡ old.units
+  pub site : opened.site ≡ config.site
+  pub rvg : opened.rvg ≡ config.rvg
+  pub frames : (v : ℕ) → frame_at opened v ≡ frame_at config v
+  pub states : (v k : ℕ) (p q : PlexEntry) → plex_at config v k ≡ Some p → plex_at opened v k ≡ Some q → q.state ≡ live_again p.state
+  pub on : AllOn opened
+  pub loses : LosesPlexes opened d old new
+
 -- Its volumes as an import takes them up. Where contents are told its first volumes are those of the configuration of before, each block of them that was
 -- renewed has a value that it might have, and each volume was renewed that did not stop cleanly.
 pub record VolumesReturn (n : Node) (note : GroupNode) (last : Config) (old : Meaning) (core : GroupCore) (m : Meaning) : Type 0 where
@@ -55,9 +75,10 @@ pub record VolumesReturn (n : Node) (note : GroupNode) (last : Config) (old : Me
   pub disks : DisksBack core.inner.config old m
   pub may : IsTrue old.tells → (v b : ℕ) → Inside last v b → renewed v ≡ true → BlockMay note v b (value v b)
   pub stops : IsTrue old.tells → (v : ℕ) → v < length core.inner.config.volumes → (renewed v ≡ true) ⊎ StoppedSome old v
+  pub takes : IsTrue old.tells → TakesOpened old core.inner.config m
 
 -- The group is up. Where contents are told its first volumes are those of the configuration of before, each block of them that was renewed has a value that
--- it might have, and each volume was renewed that did not stop cleanly.
+-- it might have, and each volume was renewed that did not stop cleanly. Each plex that takes part is ACTIVE.
 pub record GroupReturns (n : Node) (note : GroupNode) (last : Config) (old : Meaning) (core : GroupCore) (m : Meaning) : Type 0 where
   pub renewed : ℕ → Bool
   pub value : ℕ → ℕ → List ℕ
@@ -69,6 +90,8 @@ pub record GroupReturns (n : Node) (note : GroupNode) (last : Config) (old : Mea
   pub disks : DisksBack core.inner.config old m
   pub may : IsTrue old.tells → (v b : ℕ) → Inside last v b → renewed v ≡ true → BlockMay note v b (value v b)
   pub stops : IsTrue old.tells → (v : ℕ) → v < length core.inner.config.volumes → (renewed v ≡ true) ⊎ StoppedSome old v
+  pub takes : IsTrue old.tells → TakesOpened old core.inner.config m
+  pub on : AllOn core.inner.config
 
 -- no image has a volume more than this configuration, as one might behind a refused commit
 pub record HasNoMore (last : Config) (m : Meaning) : Type 0 where

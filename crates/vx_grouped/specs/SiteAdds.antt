@@ -6,6 +6,7 @@ use Rattle.vx_model.specs.declared.limits.TheConstants.{MOST_SUBDISKS}
 use Rattle.vx_model.specs.declared.no.Counted.TheVariants.{Subdisks}
 use Rattle.vx_model.specs.declared.no.No.{No}
 use Rattle.vx_model.specs.declared.no.No.TheVariants.{Limit, Space}
+use Rattle.vx_disk.specs.Moves.{Nowhere}
 use Rattle.vx_disk.specs.Shelf.{Meaning}
 use Rattle.vx_disk.specs.declared.shelf.Shelf.{Ghosts}
 use Rattle.vx_history.specs.Groups.{GroupNode, NoteSettles}
@@ -14,8 +15,10 @@ use Rattle.vx_config.specs.declared.config.Config.{Config}
 use Rattle.vx_layout.specs.Space.{IsSpaceShort}
 use Rattle.vx_layout.specs.declared.shape.Shape.{Shape}
 use Rattle.vx_copies.specs.Commits.{MoreFailed}
+use Rattle.vx_group.specs.Holding.{wide}
 use Rattle.vx_group.specs.Loses.{SameParts}
 use Rattle.vx_group.specs.Makes.{HasMany, MakeEnds, VolumeMade, make_refusal}
+use Rattle.vx_group.specs.Stands.{inner_meaning}
 use Rattle.vx_group.specs.declared.group_core.GroupCore.{GroupCore}
 use Rattle.vx_untold.specs.Shades.{shade_meaning}
 use Rattle.vx_grouped.specs.Added.{VolumeLeaves, note_added}
@@ -23,6 +26,7 @@ use Rattle.vx_grouped.specs.ConfigMoves.{LosesSome, VolumeAdded}
 use Rattle.vx_grouped.specs.GroupNotes.{IsGroupAt}
 use Rattle.vx_grouped.specs.GroupSites.{UpNoted, site_disks, with_note}
 use Rattle.vx_grouped.specs.SiteEnds.{ConfigGoes, SiteCalled}
+use Rattle.vx_grouped.specs.Volumes.{VolumesGo}
 use Rattle.vx_grouped.specs.declared.group_site.GroupSite.{GroupSite}
 use Rattle.vx_grouped.specs.declared.group_site.GroupSite.TheVariants.{Up}
 
@@ -32,6 +36,7 @@ pub record MakesVolume (name : List ℕ) (want : Shape) (c : GroupCore) (m : Mea
   pub leaves : (n : Node) (note : GroupNode) → IsGroupAt n note c m → VolumeLeaves n note want d m' r
   pub ends : make_refusal c.inner.config name want ≡ None → MakeEnds name want c.inner d.inner m m' r
   pub trust : OnOk r (c.inner.committed ≡ true → d.inner.committed ≡ true)
+  pub goes : VolumesGo Nowhere (inner_meaning (wide c) m) (inner_meaning (wide d) m')
   pub agreed : IfErr r (λ stop. c.inner.committed ≡ true → d.inner.agreed ≡ true)
   pub parts : SameParts c.inner.config d.inner.config
   pub disks : MoreFailed m m' c.inner.config.disks d.inner.config.disks

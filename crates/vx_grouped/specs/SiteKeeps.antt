@@ -4,7 +4,7 @@ use Rattle.vx_model.specs.declared.no.No.{No}
 use Rattle.vx_model.specs.declared.no.No.TheVariants.{Device}
 use Rattle.vx_disk.specs.Causes.{DeviceCause}
 use Rattle.vx_disk.specs.Counts.{Rose}
-use Rattle.vx_disk.specs.Shelf.{Meaning}
+use Rattle.vx_disk.specs.Shelf.{Goes, Meaning, Nothing}
 use Rattle.vx_disk.specs.declared.shelf.Shelf.{Ghosts}
 use Rattle.vx_history.specs.Groups.{GroupNode}
 use Rattle.vx_history.specs.Steps.{worked}
@@ -22,6 +22,7 @@ use Rattle.vx_grouped.specs.declared.group_site.GroupSite.{GroupSite}
 pub record PlainKeeps (vol block : ℕ) (bytes : List ℕ) (c : GroupCore) (m : Meaning) (d : GroupCore) (m' : Meaning) (r : Result (List Bool) No) : Type 0 where
   pub kept : (note : GroupNode) → HoldsPlain note (inner_meaning (wide c) m) → IfOk r (KeepsPlain note m vol block bytes)
   pub stays : (n : Node) (note : GroupNode) → IsGroupAt n note c m → IsGroupAt n note d m'
+  pub goes : Goes Nothing (inner_meaning (wide c) m) (inner_meaning (wide d) m')
   pub same : d.inner.config ≡ c.inner.config
   pub cause : IfErr r (DeviceCause m m')
 

@@ -1,5 +1,5 @@
 -- How a recovery or an import of a group leaves the disks of its site.
-use Rattle.std.specs.Prelude.{◌≡◌, ◌⊎◌, ℕ, ◌<◌, ◌≤◌, Bool, true, false, not, [], length, Some, None, IsTrue, IsFalse, List, Result, Ok, Err}
+use Rattle.std.specs.Prelude.{◌≡◌, ◌⊎◌, ℕ, ◌<◌, ◌≤◌, Bool, true, false, not, [], length, slice_get, Some, None, IsTrue, IsFalse, List, Result, Ok, Err}
 use Rattle.vx_model.specs.declared.errors.Stop.{Stop}
 use Rattle.vx_model.specs.declared.errors.Stop.TheVariants.{No as Refused, OutOfMemory}
 use Rattle.vx_model.specs.declared.no.Counted.TheVariants.{Number as Numbers}
@@ -13,6 +13,7 @@ use Rattle.vx_history.specs.Groups.{BlockMay, GroupNode}
 use Rattle.vx_history.specs.Steps.{crashed, group_up, worked}
 use Rattle.vx_history.specs.Stops.{IsFused}
 use Rattle.vx_history.specs.World.{Node}
+use Rattle.vx_config.specs.Changes.{Matched}
 use Rattle.vx_config.specs.Checks.{blocks_of}
 use Rattle.vx_config.specs.Table.{greatest}
 use Rattle.vx_config.specs.declared.config.Config.{Config}
@@ -21,7 +22,7 @@ use Rattle.vx_untold.specs.Shades.{shade_meaning}
 use Rattle.vx_untold.specs.declared.shade.Shade.{Shade}
 use Rattle.vx_watched.specs.Since.{FuseGoes, fuse_calls, is_rack}
 use Rattle.vx_grouped.specs.Clean.{StopsClean}
-use Rattle.vx_grouped.specs.ConfigMoves.{ConfigBack}
+use Rattle.vx_grouped.specs.ConfigMoves.{ConfigBack, OpensMoves, VolumeMoves}
 use Rattle.vx_grouped.specs.GroupNotes.{NotesConfig, note_dimmed}
 use Rattle.vx_grouped.specs.GroupSites.{AwayNoted, DownNoted, UpNoted, dimmed_site, site_disks, with_note}
 use Rattle.vx_grouped.specs.Readies.{ready_of}
@@ -36,6 +37,7 @@ pub record NoteReturns (told : Type 0) (note next : GroupNode) : Type 0 where
   pub loose : next.loose ≡ false
   pub cut : next.cut ≡ None
   pub dark : next.dark ≡ note.dark
+  pub inside : next.inside ≡ note.inside
   pub block : (v b : ℕ) → ((next.bytes.block v b ≡ note.bytes.block v b) × (next.others v b ≡ note.others v b)) ⊎ (next.others v b ≡ [])
   pub may : told → (v b : ℕ) → b < note.bytes.size v → BlockMay note v b (next.bytes.block v b)
   pub size : told → (v : ℕ) → 0 < note.bytes.size v → next.bytes.size v ≡ note.bytes.size v
@@ -119,8 +121,8 @@ module _ {R : Type 0} {g : Ghosts R} where
     pub stops : ImportStops (shade_meaning g.meaning first) (shade_meaning g.meaning middle) stop
     pub crashed : Stopped (shade_meaning g.meaning middle) (site_disks new)
 
-  -- The configuration that was taken up, beside the one that was noted. Where imports agreed and nothing was begun each block has one value, but for those of
-  -- a volume that stopped cleanly.
+  -- The configuration that was taken up, beside the one that was noted. Where imports agreed and nothing was begun it has the same volumes, with each plex that
+  -- took part, but for those on disks of which a call failed; and each block has one value, but for those of a volume that stopped cleanly.
   pub record ConfigReturns (note next : GroupNode) (old : Meaning) (new : GroupSite R g) : Type 0 where
     pub was : Config
     pub now : Config
@@ -130,6 +132,8 @@ module _ {R : Type 0} {g : Ghosts R} where
     pub sizes : (v : ℕ) → next.bytes.size v ≡ blocks_of now.volumes v
     pub change : ConfigBack (IsTrue (site_disks new).tells) old (site_disks new) was now
     pub one : IsTrue (site_disks new).tells → note.loose ≡ false → note.begun ≡ [] → (v b : ℕ) → b < next.bytes.size v → (next.others v b ≡ []) ⊎ ((v < length was.volumes) × StopsClean was v)
+    pub opens : IsTrue (site_disks new).tells → note.loose ≡ false → note.begun ≡ [] → (v : ℕ) → Matched (VolumeMoves (OpensMoves old (site_disks new))) (slice_get was.volumes v) (slice_get now.volumes v)
+    pub parts : IsTrue (site_disks new).tells → note.loose ≡ false → note.begun ≡ [] → (now.site ≡ was.site) × (now.rvg ≡ was.rvg)
 
   -- the group is up, with another note
   abbrev pub ReturnsUp : Node → GroupNode → Meaning → GroupSite R g → Type 0

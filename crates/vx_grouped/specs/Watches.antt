@@ -1,7 +1,7 @@
 -- What calls of a group do, by the parts of the group before and behind them.
 use Rattle.std.specs.Prelude.{◌≡◌, ◌⊎◌, ◌-◌, ◌<◌, ℕ, true, false, List, Some, None, Result, Ok, Err, IfErr, IfOk, OnOk, IsTrue}
 use Rattle.vx_disk.specs.Causes.{DeviceCause}
-use Rattle.vx_disk.specs.Shelf.{Meaning}
+use Rattle.vx_disk.specs.Shelf.{Goes, Meaning, Nothing, Written}
 use Rattle.vx_model.specs.declared.errors.Stop.{Stop}
 use Rattle.vx_model.specs.declared.errors.Stop.TheVariants.{No as Refused}
 use Rattle.vx_model.specs.declared.no.Counted.TheVariants.{Number as Numbers}
@@ -30,6 +30,7 @@ use Rattle.vx_grouped.specs.Plain.{HoldsPlain, ReadsPlain}
 -- a write to a volume, which is made durable
 pub record PlainWrites (vol block : ℕ) (bytes : List ℕ) (c : GroupCore) (m : Meaning) (d : GroupCore) (m' : Meaning) (r : Result (Unit {0}) No) : Type 0 where
   pub leaves : (n : Node) (note : GroupNode) → IsGroupAt n note c m → WriteLeaves n note (plain_write vol block bytes) d m' r
+  pub goes : Goes (Written vol block bytes) (inner_meaning (wide c) m) (inner_meaning (wide d) m')
   pub loses : LosesPlexes c.inner.config d.inner.config m m'
   pub on : BothOn c.inner.config d.inner.config m.units
   pub trust : OnOk r (c.inner.committed ≡ true → d.inner.committed ≡ true)
@@ -41,6 +42,7 @@ pub record PlainReads (vol block : ℕ) (bytes : List ℕ) (c : GroupCore) (m : 
   pub reads : (note : GroupNode) → HoldsPlain note (inner_meaning (wide c) m) → OnOk r (ReadsPlain note m vol block bytes)
   pub gives_up : (disk : ℕ) → r ≡ Err (Device disk) → EachBlamed c.inner.config vol m m'
   pub stays : (n : Node) (note : GroupNode) → IsGroupAt n note c m → IsGroupAt n note d m'
+  pub goes : Goes Nothing (inner_meaning (wide c) m) (inner_meaning (wide d) m')
   pub same : d.inner.config ≡ c.inner.config
   pub cause : IfErr r (DeviceCause m m')
 
@@ -55,6 +57,7 @@ pub record PlexDets (vol plex : ℕ) (c : GroupCore) (m : Meaning) (d : GroupCor
   pub agreed : IfErr r (λ stop. c.inner.committed ≡ true → d.inner.agreed ≡ true)
   pub cause : det_refusal c.inner.config vol plex ≡ None → DetStops m m' r
   pub narrows : (w p : ℕ) → IsTrue (active d.inner.config w p) → IsTrue (active c.inner.config w p)
+  pub goes : Goes Nothing (inner_meaning (wide c) m) (inner_meaning (wide d) m')
   pub moves : CoreMoves none_again c.inner.config d.inner.config m m'
 
 -- a plex that is attached
@@ -69,6 +72,7 @@ pub record PlexAtts (vol plex : ℕ) (c : GroupCore) (m : Meaning) (d : GroupCor
   pub trust : OnOk r (c.inner.committed ≡ true → d.inner.committed ≡ true)
   pub cause : att_refusal c.inner.config vol plex ≡ None → DetStops m m' r
   pub stays : IsTrue (active c.inner.config vol plex) → OnOk r (IsTrue (active d.inner.config vol plex))
+  pub goes : Goes Nothing (inner_meaning (wide c) m) (inner_meaning (wide d) m')
   pub moves : CoreMoves (uses c.inner.config vol plex) c.inner.config d.inner.config m m'
 
 -- what is known of the disks of a group that was deported, or that is given back

@@ -61,7 +61,7 @@ fn find_from<B: Begun, R: Rack>(alloc: Global, rack: R) -> Result<Laid<R>, (R, S
     let watched = Untold {
         shelf: Watched::<R, B>::over(rack),
     };
-    match import_group(alloc, watched, &Rested::none()) {
+    match import_group(alloc, watched, &Rested::found()) {
         Ok(group) => {
             let (watched, rest) = group.apart();
             let rack = watched.shelf.into_shelf();

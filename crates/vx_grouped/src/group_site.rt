@@ -30,6 +30,7 @@ impl<R: Rack> GroupSite<R> {
     ghost use Rattle.vx_grouped.specs.SiteMaps.{StaysMapped};
     ghost use Rattle.vx_watched.specs.Traces.{TellsLess};
     ghost use Rattle.vx_grouped.specs.SiteEnds.{CountsAlike, MayCrashSite, StaysAlike};
+    ghost use Rattle.vx_grouped.specs.Volumes.{GoesOff};
 
     /// How many disks it has.
     pub fn disks(&self) -> u32
@@ -124,6 +125,7 @@ impl<R: Rack> GroupSite<R> {
         ensures asked { (n : Node) (note : GroupNode) → UpNoted n note self → OnDisks (site_disks self).disks (site_disks result).disks (Crashed (site_disks self).size pick) }
         ensures maps { StaysMapped self result }
         ensures stopped { MayCrashSite pick self result }
+        ensures off { GoesOff self result }
         ensures told { TellsLess (site_below self) (site_below result) }
     {
         match self {

@@ -5,6 +5,7 @@ ghost use Rattle.vx_group.specs.Calls.{ImportsAgain};
 ghost use Rattle.vx_group.specs.Imports.{ImportStops};
 ghost use Rattle.vx_group.specs.Resumes.{CanImport};
 ghost use Rattle.vx_grouped.specs.Away.{AwayLies};
+ghost use Rattle.vx_grouped.specs.Brings.{BringsGroup};
 ghost use Rattle.vx_grouped.specs.PlainMaps.{ComesMaps, map_parts};
 ghost use Rattle.vx_grouped.specs.Returns.{ImportLeaves};
 ghost use Rattle.vx_history.specs.Groups.{GroupNode};
@@ -32,6 +33,7 @@ pub fn import_group<S: Shelf>(
     ensures up { IfOk result (λ g. IsTrue (S.meaning g.shelf).down → ⊥) }
     ensures again { ImportsAgain (λ s. S.meaning s) result }
     ensures maps { ComesMaps rested.now (S.meaning shelf) (λ g. map_parts g.core.inner.config g.logs.items g.alike g.stopped) (λ g. S.meaning g.shelf) result }
+    ensures brings { BringsGroup (S.meaning shelf) (λ s. S.meaning s) (λ g. g.core) (λ g. g.shelf) result }
     ensures leaves { (n : Node) (note : GroupNode) (last : ConfigValue) → AwayLies n note last (S.meaning shelf) → ImportLeaves n note last (S.meaning shelf) (λ s. S.meaning s) (λ g. g.core) (λ g. g.shelf) result }
 {
     match LoggedGroup::import(alloc, shelf, rested) {

@@ -56,6 +56,7 @@ pub fn kept_plain<S: Shelf>(
     requires few { length bytes.now ≤ MOST_CALL_BYTES }
     ensures kept { (note : GroupNode) → HoldsPlain note (inner_meaning (wide group.old.core) (S.meaning group.old.shelf)) → IfOk result (KeepsPlain note (S.meaning group.old.shelf) vol block bytes.now) }
     ensures stays { (n : Node) (note : GroupNode) → IsGroupAt n note group.old.core (S.meaning group.old.shelf) → IsGroupAt n note group.new.core (S.meaning group.new.shelf) }
+    ensures goes { Goes Nothing (inner_meaning (wide group.old.core) (S.meaning group.old.shelf)) (inner_meaning (wide group.new.core) (S.meaning group.new.shelf)) }
     ensures same { group.new.core.inner.config ≡ group.old.core.inner.config }
     ensures below { Goes Nothing (S.meaning group.old.shelf) (S.meaning group.new.shelf) }
     ensures cause { IfErr result (DeviceCause (S.meaning group.old.shelf) (S.meaning group.new.shelf)) }

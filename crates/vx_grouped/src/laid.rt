@@ -2,6 +2,7 @@
 ghost use Rattle.std.specs.Prelude.{◌≡◌, ◌≢◌, ◌<◌, ℕ, IsTrue, Some};
 ghost use Rattle.vx_loggroup.specs.Facts.{LoggedFact};
 ghost use Rattle.vx_loggroup.specs.Fresh.{FreshStands};
+ghost use Rattle.vx_loggroup.specs.Settled.{SettledFact};
 ghost use Rattle.vx_untold.specs.Shades.{shade_meaning};
 
 use crate::Idle;
@@ -30,6 +31,7 @@ pub struct Laid<R: Rack> {
     pub stopped: bool,
     pub ghost stands: { LoggedFact core logs.items alike stopped (shade_meaning (λ s. R.meaning s) shelf) },
     pub ghost begins: { FreshStands core fresh (shade_meaning (λ s. R.meaning s) shelf) },
+    pub ghost settles: { SettledFact core alike (shade_meaning (λ s. R.meaning s) shelf) },
 }
 
 impl<R: Rack> Laid<R> {
@@ -39,6 +41,7 @@ impl<R: Rack> Laid<R> {
     ghost use Rattle.vx_disk.specs.Racks.{Alike, Stopped};
     ghost use Rattle.vx_disk.specs.Shelf.{Fits};
     ghost use Rattle.vx_group.specs.Holding.{wide};
+    ghost use Rattle.vx_group.specs.Settles.{LacksCommit};
     ghost use Rattle.vx_group.specs.Stands.{inner_meaning};
     ghost use Rattle.vx_grouped.specs.GroupNotes.{GroupLies};
     ghost use Rattle.vx_grouped.specs.Away.{IsAwayAt};
@@ -48,6 +51,7 @@ impl<R: Rack> Laid<R> {
     ghost use Rattle.vx_grouped.specs.SiteMaps.{DiskMaps, RestsNot};
     ghost use Rattle.vx_history.specs.Groups.{GroupNode, MissedNote};
     ghost use Rattle.vx_history.specs.World.{Node};
+    ghost use Rattle.vx_logimport.specs.declared.rested.Rested.{Rested as RestedValue};
     ghost use Rattle.vx_model.specs.declared.site.SiteState.TheVariants.{Down as DownState};
     ghost use Rattle.vx_untold.specs.Shades.{rack_of};
     ghost use Rattle.vx_watched.specs.Traces.{TellsLess};
@@ -194,6 +198,7 @@ impl<R: Rack> Laid<R> {
         ensures disks { OnDisks (shade_meaning (λ s. R.meaning s) self.shelf).disks (shade_meaning (λ s. R.meaning s) result.rack).disks (Crashed (shade_meaning (λ s. R.meaning s) self.shelf).size pick) }
         ensures maps { (w : MissedNote) → PartsNoted w (map_parts self.core.inner.config self.logs.items self.alike self.stopped) → DiskMaps w self.core.inner.config (shade_meaning (λ s. R.meaning s) result.rack) }
         ensures rests { RestsNot result.rested }
+        ensures lacking { (r : RestedValue) → result.rested ≡ Some r → LacksCommit self.core.inner → ⊥ }
         ensures told { TellsLess (R.meaning (rack_of self.shelf)) (R.meaning (rack_of result.rack)) }
     {
         crash_laid::<Brand, R>(self, pick)

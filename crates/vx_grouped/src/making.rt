@@ -1,10 +1,14 @@
 // A volume that is made in a group.
 ghost use Rattle.std.specs.Prelude.{◌≡◌, ◌<◌, Err, IfErr, IfSome, IsTrue, None, OnOk, Some, true};
 ghost use Rattle.vx_copies.specs.Commits.{MoreFailed};
+ghost use Rattle.vx_disk.specs.Moves.{Nowhere};
+ghost use Rattle.vx_group.specs.Holding.{wide};
 ghost use Rattle.vx_group.specs.Loses.{SameParts};
 ghost use Rattle.vx_group.specs.Makes.{MakeEnds, make_refusal};
+ghost use Rattle.vx_group.specs.Stands.{inner_meaning};
 ghost use Rattle.vx_grouped.specs.Added.{IsUnmoved, VolumeLeaves};
 ghost use Rattle.vx_grouped.specs.GroupNotes.{IsGroupAt};
+ghost use Rattle.vx_grouped.specs.Volumes.{VolumesGo};
 ghost use Rattle.vx_disk.specs.Racks.{IsRack};
 ghost use Rattle.vx_grouped.specs.PlainMaps.{AddsMaps, map_parts};
 ghost use Rattle.vx_history.specs.Groups.{GroupNode};
@@ -37,6 +41,7 @@ pub fn make_volume_of<S: Shelf>(
     ensures trust { OnOk result (group.old.core.inner.committed ≡ true → group.new.core.inner.committed ≡ true) }
     ensures agreed { IfErr result (λ stop. group.old.core.inner.committed ≡ true → group.new.core.inner.agreed ≡ true) }
     ensures still { IsUnmoved result ((group.new.core ≡ group.old.core) × (group.new.shelf ≡ group.old.shelf)) }
+    ensures volumes { VolumesGo Nowhere (inner_meaning (wide group.old.core) (S.meaning group.old.shelf)) (inner_meaning (wide group.new.core) (S.meaning group.new.shelf)) }
     ensures parts { SameParts group.old.core.inner.config group.new.core.inner.config }
     ensures disks { MoreFailed (S.meaning group.old.shelf) (S.meaning group.new.shelf) group.old.core.inner.config.disks group.new.core.inner.config.disks }
     ensures maps { IsRack (S.meaning group.old.shelf) → IsRack (S.meaning group.new.shelf) → AddsMaps (map_parts group.old.core.inner.config group.old.logs.items group.old.alike group.old.stopped) (S.meaning group.old.shelf) (map_parts group.new.core.inner.config group.new.logs.items group.new.alike group.new.stopped) (S.meaning group.new.shelf) result }

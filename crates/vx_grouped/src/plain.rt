@@ -2,7 +2,7 @@
 ghost use Rattle.std.specs.Prelude.{◌≡◌, Err, IfErr, OnOk, length, true, ℕ};
 ghost use Rattle.vx_disk.specs.Causes.{DeviceCause};
 ghost use Rattle.vx_disk.specs.Racks.{IsRack};
-ghost use Rattle.vx_disk.specs.Shelf.{Fits, Goes, Nothing};
+ghost use Rattle.vx_disk.specs.Shelf.{Fits, Goes, Nothing, Written};
 ghost use Rattle.vx_group.specs.GivesUp.{EachBlamed};
 ghost use Rattle.vx_group.specs.Holding.{wide};
 ghost use Rattle.vx_group.specs.Loses.{LosesPlexes};
@@ -34,6 +34,7 @@ pub fn write_plain<S: Shelf>(
     requires rack { (s : S) → IsRack (S.meaning s) }
     requires fits { Fits (inner_meaning (wide group.old.core) (S.meaning group.old.shelf)) vol block (length bytes.now) }
     ensures leaves { (n : Node) (note : GroupNode) → IsGroupAt n note group.old.core (S.meaning group.old.shelf) → WriteLeaves n note (plain_write vol block bytes.now) group.new.core (S.meaning group.new.shelf) result }
+    ensures goes { Goes (Written vol block bytes.now) (inner_meaning (wide group.old.core) (S.meaning group.old.shelf)) (inner_meaning (wide group.new.core) (S.meaning group.new.shelf)) }
     ensures loses { LosesPlexes group.old.core.inner.config group.new.core.inner.config (S.meaning group.old.shelf) (S.meaning group.new.shelf) }
     ensures on { BothOn group.old.core.inner.config group.new.core.inner.config (S.meaning group.old.shelf).units }
     ensures trust { OnOk result (group.old.core.inner.committed ≡ true → group.new.core.inner.committed ≡ true) }
@@ -64,6 +65,7 @@ pub fn read_plain<S: Shelf>(
     requires fits { Fits (inner_meaning (wide group.old.core) (S.meaning group.old.shelf)) vol block (length into.old) }
     ensures reads { (note : GroupNode) → HoldsPlain note (inner_meaning (wide group.old.core) (S.meaning group.old.shelf)) → OnOk result (ReadsPlain note (S.meaning group.old.shelf) vol block into.new) }
     ensures stays { (n : Node) (note : GroupNode) → IsGroupAt n note group.old.core (S.meaning group.old.shelf) → IsGroupAt n note group.new.core (S.meaning group.new.shelf) }
+    ensures goes { Goes Nothing (inner_meaning (wide group.old.core) (S.meaning group.old.shelf)) (inner_meaning (wide group.new.core) (S.meaning group.new.shelf)) }
     ensures same { group.new.core.inner.config ≡ group.old.core.inner.config }
     ensures below { Goes Nothing (S.meaning group.old.shelf) (S.meaning group.new.shelf) }
     ensures gives_up { (disk : ℕ) → result ≡ Err (Device disk) → EachBlamed group.old.core.inner.config vol (S.meaning group.old.shelf) (S.meaning group.new.shelf) }

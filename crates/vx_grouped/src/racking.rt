@@ -4,6 +4,7 @@ ghost use Rattle.vx_disk.specs.Causes.{OnDisks, WithDisks};
 ghost use Rattle.vx_disk.specs.Disks.{Crashed, SameBlocks, Untouched};
 ghost use Rattle.vx_disk.specs.Racks.{Alike, Stopped};
 ghost use Rattle.vx_group.specs.Holding.{wide};
+ghost use Rattle.vx_group.specs.Settles.{LacksCommit};
 ghost use Rattle.vx_group.specs.Stands.{inner_meaning};
 ghost use Rattle.vx_grouped.specs.Away.{IsAwayAt};
 ghost use Rattle.vx_grouped.specs.GroupNotes.{GroupLies};
@@ -20,15 +21,20 @@ ghost use Rattle.vx_watched.specs.Traces.{TellsLess};
 use crate::tracing::{trace, traced, untrace, untraced};
 use crate::{Idle, Laid};
 use vx_disk::{Rack, Shelf};
+use vx_group::lacks_commit;
 use vx_loggroup::{LoggedGroup, crash_whole, fail_whole, fuse_whole};
 use vx_logimport::Rested;
 use vx_watched::Begun;
 
-// Which volumes are as a deport left them, behind a crash: none; it is not known where logs were stopped.
-fn rested_of(stopped: bool) -> Option<Rested>
-    ensures none { (r : RestedValue) → result ≡ Some r → (stopped ≡ false) × RestsNone r }
+// Which volumes are as a deport left them, behind a crash: none; it is not known where logs were stopped, or where a commit is missed for which no
+// serial is left.
+fn rested_of(stopped: bool, lacking: bool) -> Option<Rested>
+    ensures none { (r : RestedValue) → result ≡ Some r → (stopped ≡ false) × (lacking ≡ false) × RestsNone r }
 {
     if stopped {
+        return None;
+    }
+    if lacking {
         return None;
     }
     Some(Rested::none())
@@ -101,6 +107,7 @@ pub(crate) fn crash_laid<C: Begun, R: Rack>(laid: Laid<R>, pick: u64) -> Idle<R>
     ensures disks { OnDisks (shade_meaning (λ s. R.meaning s) laid.shelf).disks (shade_meaning (λ s. R.meaning s) result.rack).disks (Crashed (shade_meaning (λ s. R.meaning s) laid.shelf).size pick) }
     ensures maps { (w : MissedNote) → PartsNoted w (map_parts laid.core.inner.config laid.logs.items laid.alike laid.stopped) → DiskMaps w laid.core.inner.config (shade_meaning (λ s. R.meaning s) result.rack) }
     ensures rests { RestsNot result.rested }
+    ensures lacking { (r : RestedValue) → result.rested ≡ Some r → LacksCommit laid.core.inner → ⊥ }
     ensures told { TellsLess C.first (R.meaning (rack_of result.rack)) }
 {
     let (mut shelf, rest) = trace::<C, R>(laid).apart();
@@ -112,10 +119,11 @@ pub(crate) fn crash_laid<C: Begun, R: Rack>(laid: Laid<R>, pick: u64) -> Idle<R>
         rest.stopped,
         pick,
     );
+    let lacking = lacks_commit(&rest.core.inner);
     Idle::of(
         untraced(shelf),
         rest.core.inner.agreed,
-        rested_of(rest.stopped),
+        rested_of(rest.stopped, lacking),
     )
 }
 

@@ -1,5 +1,6 @@
 // Which blocks of a write the volumes of a site's group have.
-ghost use Rattle.std.specs.Prelude.{◌≡◌, ◌≤◌, length};
+ghost use Rattle.std.specs.Prelude.{◌≤◌, length, ◌≡◌};
+ghost use Rattle.vx_disk.specs.Moves.{Nowhere};
 ghost use Rattle.vx_disk.specs.Shelf.{Fits};
 ghost use Rattle.vx_history.specs.Groups.{GroupNode};
 ghost use Rattle.vx_history.specs.World.{Node};
@@ -8,6 +9,7 @@ ghost use Rattle.vx_group.specs.Stands.{inner_meaning};
 ghost use Rattle.vx_grouped.specs.GroupSites.{FitsPlain, GroupUp, UpNoted, site_below, site_disks};
 ghost use Rattle.vx_grouped.specs.PlainMaps.{map_parts};
 ghost use Rattle.vx_grouped.specs.SiteKeeps.{PlainKeeps, PlainKept};
+ghost use Rattle.vx_grouped.specs.Volumes.{SiteGoes};
 ghost use Rattle.vx_grouped.specs.SiteMaps.{StaysMapped};
 ghost use Rattle.vx_untold.specs.Shades.{rack_of, shade_meaning};
 ghost use Rattle.vx_watched.specs.Since.{CalledSince};
@@ -101,6 +103,7 @@ fn kept_site<R: Rack>(
     requires few { length bytes.now ≤ MOST_CALL_BYTES }
     ensures kept { (n : Node) (note : GroupNode) → GroupUp n note (R.meaning (rack_of laid.shelf)).tells laid.core (shade_meaning (λ s. R.meaning s) laid.shelf) → FitsPlain note vol block (length bytes.now) → PlainKept n note vol block bytes.now (GroupSite.Up laid) result.0 result.1 }
     ensures maps { (n : Node) (note : GroupNode) → GroupUp n note (R.meaning (rack_of laid.shelf)).tells laid.core (shade_meaning (λ s. R.meaning s) laid.shelf) → FitsPlain note vol block (length bytes.now) → StaysMapped (GroupSite.Up laid) result.0 }
+    ensures volumes { SiteGoes Nowhere (GroupSite.Up laid) result.0 }
     ensures since { CalledSince (shade_meaning (λ s. R.meaning s) laid.shelf) (site_disks result.0) }
     ensures told { TellsLess (R.meaning (rack_of laid.shelf)) (site_below result.0) }
 {
@@ -127,6 +130,7 @@ impl<R: Rack> GroupSite<R> {
         requires few { length bytes.now ≤ MOST_CALL_BYTES }
         ensures kept { (n : Node) (note : GroupNode) → UpNoted n note self.old → FitsPlain note vol block (length bytes.now) → PlainKept n note vol block bytes.now self.old self.new result }
         ensures maps { (n : Node) (note : GroupNode) → UpNoted n note self.old → FitsPlain note vol block (length bytes.now) → StaysMapped self.old self.new }
+        ensures volumes { SiteGoes Nowhere self.old self.new }
         ensures since { CalledSince (site_disks self.old) (site_disks self.new) }
         ensures told { TellsLess (site_below self.old) (site_below self.new) }
     {

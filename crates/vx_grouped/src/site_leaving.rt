@@ -6,6 +6,8 @@ ghost use Rattle.vx_grouped.specs.CoreMoves.{DeportCan, DeportMoves};
 ghost use Rattle.vx_grouped.specs.Ends.{DeportLeaves};
 ghost use Rattle.vx_grouped.specs.GroupNotes.{IsGroupAt};
 ghost use Rattle.vx_grouped.specs.GroupSites.{GroupUp, UpNoted, site_below, site_disks};
+ghost use Rattle.vx_disk.specs.Moves.{Nowhere};
+ghost use Rattle.vx_grouped.specs.Volumes.{SiteCloses, SiteGoes};
 ghost use Rattle.vx_grouped.specs.PlainMaps.{LeavesMaps, map_parts};
 ghost use Rattle.vx_grouped.specs.SiteEnds.{SiteDeported};
 ghost use Rattle.vx_grouped.specs.SiteMaps.{DeportMapped};
@@ -96,6 +98,8 @@ fn deport_watched<R: Rack>(laid: Laid<R>) -> Result<(Shade<R>, Option<Rested>), 
 fn deport_site<R: Rack>(laid: Laid<R>) -> (GroupSite<R>, Result<(), Stop>)
     ensures deported { (n : Node) (note : GroupNode) → GroupUp n note (R.meaning (rack_of laid.shelf)).tells laid.core (shade_meaning (λ s. R.meaning s) laid.shelf) → SiteDeported n note (GroupSite.Up laid) result.0 result.1 }
     ensures maps { (n : Node) (note : GroupNode) → GroupUp n note (R.meaning (rack_of laid.shelf)).tells laid.core (shade_meaning (λ s. R.meaning s) laid.shelf) → DeportMapped (GroupSite.Up laid) result.0 result.1 }
+    ensures closes { SiteCloses (GroupSite.Up laid) result.0 }
+    ensures volumes { SiteGoes Nowhere (GroupSite.Up laid) result.0 }
     ensures since { CalledSince (shade_meaning (λ s. R.meaning s) laid.shelf) (site_disks result.0) }
     ensures told { TellsLess (R.meaning (rack_of laid.shelf)) (site_below result.0) }
 {
@@ -123,6 +127,8 @@ impl<R: Rack> GroupSite<R> {
     pub fn deport(self) -> (GroupSite<R>, Result<(), Stop>)
         ensures deported { (n : Node) (note : GroupNode) → UpNoted n note self → SiteDeported n note self result.0 result.1 }
         ensures maps { (n : Node) (note : GroupNode) → UpNoted n note self → DeportMapped self result.0 result.1 }
+        ensures closes { SiteCloses self result.0 }
+        ensures volumes { SiteGoes Nowhere self result.0 }
         ensures since { CalledSince (site_disks self) (site_disks result.0) }
         ensures told { TellsLess (site_below self) (site_below result.0) }
     {

@@ -6,6 +6,8 @@ ghost use Rattle.vx_model.specs.declared.errors.Stop.TheVariants.{No as Refused}
 ghost use Rattle.vx_model.specs.declared.no.No.{No as NoValue};
 ghost use Rattle.vx_grouped.specs.Added.{IsUnmoved};
 ghost use Rattle.vx_grouped.specs.GroupSites.{GroupUp, UpNoted, site_below, site_disks};
+ghost use Rattle.vx_disk.specs.Moves.{Nowhere};
+ghost use Rattle.vx_grouped.specs.Volumes.{SiteGoes};
 ghost use Rattle.vx_disk.specs.Racks.{IsRack};
 ghost use Rattle.vx_grouped.specs.PlainMaps.{AddsMaps, map_parts};
 ghost use Rattle.vx_grouped.specs.SiteMaps.{AddedMapped};
@@ -106,6 +108,7 @@ fn make_site<R: Rack>(
     ensures maps { (n : Node) (note : GroupNode) → GroupUp n note (R.meaning (rack_of laid.shelf)).tells laid.core (shade_meaning (λ s. R.meaning s) laid.shelf) → AddedMapped (GroupSite.Up laid) result.0 result.1 }
     ensures refused { (n : Node) (note : GroupNode) (no : NoValue) → GroupUp n note (R.meaning (rack_of laid.shelf)).tells laid.core (shade_meaning (λ s. R.meaning s) laid.shelf) → refuses_volume (GroupSite.Up laid) name.now want.now ≡ Some no → result.1 ≡ Err (Refused no) }
     ensures volume { (n : Node) (note : GroupNode) → GroupUp n note (R.meaning (rack_of laid.shelf)).tells laid.core (shade_meaning (λ s. R.meaning s) laid.shelf) → IfOk result.1 (λ vol. VolumeIn name.now want.now vol (GroupSite.Up laid) result.0) }
+    ensures volumes { SiteGoes Nowhere (GroupSite.Up laid) result.0 }
     ensures since { CalledSince (shade_meaning (λ s. R.meaning s) laid.shelf) (site_disks result.0) }
     ensures told { TellsLess (R.meaning (rack_of laid.shelf)) (site_below result.0) }
 {
@@ -137,6 +140,7 @@ impl<R: Rack> GroupSite<R> {
         ensures maps { (n : Node) (note : GroupNode) → UpNoted n note self.old → AddedMapped self.old self.new result }
         ensures refused { (n : Node) (note : GroupNode) (no : NoValue) → UpNoted n note self.old → refuses_volume self.old name.now want.now ≡ Some no → result ≡ Err (Refused no) }
         ensures volume { (n : Node) (note : GroupNode) → UpNoted n note self.old → IfOk result (λ vol. VolumeIn name.now want.now vol self.old self.new) }
+        ensures volumes { SiteGoes Nowhere self.old self.new }
         ensures since { CalledSince (site_disks self.old) (site_disks self.new) }
         ensures told { TellsLess (site_below self.old) (site_below self.new) }
     {

@@ -4,6 +4,9 @@ ghost use Rattle.vx_history.specs.Groups.{GroupNode};
 ghost use Rattle.vx_history.specs.World.{Node};
 ghost use Rattle.vx_grouped.specs.Ends.{plain_write};
 ghost use Rattle.vx_grouped.specs.GroupSites.{FitsPlain, GroupUp, UpNoted, site_below, site_disks};
+ghost use Rattle.vx_disk.specs.Moves.{Nowhere};
+ghost use Rattle.vx_disk.specs.Shelf.{Covers};
+ghost use Rattle.vx_grouped.specs.Volumes.{SiteGoes};
 ghost use Rattle.vx_grouped.specs.SiteEnds.{PlainRead, PlainWrote, is_off};
 ghost use Rattle.vx_grouped.specs.SiteMaps.{StaysMapped, WroteMapped};
 ghost use Rattle.vx_untold.specs.Shades.{rack_of, shade_meaning};
@@ -32,6 +35,7 @@ fn write_site<R: Rack>(
 ) -> (GroupSite<R>, Result<(), No>)
     ensures wrote { (n : Node) (note : GroupNode) → GroupUp n note (R.meaning (rack_of laid.shelf)).tells laid.core (shade_meaning (λ s. R.meaning s) laid.shelf) → FitsPlain note vol block (length bytes.now) → PlainWrote n note (plain_write vol block bytes.now) (GroupSite.Up laid) result.0 result.1 }
     ensures maps { (n : Node) (note : GroupNode) → GroupUp n note (R.meaning (rack_of laid.shelf)).tells laid.core (shade_meaning (λ s. R.meaning s) laid.shelf) → FitsPlain note vol block (length bytes.now) → WroteMapped (plain_write vol block bytes.now) (GroupSite.Up laid) result.0 result.1 }
+    ensures volumes { SiteGoes (Covers vol block bytes.now) (GroupSite.Up laid) result.0 }
     ensures since { CalledSince (shade_meaning (λ s. R.meaning s) laid.shelf) (site_disks result.0) }
     ensures told { TellsLess (R.meaning (rack_of laid.shelf)) (site_below result.0) }
 {
@@ -59,6 +63,7 @@ fn read_site<R: Rack>(
 ) -> (GroupSite<R>, Result<(), No>)
     ensures read { (n : Node) (note : GroupNode) → GroupUp n note (R.meaning (rack_of laid.shelf)).tells laid.core (shade_meaning (λ s. R.meaning s) laid.shelf) → FitsPlain note vol block (length into.old) → PlainRead n note vol block into.new (GroupSite.Up laid) result.0 result.1 }
     ensures maps { (n : Node) (note : GroupNode) → GroupUp n note (R.meaning (rack_of laid.shelf)).tells laid.core (shade_meaning (λ s. R.meaning s) laid.shelf) → FitsPlain note vol block (length into.old) → StaysMapped (GroupSite.Up laid) result.0 }
+    ensures volumes { SiteGoes Nowhere (GroupSite.Up laid) result.0 }
     ensures since { CalledSince (shade_meaning (λ s. R.meaning s) laid.shelf) (site_disks result.0) }
     ensures told { TellsLess (R.meaning (rack_of laid.shelf)) (site_below result.0) }
 {
@@ -93,6 +98,7 @@ impl<R: Rack> GroupSite<R> {
     pub fn write(&mut self, vol: u32, block: u64, bytes: &[u8]) -> Result<(), No>
         ensures wrote { (n : Node) (note : GroupNode) → UpNoted n note self.old → FitsPlain note vol block (length bytes.now) → PlainWrote n note (plain_write vol block bytes.now) self.old self.new result }
         ensures maps { (n : Node) (note : GroupNode) → UpNoted n note self.old → FitsPlain note vol block (length bytes.now) → WroteMapped (plain_write vol block bytes.now) self.old self.new result }
+        ensures volumes { SiteGoes (Covers vol block bytes.now) self.old self.new }
         ensures since { CalledSince (site_disks self.old) (site_disks self.new) }
         ensures told { TellsLess (site_below self.old) (site_below self.new) }
     {
@@ -115,6 +121,7 @@ impl<R: Rack> GroupSite<R> {
     pub fn read(&mut self, vol: u32, block: u64, into: &mut [u8]) -> Result<(), No>
         ensures read { (n : Node) (note : GroupNode) → UpNoted n note self.old → FitsPlain note vol block (length into.old) → PlainRead n note vol block into.new self.old self.new result }
         ensures maps { (n : Node) (note : GroupNode) → UpNoted n note self.old → FitsPlain note vol block (length into.old) → StaysMapped self.old self.new }
+        ensures volumes { SiteGoes Nowhere self.old self.new }
         ensures since { CalledSince (site_disks self.old) (site_disks self.new) }
         ensures told { TellsLess (site_below self.old) (site_below self.new) }
     {

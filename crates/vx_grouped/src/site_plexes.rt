@@ -5,6 +5,8 @@ ghost use Rattle.vx_history.specs.World.{Node};
 ghost use Rattle.vx_model.specs.declared.errors.Stop.TheVariants.{No as Refused};
 ghost use Rattle.vx_model.specs.declared.no.No.{No as NoValue};
 ghost use Rattle.vx_grouped.specs.GroupSites.{GroupUp, UpNoted, site_below, site_disks};
+ghost use Rattle.vx_disk.specs.Moves.{Nowhere};
+ghost use Rattle.vx_grouped.specs.Volumes.{SiteGoes};
 ghost use Rattle.vx_grouped.specs.SiteEnds.{AttCalled, DetCalled, RegionsOf, is_plex_on, refuses_att, refuses_det, stops_down};
 ghost use Rattle.vx_grouped.specs.SiteMaps.{AttMapped, DetMapped};
 ghost use Rattle.vx_untold.specs.Shades.{rack_of, shade_meaning};
@@ -31,6 +33,7 @@ fn det_site<R: Rack>(laid: Laid<R>, vol: u32, plex: u32) -> (GroupSite<R>, Resul
     ensures refused { (n : Node) (note : GroupNode) (no : NoValue) → GroupUp n note (R.meaning (rack_of laid.shelf)).tells laid.core (shade_meaning (λ s. R.meaning s) laid.shelf) → refuses_det (GroupSite.Up laid) vol plex ≡ Some no → result.1 ≡ Err (Refused no) }
     ensures off { OnOk result.1 (is_plex_on result.0 vol plex ≡ false) }
     ensures others { OnOk result.1 ((w p : ℕ) → (w ≡ vol → p ≡ plex → ⊥) → is_plex_on result.0 w p ≡ is_plex_on (GroupSite.Up laid) w p) }
+    ensures volumes { SiteGoes Nowhere (GroupSite.Up laid) result.0 }
     ensures since { CalledSince (shade_meaning (λ s. R.meaning s) laid.shelf) (site_disks result.0) }
     ensures told { TellsLess (R.meaning (rack_of laid.shelf)) (site_below result.0) }
 {
@@ -58,6 +61,7 @@ fn att_site<R: Rack>(laid: Laid<R>, vol: u32, plex: u32) -> (GroupSite<R>, Resul
     ensures count { is_plex_on (GroupSite.Up laid) vol plex ≡ false → IfOk result.1 (λ k. RegionsOf (GroupSite.Up laid) vol k) }
     ensures on { is_plex_on (GroupSite.Up laid) vol plex ≡ false → OnOk result.1 (IsTrue (is_plex_on result.0 vol plex)) }
     ensures others { OnOk result.1 ((w p : ℕ) → (w ≡ vol → p ≡ plex → ⊥) → is_plex_on result.0 w p ≡ is_plex_on (GroupSite.Up laid) w p) }
+    ensures volumes { SiteGoes Nowhere (GroupSite.Up laid) result.0 }
     ensures since { CalledSince (shade_meaning (λ s. R.meaning s) laid.shelf) (site_disks result.0) }
     ensures told { TellsLess (R.meaning (rack_of laid.shelf)) (site_below result.0) }
 {
@@ -87,6 +91,7 @@ impl<R: Rack> GroupSite<R> {
         ensures refused { (n : Node) (note : GroupNode) (no : NoValue) → UpNoted n note self.old → refuses_det self.old vol plex ≡ Some no → result ≡ Err (Refused no) }
         ensures off { OnOk result (is_plex_on self.new vol plex ≡ false) }
         ensures others { OnOk result ((w p : ℕ) → (w ≡ vol → p ≡ plex → ⊥) → is_plex_on self.new w p ≡ is_plex_on self.old w p) }
+        ensures volumes { SiteGoes Nowhere self.old self.new }
         ensures since { CalledSince (site_disks self.old) (site_disks self.new) }
         ensures told { TellsLess (site_below self.old) (site_below self.new) }
     {
@@ -116,6 +121,7 @@ impl<R: Rack> GroupSite<R> {
         ensures count { is_plex_on self.old vol plex ≡ false → IfOk result (λ k. RegionsOf self.old vol k) }
         ensures on { is_plex_on self.old vol plex ≡ false → OnOk result (IsTrue (is_plex_on self.new vol plex)) }
         ensures others { OnOk result ((w p : ℕ) → (w ≡ vol → p ≡ plex → ⊥) → is_plex_on self.new w p ≡ is_plex_on self.old w p) }
+        ensures volumes { SiteGoes Nowhere self.old self.new }
         ensures since { CalledSince (site_disks self.old) (site_disks self.new) }
         ensures told { TellsLess (site_below self.old) (site_below self.new) }
     {

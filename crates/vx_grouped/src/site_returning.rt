@@ -8,11 +8,13 @@ ghost use Rattle.vx_group.specs.Imports.{ImportStops};
 ghost use Rattle.vx_group.specs.Resumes.{CanImport, CanImportBehind};
 ghost use Rattle.vx_grouped.specs.Away.{AwayLies};
 ghost use Rattle.vx_grouped.specs.Begins.{CreateSince};
+ghost use Rattle.vx_grouped.specs.Brings.{AnswersUp, BringsAtSite, BringsGroup, ComesUp};
 ghost use Rattle.vx_grouped.specs.GroupSites.{AreStopped, AwayNoted, DownNoted, GroupAway, GroupDown, idle_below, idle_disks, site_below, site_disks};
+ghost use Rattle.vx_grouped.specs.Readies.{ready_of};
 ghost use Rattle.vx_grouped.specs.PlainMaps.{ComesMaps, map_parts};
 ghost use Rattle.vx_grouped.specs.Returns.{ImportLeaves};
+ghost use Rattle.vx_grouped.specs.SiteReturns.{ImportsFrom, RecoversFrom, ReturnSince, SiteImports, SiteRecovers, TellsNone, as_imported, stops_early};
 ghost use Rattle.vx_grouped.specs.SiteMaps.{CameMapped, ImportMapped, RecoverMapped};
-ghost use Rattle.vx_grouped.specs.SiteReturns.{ImportsFrom, RecoversFrom, ReturnSince, SiteImports, SiteRecovers, TellsNone, stops_early};
 ghost use Rattle.vx_config.specs.Table.{greatest};
 ghost use Rattle.vx_logimport.specs.Rests.{LogsTell};
 ghost use Rattle.vx_model.specs.declared.errors.Stop.TheVariants.{No as Refused};
@@ -52,6 +54,7 @@ fn import_from<B: Begun, R: Rack>(
     ensures maps { ComesMaps rested.now (R.meaning rack) (λ g. map_parts g.core.inner.config g.logs.items g.alike g.stopped) (λ g. R.meaning g.shelf) result }
     ensures up { IfOk result (λ g. IsTrue (R.meaning g.shelf).down → ⊥) }
     ensures since { CreateSince B.first (λ s. R.meaning s) (λ g. g.shelf) result }
+    ensures brings { BringsGroup (R.meaning rack) (λ s. R.meaning s) (λ g. g.core) (λ g. g.shelf) result }
 {
     let watched = Watched::<R, B>::over(rack);
     let came = import_group(alloc, watched, rested);
@@ -81,6 +84,7 @@ fn import_traced<C: Begun, R: Rack>(
     ensures up { IfOk result (λ g. IsTrue (shade_meaning (λ s. R.meaning s) g.shelf).down → ⊥) }
     ensures since { CreateSince (shade_meaning (λ s. R.meaning s) rack) (λ s. shade_meaning (λ s. R.meaning s) s) (λ g. g.shelf) result }
     ensures told { FoundTells C.first (λ s. R.meaning (rack_of s)) (λ g. R.meaning (rack_of g.shelf)) result }
+    ensures brings { BringsGroup (shade_meaning (λ s. R.meaning s) rack) (λ s. shade_meaning (λ s. R.meaning s) s) (λ g. g.core) (λ g. g.shelf) result }
 {
     let came = import_from::<Brand, Shade<Traced<R, C>>>(alloc, traced::<C, R>(rack), rested);
     match came {
@@ -104,6 +108,7 @@ fn import_watched<R: Rack>(
     ensures up { IfOk result (λ g. IsTrue (shade_meaning (λ s. R.meaning s) g.shelf).down → ⊥) }
     ensures since { CreateSince (shade_meaning (λ s. R.meaning s) rack) (λ s. shade_meaning (λ s. R.meaning s) s) (λ g. g.shelf) result }
     ensures told { FoundTells (R.meaning (rack_of rack)) (λ s. R.meaning (rack_of s)) (λ g. R.meaning (rack_of g.shelf)) result }
+    ensures brings { BringsGroup (shade_meaning (λ s. R.meaning s) rack) (λ s. shade_meaning (λ s. R.meaning s) s) (λ g. g.core) (λ g. g.shelf) result }
 {
     import_traced::<Brand, R>(alloc, rack, rested)
 }
@@ -165,7 +170,7 @@ fn risen_traced<C: Begun, R: Rack>(rack: Shade<R>) -> Shade<R>
 }
 
 // Ends the down state of disks.
-fn risen<R: Rack>(rack: Shade<R>) -> Shade<R>
+pub(crate) fn risen<R: Rack>(rack: Shade<R>) -> Shade<R>
     requires { IsTrue (shade_meaning (λ s. R.meaning s) rack).down }
     ensures alike { Alike (shade_meaning (λ s. R.meaning s) rack) (shade_meaning (λ s. R.meaning s) result) }
     ensures up { IsFalse (shade_meaning (λ s. R.meaning s) result).down }
@@ -189,6 +194,8 @@ fn recover_site<R: Rack>(
     ensures maps { RecoverMapped (Some rested) (shade_meaning (λ s. R.meaning s) rack) result.0 result.1 }
     ensures since { ReturnSince (shade_meaning (λ s. R.meaning s) rack) (site_disks result.0) }
     ensures told { TellsLess (R.meaning (rack_of rack)) (site_below result.0) }
+    ensures brings { BringsAtSite (shade_meaning (λ s. R.meaning s) rack) result.0 result.1 }
+    ensures comes { AnswersUp result.0 result.1 }
 {
     if !rack.is_down() {
         return (
@@ -224,6 +231,8 @@ fn import_site<R: Rack>(
     ensures maps { ImportMapped (Some rested) (shade_meaning (λ s. R.meaning s) rack) result.0 result.1 }
     ensures since { ReturnSince (shade_meaning (λ s. R.meaning s) rack) (site_disks result.0) }
     ensures told { TellsLess (R.meaning (rack_of rack)) (site_below result.0) }
+    ensures brings { BringsAtSite (shade_meaning (λ s. R.meaning s) rack) result.0 result.1 }
+    ensures comes { AnswersUp result.0 result.1 }
 {
     if rack.is_down() {
         return (
@@ -286,6 +295,8 @@ fn recover_idle<R: Rack>(alloc: Global, idle: Idle<R>) -> (GroupSite<R>, Result<
     ensures maps { RecoverMapped idle.rested (idle_disks idle) result.0 result.1 }
     ensures since { ReturnSince (idle_disks idle) (site_disks result.0) }
     ensures told { TellsLess (idle_below idle) (site_below result.0) }
+    ensures brings { BringsAtSite (shade_meaning (λ s. R.meaning s) (ready_of idle.agreed idle.rack)) result.0 result.1 }
+    ensures comes { AnswersUp result.0 result.1 }
 {
     let rested = idle.rested;
     match rested {
@@ -300,6 +311,8 @@ fn import_idle<R: Rack>(alloc: Global, idle: Idle<R>) -> (GroupSite<R>, Result<(
     ensures maps { ImportMapped idle.rested (idle_disks idle) result.0 result.1 }
     ensures since { ReturnSince (idle_disks idle) (site_disks result.0) }
     ensures told { TellsLess (idle_below idle) (site_below result.0) }
+    ensures brings { BringsAtSite (shade_meaning (λ s. R.meaning s) (ready_of idle.agreed idle.rack)) result.0 result.1 }
+    ensures comes { AnswersUp result.0 result.1 }
 {
     let rested = idle.rested;
     match rested {
@@ -319,6 +332,8 @@ impl<R: Rack> GroupSite<R> {
         ensures maps { CameMapped self result.0 result.1 }
         ensures since { ReturnSince (site_disks self) (site_disks result.0) }
         ensures told { TellsLess (site_below self) (site_below result.0) }
+        ensures brings { BringsAtSite (as_imported self) result.0 result.1 }
+        ensures comes { ComesUp self result.0 result.1 }
     {
         match self {
             GroupSite::Down(idle) => recover_idle(alloc, idle),

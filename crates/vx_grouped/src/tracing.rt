@@ -11,7 +11,7 @@ use vx_untold::Shade;
 use vx_watched::{Begun, Traced};
 
 /// The same disks, with an account of what the rack inside tells. It makes no device call.
-pub(crate) fn traced<C: Begun, R: Rack>(shade: Shade<R>) -> Shade<Traced<R, C>>
+pub fn traced<C: Begun, R: Rack>(shade: Shade<R>) -> Shade<Traced<R, C>>
     requires told { TellsLess C.first (R.meaning (rack_of shade)) }
     ensures { shade ≡ shade_over (λ t. t.rack) result }
 {
@@ -22,7 +22,7 @@ pub(crate) fn traced<C: Begun, R: Rack>(shade: Shade<R>) -> Shade<Traced<R, C>>
 }
 
 /// Takes that account off. It makes no device call.
-pub(crate) fn untraced<C: Begun, R: Rack>(shade: Shade<Traced<R, C>>) -> Shade<R>
+pub fn untraced<C: Begun, R: Rack>(shade: Shade<Traced<R, C>>) -> Shade<R>
     ensures shade { result ≡ shade_over (λ t. t.rack) shade }
     ensures told { TellsLess C.first (R.meaning (rack_of result)) }
 {
@@ -33,7 +33,7 @@ pub(crate) fn untraced<C: Begun, R: Rack>(shade: Shade<Traced<R, C>>) -> Shade<R
 }
 
 /// The group over such disks. It makes no device call.
-pub(crate) fn trace<C: Begun, R: Rack>(laid: Laid<R>) -> LoggedGroup<Shade<Traced<R, C>>>
+pub fn trace<C: Begun, R: Rack>(laid: Laid<R>) -> LoggedGroup<Shade<Traced<R, C>>>
     requires told { TellsLess C.first (R.meaning (rack_of laid.shelf)) }
     ensures core { result.core ≡ laid.core }
     ensures logs { result.logs ≡ laid.logs }
@@ -47,7 +47,7 @@ pub(crate) fn trace<C: Begun, R: Rack>(laid: Laid<R>) -> LoggedGroup<Shade<Trace
 }
 
 /// And by its parts again, without that account. It makes no device call.
-pub(crate) fn untrace<C: Begun, R: Rack>(group: LoggedGroup<Shade<Traced<R, C>>>) -> Laid<R>
+pub fn untrace<C: Begun, R: Rack>(group: LoggedGroup<Shade<Traced<R, C>>>) -> Laid<R>
     ensures core { result.core ≡ group.core }
     ensures logs { result.logs ≡ group.logs }
     ensures alike { result.alike ≡ group.alike }

@@ -28,7 +28,8 @@ use Rattle.vx_volume.specs.Plexes.{DisksFit}
 use Rattle.vx_wire.specs.Fields.{zero_bytes}
 use Rattle.vx_grouplogs.specs.Covering.{OnLogs}
 use Rattle.vx_grouplogs.specs.Mapping.{map_logs}
-use Rattle.vx_grouplogs.specs.On.{ReadsOne, VolumeOn}
+use Rattle.vx_grouplogs.specs.On.{VolumeOn}
+use Rattle.vx_group.specs.Settles.{ReadsOne}
 use Rattle.vx_grouplogs.specs.Zeroing.{AreZeros, ZerosIn}
 use Rattle.vx_grouplogs.proofs.CoverLemmas.{alike_stays, mark_stands, plex_stays, region_inside}
 use Rattle.vx_grouplogs.proofs.FreshLemmas.{fresh_active}

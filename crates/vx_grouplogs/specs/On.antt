@@ -13,10 +13,6 @@ use Rattle.vx_logs.specs.declared.logs.Logs.{Logs}
 use Rattle.vx_volume.specs.Plexes.{Inside, active}
 use Rattle.vx_grouplogs.specs.Covering.{DiskCovers, MemoryCovers, OnLogs}
 
--- each block of a volume reads as one value on all plexes that are ACTIVE
-pub record ReadsOne (c : Config) (v : ℕ) (m : Meaning) : Type 0 where
-  pub one : (b : ℕ) (x y : List ℕ) → OnSome c m.reads v b x → OnSome c m.reads v b y → x ≡ y
-
 -- The log in memory, where there is one, is that of the volume and stands on its disk; it has each region in which plexes may differ, and so
 -- has the one on the disk, whatever a crash leaves, where it is not held as lost. It may be in memory no more, and not yet be held as lost.
 pub record VolumeOn (c : Config) (v : ℕ) (l : Logs) (m : Meaning) : Type 0 where

@@ -5,7 +5,7 @@ use Rattle.std.proofs.lemmas.List.{length-take, take-take, take-append-drop, tak
 use Rattle.vx_model.specs.Content.{Write, Content, fold_writes, IsPrefixOf}
 use Rattle.vx_history.specs.World.{Node, History, World, Fuse, FuseSet, with_node, with_history}
 use Rattle.vx_model.specs.Sites.{is_origin}
-use Rattle.vx_history.specs.Steps.{crashed, kept_by, crash_left, half_begun, cut_write, deported_site, deported_world, group_back, group_up, recovered, came_up, session_begun, stopped_by, worked_on, fused, burned}
+use Rattle.vx_history.specs.Steps.{crashed, kept_by, crash_left, half_begun, cut_write, deported_site, deported_world, fallen_site, fallen_world, group_back, group_up, recovered, came_up, session_begun, stopped_by, worked_on, fused, burned}
 use Rattle.vx_history.specs.Events.{crash_at}
 use Rattle.vx_history.specs.Good.{GoodNode, Good, IsMade, TellsContent}
 use Rattle.vx_history.specs.GoodCopies.{GoodCopy, GoodReplays}
@@ -124,6 +124,24 @@ pub good_deported : (w : World) (i : ℕ) (fuse : Fuse) → Good w → IsMade (w
 good_deported w i fuse s made whole =
     let good = s.nodes i in
     stays_node w i (deported_site fuse (w.nodes i)) s made refl
+    (record {
+      safe_fits = good.safe_fits;
+      own_line = λ _ is. good.own_line made is;
+      receiver_log = λ _ not. good.receiver_log made not;
+      origin_log = λ _ is. good.origin_log made is;
+      origin_whole = λ _ _. whole;
+      origin_mark = good.origin_mark;
+      plain = λ bare. absurd (cc);
+      content = good.content;
+      copy = λ _ not. let c = good.copy made not in record { size = c.size; known = c.known; copying = c.copying; filling = c.filling };
+    })
+    (λ e. cc)
+
+-- one that gave them up is down
+pub good_fallen : (w : World) (i : ℕ) → Good w → IsMade (w.nodes i) → length (w.nodes i).log ≤ (w.nodes i).safe → Good (fallen_world w i)
+good_fallen w i s made whole =
+    let good = s.nodes i in
+    stays_node w i (fallen_site (w.nodes i)) s made refl
     (record {
       safe_fits = good.safe_fits;
       own_line = λ _ is. good.own_line made is;

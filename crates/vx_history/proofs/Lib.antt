@@ -1,4 +1,5 @@
 pub mod CrashLemmas
+pub mod DataListLemmas
 pub mod GoodLemmas
 pub mod GroupLemmas
 pub mod Places

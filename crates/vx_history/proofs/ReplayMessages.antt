@@ -6,7 +6,7 @@ use Rattle.vx_model.specs.declared.link.Phase.TheVariants.{Regions as CopiesRegi
 use Rattle.vx_model.specs.declared.link.Mode.{Mode}
 use Rattle.vx_model.specs.declared.link.Mode.TheVariants.{Replay}
 use Rattle.vx_history.specs.World.{Node, Replays, no_regions}
-use Rattle.vx_history.specs.CopySteps.{IsOver, RegionFuzzy, SaysCopied, SaysRegion, SaysStart, SaysStored, begun_table, closed_at, entered, is_in_region, read_table, with_part}
+use Rattle.vx_history.specs.CopySteps.{IsReplayOver, RegionFuzzy, SaysCopied, SaysRegion, SaysStart, SaysStored, begun_table, closed_at, entered, is_in_region, read_table, with_part}
 use Rattle.vx_history.specs.GoodCopies.{GoodCopy, GoodReplays}
 use Rattle.vx_history.specs.Regions.{AtSome, Fuzzy}
 use Rattle.vx_history.proofs.Blocks.{region_within, some_blocks}
@@ -181,6 +181,6 @@ done_answered held t n start end table fits copy c is_start is_end fuzzy = (
 )
 
 -- a link that goes on copies no region of an earlier replay again
-pub copied_said_over : (held : List Write) (t : Replays) (n : Node) (mode next : Mode) (id start end : ℕ) → ((i : ℕ) → i ≤ n.replay → IsOver mode i → IsOver next i) → SaysCopied held t n mode id start end
+pub copied_said_over : (held : List Write) (t : Replays) (n : Node) (mode next : Mode) (id start end : ℕ) → ((i : ℕ) → i ≤ n.replay → IsReplayOver mode i → IsReplayOver next i) → SaysCopied held t n mode id start end
     → SaysCopied held t n next id start end
 copied_said_over held t n mode next id start end over (le, s, e, o, f) = (le, s, e, over id le o, f)

@@ -13,7 +13,7 @@ use Rattle.vx_model.specs.declared.link.Phase.TheVariants.{Start, Regions as Cop
 use Rattle.vx_model.specs.declared.link.Mode.{Mode}
 use Rattle.vx_model.specs.declared.link.Mode.TheVariants.{Log, Dcm, Replay, Fork, Stale}
 use Rattle.vx_history.specs.World.{Node, Regions, Replays, no_regions}
-use Rattle.vx_history.specs.CopySteps.{IsBeyond, IsOver, IsOverPhase, closed_at, entered, with_blocks, with_part}
+use Rattle.vx_history.specs.CopySteps.{IsBeyond, IsReplayOver, IsOverPhase, closed_at, entered, with_blocks, with_part}
 use Rattle.vx_history.specs.Good.{TellsContent}
 use Rattle.vx_history.specs.GoodCopies.{GoodCopy, GoodMode, GoodPhase, GoodReplays, certain_of, is_copying}
 use Rattle.vx_history.specs.Regions.{AtSome, Fuzzy, IsMapped, joined_maps, marks_of_all}
@@ -230,7 +230,7 @@ module _ (held : List Write) (t : Replays) (n : Node) (start end : ℕ) (table :
   phase_closed map stored Done id left from to over (is, le, same, e, f) = (is, le, same, inr refl, λ i. absurd (cc))
   phase_closed map stored ByLogAgain id left from to over (is, le, same, e) = absurd (let f : Copies ≡ Fills = sym c ∙ e in cc)
 
-  pub mode_closed : (map : Regions) (stored : ℕ) (mode : Mode) → IsOver mode n.replay → GoodMode held t n map stored mode → GoodMode held t z map stored mode
+  pub mode_closed : (map : Regions) (stored : ℕ) (mode : Mode) → IsReplayOver mode n.replay → GoodMode held t n map stored mode → GoodMode held t z map stored mode
   mode_closed map stored Log over (m, takes, latest) = absurd (let f : Consistent ≡ Inconsistent = sym m ∙ (copy.copying c).0 in cc)
   mode_closed map stored Dcm over good = subst (λ k. IsMapped held k n.base n.start map) (sym certain_closed) good
   mode_closed map stored (Replay id phase left from to) over good = phase_closed map stored phase id left from to over good

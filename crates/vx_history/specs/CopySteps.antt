@@ -92,12 +92,12 @@ IsOverPhase CopiesRegions at id = id < at
 IsOverPhase Done at id = Unit {0}
 IsOverPhase ByLogAgain at id = Unit {0}
 
-abbrev pub IsOver : Mode → (id : ℕ) → Type 0
-IsOver Log id = Unit {0}
-IsOver Dcm id = Unit {0}
-IsOver (Replay at phase left start end) id = IsOverPhase phase at id
-IsOver (Fork maps) id = Unit {0}
-IsOver Stale id = Unit {0}
+abbrev pub IsReplayOver : Mode → (id : ℕ) → Type 0
+IsReplayOver Log id = Unit {0}
+IsReplayOver Dcm id = Unit {0}
+IsReplayOver (Replay at phase left start end) id = IsOverPhase phase at id
+IsReplayOver (Fork maps) id = Unit {0}
+IsReplayOver Stale id = Unit {0}
 
 -- ## Messages of a replay
 
@@ -113,7 +113,7 @@ SaysRegion held line_start t id volume region blocks = (id ≤ t.begun) × Regio
 -- at a moment of the replay.
 abbrev pub SaysCopied : (held : List Write) → Replays → Node → Mode → (id start end : ℕ) → Type 0
 SaysCopied held t b mode id start end =
-    (id ≤ b.replay) × (start ≡ t.start id) × (end ≡ t.read id) × IsOver mode id
+    (id ≤ b.replay) × (start ≡ t.start id) × (end ≡ t.read id) × IsReplayOver mode id
     × (b.phase ≡ Copies → b.replay ≡ id → Fuzzy b.base b.start held (t.start id) (t.read id) no_regions)
 
 -- What an acknowledgement of each kind says of the site that sent it, while that site stands in that replay: it copies or fills; and the region

@@ -5,7 +5,7 @@ use Rattle.vx_history.specs.Events.{crash_at, kept_of}
 use Rattle.vx_history.specs.Steps.{stopped_by}
 use Rattle.vx_history.specs.Step.{step}
 use Rattle.vx_history.specs.declared.event.Event.{Event}
-use Rattle.vx_history.specs.declared.event.Event.TheVariants.{Site, Raw, Group, Write, Read, Apply, Pump, Tick, Deliver, Connect, Cut, Pause, Resume, Wait, Link as LinkSites, Set, Attach, Detach, Crash, Deport, Recover, Fault}
+use Rattle.vx_history.specs.declared.event.Event.TheVariants.{Site, Raw, Group, Volumes, Write, Read, Apply, Pump, Tick, Deliver, Connect, Cut, Pause, Resume, Wait, Link as LinkSites, Set, Attach, Detach, Crash, Deport, Fall, Recover, Fault}
 
 -- a site and its links as they would be, had the event that failed been done
 pub record After : Type 0 where
@@ -48,6 +48,7 @@ abbrev pub crashed_by : Event → Option ℕ
 crashed_by (Site name disks blocks) = None
 crashed_by (Raw p) = None
 crashed_by (Group p) = None
+crashed_by (Volumes p log xs) = None
 crashed_by (Write p volume start bytes fails) = None
 crashed_by (Read p volume start count) = None
 crashed_by (Apply p count reached) = None
@@ -65,6 +66,7 @@ crashed_by (Attach p q) = None
 crashed_by (Detach p q) = None
 crashed_by (Crash p kept) = Some p
 crashed_by (Deport p) = None
+crashed_by (Fall p) = None
 crashed_by (Recover p fails) = None
 crashed_by (Fault p disk) = None
 

@@ -3,7 +3,7 @@ use Rattle.std.specs.Prelude.{ℕ, zero, suc, ◌+◌, min, max, Bool, true, fal
 use Rattle.vx_model.specs.Content.{Write, fold_writes, blocks_in}
 use Rattle.vx_history.specs.World.{Node, Link, Message, Packet, Promise, World, Hello, Update, NetAck, DataAck, Durable, InSession, no_regions, with_node}
 use Rattle.vx_model.specs.Sites.{is_origin, same_line}
-use Rattle.vx_history.specs.Steps.{crashed, crash_left, deported_world, group_back, group_made, recovered, session_begun, written, half_written}
+use Rattle.vx_history.specs.Steps.{crashed, crash_left, deported_world, fallen_world, group_back, group_made, recovered, session_begun, written, half_written}
 use Rattle.vx_history.specs.Admission.{is_fail, hold, change, changed_mode, admit, Admitted, Held_by, Goes}
 use Rattle.vx_history.specs.ChangeMaps.{map_after, map_changed}
 use Rattle.vx_history.specs.Sending.{Sent, sent_step}
@@ -329,6 +329,13 @@ recover_from Bare w s fails = refused w NoConfig
 recover_from Up w s fails = refused w WrongRole
 recover_from Deported w s fails = unless_at_most (w.nodes s).session w (recovery w s fails)
 recover_from Down w s fails = unless_at_most (w.nodes s).session w (recovery w s fails)
+
+-- a deported site is down
+abbrev pub fall_from : SiteState → World → ℕ → Outcome
+fall_from Bare w s = refused w WrongRole
+fall_from Up w s = refused w WrongRole
+fall_from Deported w s = says (fallen_world w s) Done
+fall_from Down w s = refused w WrongRole
 
 -- ## Groups of disks
 

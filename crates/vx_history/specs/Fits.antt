@@ -33,6 +33,10 @@ pub record IsAlike (origin n : Node) : Type 0 where
   pub volumes : agree origin.volumes n.volumes ≡ true
   pub rings : rings_fit origin n ≡ true
 
+-- the site that began the line has volumes, or it is this one
+abbrev pub LeadsAlone : Node → ℕ → Node → Type 0
+LeadsAlone origin i n = origin.volumes ≡ [] → n.line.origin ≡ i
+
 -- Fact 12. Each write fits the site in whose log it stands, and each that a line holds fits the site that began the line. So what a
 -- receiver takes fits it, as it is of the sizes of that site.
 pub record Fitting (w : World) : Type 0 where
@@ -40,3 +44,5 @@ pub record Fitting (w : World) : Type 0 where
   pub logs : (i : ℕ) → AllByRecursion (WriteFits (w.nodes i)) (w.nodes i).log
   pub held : (l : Line) → AllByRecursion (WriteFits (w.nodes l.origin)) (w.lines l).held
   pub alike : (i : ℕ) → IsMade (w.nodes i) → IsAlike (w.nodes (w.nodes i).line.origin) (w.nodes i)
+  -- Fact 21: no other site stands on a line of a site without volumes, so that such a site may get some
+  pub alone : (i : ℕ) → IsMade (w.nodes i) → LeadsAlone (w.nodes (w.nodes i).line.origin) i (w.nodes i)

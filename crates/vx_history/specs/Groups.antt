@@ -33,10 +33,12 @@ pub record GroupNode : Type 0 where
   pub cut : Option Write
   -- the regions that plexes missed
   pub maps : MissedNote
+  -- the volumes of the replicated volume group, of whose blocks nothing is noted here
+  pub inside : ℕ → Bool
 
--- a value that a block of a volume may have: the one that is noted, or one of the further ones
+-- a value that a block of a volume may have: any where nothing is noted of it, and else the one that is noted, or one of the further ones
 abbrev pub BlockMay : GroupNode → ℕ → ℕ → List ℕ → Type 0
-BlockMay note v b x = (x ≡ note.bytes.block v b) ⊎ Contains (note.others v b) x
+BlockMay note v b x = (note.inside v ≡ true) ⊎ (x ≡ note.bytes.block v b) ⊎ Contains (note.others v b) x
 
 -- the note behind a write that was done: each of its blocks has one value
 abbrev pub note_write : Write → GroupNode → GroupNode
@@ -57,6 +59,7 @@ pub record NoteSame (old new : GroupNode) : Type 0 where
   pub others : new.others ≡ old.others
   pub cut : new.cut ≡ old.cut
   pub maps : new.maps ≡ old.maps
+  pub inside : new.inside ≡ old.inside
 
 -- Behind a call in which no commit was refused: nothing is begun, or what was, and perhaps configurations of the call. Where imports agreed and nothing was
 -- begun so it is still.
@@ -71,3 +74,10 @@ pub record NoteUnsettles (twice : Bool) (old new : GroupNode) : Type 0 where
   pub same : NoteSame old new
   pub begun : ((new.begun ≡ []) × (new.loose ≡ false)) ⊎ ((nexts : List (List ℕ)) × (new.begun ≡ nexts ++ old.begun) × (old.loose ≡ true → new.loose ≡ true))
   pub tight : twice ≡ false → old.loose ≡ false → old.begun ≡ [] → new.loose ≡ false
+
+-- Behind any calls, one after another: these configurations are begun, the last first; and what was begun before them too, unless a commit was done since.
+pub record NoteWorks (old new : GroupNode) : Type 0 where
+  pub same : NoteSame old new
+  pub firsts : List (List ℕ)
+  pub begun : (new.begun ≡ firsts) ⊎ ((new.begun ≡ firsts ++ old.begun) × (old.loose ≡ true → new.loose ≡ true))
+  pub tight : old.loose ≡ false → old.begun ≡ [] → firsts ≡ [] → new.loose ≡ false

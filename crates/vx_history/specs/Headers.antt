@@ -9,7 +9,7 @@ use Rattle.vx_history.specs.declared.event.Said.TheVariants.{Done, DoneAt, Logge
 use Rattle.vx_history.specs.declared.event.LinkPart.{LinkPart}
 use Rattle.vx_history.specs.declared.event.LinkPart.TheVariants.{Joins, Made, Marked, Opened}
 use Rattle.vx_history.specs.declared.event.Event.{Event}
-use Rattle.vx_history.specs.declared.event.Event.TheVariants.{Site, Raw, Group, Write, Read, Apply, Pump, Tick, Deliver, Connect, Cut, Pause, Resume, Wait, Link, Set, Attach, Detach, Crash, Deport, Recover, Fault}
+use Rattle.vx_history.specs.declared.event.Event.TheVariants.{Site, Raw, Group, Volumes, Write, Read, Apply, Pump, Tick, Deliver, Connect, Cut, Pause, Resume, Wait, Link, Set, Attach, Detach, Crash, Deport, Fall, Recover, Fault}
 
 abbrev pub is_refused : Said → Bool
 is_refused Done = false
@@ -53,6 +53,7 @@ abbrev pub headers_by : Event → World → Outcome → (i : ℕ) → ℕ
 headers_by (Site name disks blocks) w o i = 0
 headers_by (Raw s) w o i = 0
 headers_by (Group s) w o i = 0
+headers_by (Volumes s log xs) w o i = 0
 headers_by (Write p volume start bytes fails) w o i =
     count_at p i (how_many_below w.sites (λ k. is_given_up (w.links p k) (o.world.links p k)))
 headers_by (Read p volume start count) w o i = 0
@@ -71,5 +72,6 @@ headers_by (Attach p s) w o i = one_at p i o.said
 headers_by (Detach p s) w o i = one_at p i o.said
 headers_by (Crash s kept) w o i = 0
 headers_by (Deport s) w o i = 0
+headers_by (Fall s) w o i = 0
 headers_by (Recover s fails) w o i = 0
 headers_by (Fault s disk) w o i = 0

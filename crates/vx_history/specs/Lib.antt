@@ -1,6 +1,7 @@
 pub mod Admission
 pub mod ChangeMaps
 pub mod CopySteps
+pub mod DataLists
 pub mod Doubts
 pub mod Events
 pub mod Fits
@@ -15,6 +16,7 @@ pub mod KeptLinks
 pub mod Likes
 pub mod LinkForms
 pub mod Listed
+pub mod Looks
 pub mod MapChanges
 pub mod Missing
 pub mod Receiving
@@ -27,4 +29,5 @@ pub mod Sound
 pub mod Step
 pub mod Steps
 pub mod Stops
+pub mod Volumes
 pub mod World

@@ -157,6 +157,10 @@ agree [] (y ∷ ys) = false
 agree (x ∷ xs) [] = false
 agree (x ∷ xs) (y ∷ ys) = eqb x.blocks y.blocks && agree xs ys
 
+-- there are some, and the others are as many and of the same sizes
+abbrev pub sizes_meet : List Volume → List Volume → Bool
+sizes_meet xs ys = not (eqb (length xs) 0) && agree xs ys
+
 -- the site has nothing logged and no links
 abbrev pub is_fresh : World → ℕ → Bool
 is_fresh w s = is_primary (w.nodes s).role && (is_empty (w.nodes s).log && not (some_below w.sites (λ k. is_linked (w.links s k))))
@@ -183,7 +187,7 @@ may_join w p s o =
     unless (not (may_link w p s)) WrongRole w
     (unless (is_linked (w.links p s)) (Exists (w.nodes s).name) w
     (unless (leb MOST_LINKS (count_links_of w p)) (Limit Links MOST_LINKS) w
-    (unless (not (agree (w.nodes p).volumes (w.nodes s).volumes && rings_fit (w.nodes p) (w.nodes s))) Size w o)))
+    (unless (not (sizes_meet (w.nodes p).volumes (w.nodes s).volumes && rings_fit (w.nodes p) (w.nodes s))) Size w o)))
 
 -- whether a link waits for the write of this number, or can't be waited for, or is one that writes wait for at all
 abbrev pub waits : SyncMode → Bool

@@ -4,6 +4,7 @@ use Rattle.vx_model.specs.Content.{Write, blocks_in, blocks_from}
 use Rattle.vx_history.specs.World.{World, with_node}
 use Rattle.vx_history.specs.Headers.{headers_by}
 use Rattle.vx_history.specs.Gatherings.{emptied}
+use Rattle.vx_history.specs.Volumes.{volumes_made}
 use Rattle.vx_model.specs.Sites.{is_origin}
 use Rattle.vx_model.specs.Answer.{is_too_large}
 use Rattle.vx_history.specs.Receiving.{phase_takes}
@@ -17,12 +18,12 @@ use Rattle.vx_history.specs.declared.event.Said.TheVariants.{Done, Got, Refused}
 use Rattle.vx_history.specs.declared.event.LinkPart.{LinkPart}
 use Rattle.vx_history.specs.declared.event.LinkPart.TheVariants.{Joins, Made, Marked, Opened}
 use Rattle.vx_history.specs.declared.event.Event.{Event}
-use Rattle.vx_history.specs.declared.event.Event.TheVariants.{Site, Raw, Group, Write as WriteAt, Read, Apply, Pump, Tick, Deliver, Connect, Cut, Pause, Resume, Wait, Link, Set, Attach, Detach, Crash, Deport, Recover, Fault}
+use Rattle.vx_history.specs.declared.event.Event.TheVariants.{Site, Raw, Group, Volumes, Write as WriteAt, Read, Apply, Pump, Tick, Deliver, Connect, Cut, Pause, Resume, Wait, Link, Set, Attach, Detach, Crash, Deport, Fall, Recover, Fault}
 use Rattle.vx_history.specs.Sends.{is_linked, with_link, sending}
 use Rattle.vx_history.specs.Refusals.{Outcome, says, unless, at_site, at_work, both_at_work, on_link, on_link_if, when_live, on_volume, may_be_site, may_join, is_primary, is_consistent, is_stale_mode, is_empty, follows, count_links_of}
 use Rattle.vx_model.specs.Sizes.{is_raw_shape}
 use Rattle.vx_model.specs.Sites.{is_up, is_bare}
-use Rattle.vx_history.specs.Events.{admitted, written_if, apply_at, reached_at, link_event, ticked_at, greeting_back, delivered, packet_at, waited, kept_of, crash_at, deport_at, group_from, recover_from, joined, new_link, opened, link_with, link_attached, link_detached}
+use Rattle.vx_history.specs.Events.{admitted, written_if, apply_at, reached_at, link_event, ticked_at, greeting_back, delivered, packet_at, waited, kept_of, crash_at, deport_at, fall_from, group_from, is_plain_group, recover_from, joined, new_link, opened, link_with, link_attached, link_detached}
 
 abbrev pub done : World → Outcome
 done w = says w Done
@@ -62,6 +63,7 @@ outcome_of w (Raw s) =
     (unless (not (is_bare (w.nodes s).state)) WrongRole w
     (unless (not (is_raw_shape (w.nodes s).disks (w.nodes s).blocks)) Size w (done (raw_made w s))))
 outcome_of w (Group s) = at_site w s (group_from (w.nodes s).state w s)
+outcome_of w (Volumes s log xs) = at_site w s (at_work w s (unless (not (is_plain_group (w.nodes s))) WrongRole w (done (volumes_made w s log xs))))
 outcome_of w (WriteAt p volume start bytes fails) = write_at w p (record { volume = volume; start = start; bytes = bytes }) fails
 outcome_of w (Read p volume start count) = read_at w p volume start count
 outcome_of w (Apply s count reached) =
@@ -80,6 +82,7 @@ outcome_of w (Attach p s) = on_link_if is_origin w p s (done (with_link w p s (l
 outcome_of w (Detach p s) = on_link_if is_origin w p s (done (with_link w p s (link_detached (w.links p s))))
 outcome_of w (Crash s kept) = at_site w s (unless (not (is_up (w.nodes s).state)) NotUp w (done (crash_at w s (kept_of (w.nodes s) kept))))
 outcome_of w (Deport s) = at_site w s (at_work w s (done (deport_at w s)))
+outcome_of w (Fall s) = at_site w s (fall_from (w.nodes s).state w s)
 outcome_of w (Recover s fails) = at_site w s (recover_from (w.nodes s).state w s fails)
 outcome_of w (Fault s disk) = at_site w s (unless (not (is_up (w.nodes s).state)) NotUp w (says (stopped_by w s disk) (Refused (Device disk))))
 

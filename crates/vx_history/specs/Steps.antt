@@ -127,6 +127,13 @@ deported_site fuse n = record n { state = Deported; fuse = fuse }
 abbrev pub deported_world : Fuse → World → ℕ → World
 deported_world fuse w s = with_node w s (deported_site fuse (w.nodes s))
 
+-- a site that gave its disks up, whose fuse ran out as it was brought up; who fed it is forgotten
+abbrev pub fallen_site : Node → Node
+fallen_site n = record n { state = Down; fed_by = n.other; fuse = NoFuse }
+
+abbrev pub fallen_world : World → ℕ → World
+fallen_world w s = with_node w s (fallen_site (w.nodes s))
+
 -- a site with a write that was begun
 abbrev pub half_begun : Node → Write → Node
 half_begun n x = record n { log = n.log ++ x ∷ [] }

@@ -14,7 +14,7 @@ use Rattle.vx_history.specs.declared.sender.SEvent.TheVariants.{Hello as HearHel
 use Rattle.vx_history.specs.declared.event.LinkPart.{LinkPart}
 use Rattle.vx_history.specs.declared.event.LinkPart.TheVariants.{Joins, Made, Marked, Opened}
 use Rattle.vx_history.specs.declared.event.Event.{Event}
-use Rattle.vx_history.specs.declared.event.Event.TheVariants.{Site, Raw, Group, Write, Read, Apply, Pump, Tick, Deliver, Connect, Cut, Pause, Resume, Wait, Link, Set, Attach, Detach, Crash, Deport, Recover, Fault}
+use Rattle.vx_history.specs.declared.event.Event.TheVariants.{Site, Raw, Group, Volumes, Write, Read, Apply, Pump, Tick, Deliver, Connect, Cut, Pause, Resume, Wait, Link, Set, Attach, Detach, Crash, Deport, Fall, Recover, Fault}
 use Rattle.vx_history.specs.Likes.{IsLike}
 use Rattle.vx_history.specs.Doubts.{Doubted, Runs, halved, crashed_as}
 
@@ -38,6 +38,7 @@ abbrev pub told_fails : Event → List (ℕ × ℕ)
 told_fails (Site name disks blocks) = []
 told_fails (Raw p) = []
 told_fails (Group p) = []
+told_fails (Volumes p log xs) = []
 told_fails (Write p volume start bytes fails) = of_disk p fails
 told_fails (Read p volume start count) = []
 told_fails (Apply p count reached) = []
@@ -55,6 +56,7 @@ told_fails (Attach p q) = []
 told_fails (Detach p q) = []
 told_fails (Crash p kept) = []
 told_fails (Deport p) = []
+told_fails (Fall p) = []
 told_fails (Recover p fails) = of_disk p fails
 told_fails (Fault p disk) = (p, disk) ∷ []
 
@@ -95,6 +97,7 @@ abbrev pub WritesAt : World → Event → (site : ℕ) → Type 0
 WritesAt w (Site name disks blocks) site = ⊥
 WritesAt w (Raw p) site = ⊥
 WritesAt w (Group p) site = ⊥
+WritesAt w (Volumes p log xs) site = ⊥
 WritesAt w (Write p volume start bytes None) site = ⊥
 WritesAt w (Write p volume start bytes (Some disk)) site = p ≡ site
 WritesAt w (Read p volume start count) site = ⊥
@@ -113,6 +116,7 @@ WritesAt w (Attach p q) site = p ≡ site
 WritesAt w (Detach p q) site = p ≡ site
 WritesAt w (Crash p kept) site = ⊥
 WritesAt w (Deport p) site = ⊥
+WritesAt w (Fall p) site = ⊥
 WritesAt w (Recover p fails) site = ⊥
 WritesAt w (Fault p disk) site = p ≡ site
 

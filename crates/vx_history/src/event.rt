@@ -1,4 +1,5 @@
 // What can happen to a world, and what is then said.
+use crate::DataVolumes;
 use vx_model::{Blocks, Name, No, Prot, SyncMode};
 
 /// Which of the events of a `link` line: they follow one another, and each is durable before the next.
@@ -31,6 +32,13 @@ pub enum Event {
     /// volumes and no log, comes up again in the session that it had.
     Group {
         site: u32,
+    },
+    /// A group of disks without a replicated volume group gets one, in the session in which it is, and on the line on which it stands. Its
+    /// log is empty, and lies in a volume of so many blocks; its data volumes hold what the group noted of them.
+    Volumes {
+        site: u32,
+        log: u64,
+        volumes: DataVolumes,
     },
     /// A write to a volume of a primary. `fails` is the disk that failed in it: it is then not known whether the write stands.
     Write {
@@ -120,6 +128,10 @@ pub enum Event {
     },
     /// The site gives its disks up, and keeps what a crash keeps for certain. The fuse of its disks stays set.
     Deport {
+        site: u32,
+    },
+    /// A deported site is down: the fuse of its disks ran out as it was brought up.
+    Fall {
         site: u32,
     },
     /// A site that is down or deported comes up in its next session. `fails` is the disk that failed after that session had begun:

@@ -10,9 +10,11 @@ mod receiver;
 pub mod replay_laws;
 mod sender;
 mod states;
+mod volumes;
 
 pub use admission::{Change, FullLog};
 pub use event::{Event, LinkPart, Said};
 pub use receiver::{RAction, REvent, RState};
 pub use sender::{Action, SEvent, SFacts};
 pub use states::{has_links, is_held, is_in_log, is_live, is_waited_for, takes_updates};
+pub use volumes::{DataVolume, DataVolumes};

@@ -6,7 +6,7 @@ ghost use Rattle.vx_model.specs.declared.link.Mode.{Mode};
 ghost use Rattle.vx_model.specs.declared.link.Mode.TheVariants.{Log, Replay};
 ghost use Rattle.vx_model.specs.declared.link.Phase.TheVariants.{Start, Regions as CopiesRegions, Done, Log as ByLogAgain};
 ghost use Rattle.vx_model.specs.declared.site.SPhase.TheVariants.{Regions as Copies, Log as Fills};
-ghost use Rattle.vx_history.specs.CopySteps.{FitsVolumes, IsBeyond, IsOver, IsWholeBlocks, NoRegionLeft, RegionFuzzy, SaysCopied, SaysRegion, SaysStart, SaysStored, begun_table, closed_at, copying_on, entered, is_in_region, read_table, whole_map, with_part, without_region};
+ghost use Rattle.vx_history.specs.CopySteps.{FitsVolumes, IsBeyond, IsReplayOver, IsWholeBlocks, NoRegionLeft, RegionFuzzy, SaysCopied, SaysRegion, SaysStart, SaysStored, begun_table, closed_at, copying_on, entered, is_in_region, read_table, whole_map, with_part, without_region};
 ghost use Rattle.vx_history.specs.Good.{TellsContent};
 ghost use Rattle.vx_history.specs.GoodCopies.{GoodCopy, GoodMode, GoodPhase, GoodReplays, certain_of};
 ghost use Rattle.vx_history.specs.Regions.{AtSome, Fuzzy, IsMapped};
@@ -66,7 +66,7 @@ pub fn replays_are_closed()
     ensures start { (held : List Write) (t : Replays) (n : Node) (start end : ℕ) → GoodReplays held t → n.safe ≤ length n.log → GoodCopy held t n → n.phase ≡ Copies → start ≡ t.start n.replay → end ≡ t.read n.replay
         → Fuzzy n.base n.start held (t.start n.replay) (t.read n.replay) no_regions → HasStored (closed_at held n start end) (t.start n.replay) }
     ensures mode { (held : List Write) (t : Replays) (n : Node) (start end : ℕ) → GoodReplays held t → n.safe ≤ length n.log → GoodCopy held t n → n.phase ≡ Copies → start ≡ t.start n.replay → end ≡ t.read n.replay
-        → Fuzzy n.base n.start held (t.start n.replay) (t.read n.replay) no_regions → (map : Regions) (stored : ℕ) (mode : Mode) → IsOver mode n.replay → GoodMode held t n map stored mode
+        → Fuzzy n.base n.start held (t.start n.replay) (t.read n.replay) no_regions → (map : Regions) (stored : ℕ) (mode : Mode) → IsReplayOver mode n.replay → GoodMode held t n map stored mode
         → GoodMode held t (closed_at held n start end) map stored mode }
 {}
 
@@ -106,7 +106,7 @@ pub fn replays_say_so()
         → SaysStored held (read_table t head) n id volume region kind }
     ensures copied_entered { (held : List Write) (t : Replays) (n : Node) (id : ℕ) → n.replay < id → (mode : Mode) (i start end : ℕ) → SaysCopied held t n mode i start end → SaysCopied held t (entered n id) mode i start end }
     ensures stored_entered { (held : List Write) (t : Replays) (n : Node) (id : ℕ) → n.replay < id → (i volume region kind : ℕ) → SaysStored held t n i volume region kind → SaysStored held t (entered n id) i volume region kind }
-    ensures over { (held : List Write) (t : Replays) (n : Node) (mode next : Mode) (id start end : ℕ) → ((i : ℕ) → i ≤ n.replay → IsOver mode i → IsOver next i) → SaysCopied held t n mode id start end
+    ensures over { (held : List Write) (t : Replays) (n : Node) (mode next : Mode) (id start end : ℕ) → ((i : ℕ) → i ≤ n.replay → IsReplayOver mode i → IsReplayOver next i) → SaysCopied held t n mode id start end
         → SaysCopied held t n next id start end }
 {}
 

@@ -1,6 +1,6 @@
 -- A change of the line over the disks of a site, and the crash behind one that the fuse cut.
-use Rattle.std.proofs.Common.{◌≡◌, ◌≤◌, ◌∙◌, ℕ, true, false, List, [], ap, sym, subst, refl, arith, IsTrue}
-use Rattle.std.specs.Prelude.{Err}
+use Rattle.std.proofs.Common.{◌≡◌, ◌≤◌, ◌∙◌, ◌+◌, ℕ, true, false, List, [], ap, sym, subst, refl, arith, IsTrue}
+use Rattle.std.specs.Prelude.{Err, None}
 use Rattle.vx_model.specs.declared.call.Update.{Update}
 use Rattle.vx_model.specs.declared.no.No.{No}
 use Rattle.vx_model.specs.declared.no.No.TheVariants.{Device, Limit, Down as IsOff}
@@ -17,31 +17,38 @@ use Rattle.vx_diskset.specs.Asked.{HeadUnder, LeavesFuse, disks_told, size_in}
 use Rattle.vx_diskset.specs.Burning.{Burnt, NoMore}
 use Rattle.vx_diskset.specs.DiskSets.{CrashedAt, Later, halted_at}
 use Rattle.vx_diskset.specs.Holds.{KeptBeside}
-use Rattle.vx_diskset.specs.Stands.{CutAt, IsReceiverAt, SiteStands}
+use Rattle.vx_diskset.specs.Stands.{CutAt, IsReceiverAt, SiteStands, IsUngrouped}
 use Rattle.vx_diskset.specs.declared.disk_set.DiskSet.{DiskSet}
-use Rattle.vx_diskset.specs.declared.disk_set.DiskSet.TheVariants.{Bare, Spoiled, Up, Receives, Down, OfGroup, Gone}
-use Rattle.vx_diskset.proofs.GroupStands.{apart_bare}
+use Rattle.vx_diskset.specs.declared.disk_set.DiskSet.TheVariants.{Bare, Spoiled, Up, Receives, Down, OfGroup, Over, Gone}
+use Rattle.vx_diskset.proofs.GroupStands.{apart_bare, none_apart}
 use Rattle.vx_joins.specs.Joins.{CanJoin, JoinedAs, JoinedAt, joins_in_doubt}
+use Rattle.vx_diskset.proofs.RawSets.{raw_doubted}
+use Rattle.vx_history.specs.Events.{joined}
 
 module _ {R : Type 0} {g : Ghosts R} where
   -- the group with the room for updates
-  pub receives_group : {beside : KeptBeside} (n : Node) (s : Secondary R g) (v : Rvg R g) → s.rvg ≡ v → s.waiting ≡ [] → IsReceiverAt beside n v.core [] (g.meaning v.shelf) → SiteStands beside n (Receives s)
-  receives_group {beside} n s v same none stands =
-      subst (λ (us : List Update). IsReceiverAt beside n s.rvg.core us (g.meaning s.rvg.shelf)) (sym none)
-      (subst (λ (k : Rvg R g). IsReceiverAt beside n k.core [] (g.meaning k.shelf)) (sym same) stands)
+  pub receives_group : {beside : KeptBeside} (n : Node) (s : Secondary R g) (v : Rvg R g) → s.rvg ≡ v → s.waiting ≡ [] → IsUngrouped beside n → IsReceiverAt beside n v.core [] (g.meaning v.shelf) → SiteStands beside n (Receives s)
+  receives_group {beside} n s v same none raw stands = (
+    raw,
+    subst (λ (us : List Update). IsReceiverAt beside n s.rvg.core us (g.meaning s.rvg.shelf)) (sym none)
+        (subst (λ (k : Rvg R g). IsReceiverAt beside n k.core [] (g.meaning k.shelf)) (sym same) stands),
+  )
+
+  raw_joining : (beside : KeptBeside) (a : Node) (p : ℕ) (n : Node) (disk : ℕ) → n.group ≡ None → IsUngrouped (joins_in_doubt beside a p n disk) (halted_at n disk)
+  raw_joining beside a p n disk none = (none, raw_doubted (record { node = halted_at (joined a p n) disk; links = beside.links; headers = beside.headers + 1 }) n none refl)
 
   -- the fuse ran out, and the site crashed
-  pub joined_off : (beside : KeptBeside) (a : Node) (p : ℕ) (n : Node) (old mid : Rvg R g) (new : DiskSet R g) (why : No) → is_off why ≡ true → JoinedAs beside a p n (g.meaning old.shelf) mid.core (g.meaning mid.shelf) (Err why)
+  pub joined_off : (beside : KeptBeside) (a : Node) (p : ℕ) (n : Node) (old mid : Rvg R g) (new : DiskSet R g) (why : No) → IsUngrouped beside n → is_off why ≡ true → JoinedAs beside a p n (g.meaning old.shelf) mid.core (g.meaning mid.shelf) (Err why)
       → (CutAt (joins_in_doubt beside a p n 0) (halted_at n 0) (Up mid) → CrashedAt (joins_in_doubt beside a p n 0) (halted_at n 0) new) → JoinedAt beside a p n (Up old) new (Err why)
-  joined_off beside a p n old mid new IsOff off is falls = (is.0, falls is.1)
-  joined_off beside a p n old mid new other off is falls = absurd (cc)
+  joined_off beside a p n old mid new IsOff raw off is falls = (is.0, falls (raw_joining beside a p n 0 raw.0, is.1))
+  joined_off beside a p n old mid new other raw off is falls = absurd (cc)
 
-  pub joined_on : (beside : KeptBeside) (a : Node) (p : ℕ) (n : Node) (old mid : Rvg R g) (why : No) → is_off why ≡ false → JoinedAs beside a p n (g.meaning old.shelf) mid.core (g.meaning mid.shelf) (Err why)
+  pub joined_on : (beside : KeptBeside) (a : Node) (p : ℕ) (n : Node) (old mid : Rvg R g) (why : No) → IsUngrouped beside n → is_off why ≡ false → JoinedAs beside a p n (g.meaning old.shelf) mid.core (g.meaning mid.shelf) (Err why)
       → JoinedAt beside a p n (Up old) (Up mid) (Err why)
-  joined_on beside a p n old mid IsOff on is = absurd (cc)
-  joined_on beside a p n old mid (Device disk) on is = is
-  joined_on beside a p n old mid (Limit what most) on is = is
-  joined_on beside a p n old mid other on is = is
+  joined_on beside a p n old mid IsOff raw on is = absurd (cc)
+  joined_on beside a p n old mid (Device disk) raw on is = ((raw_joining beside a p n disk raw.0, is.0), is.1, is.2)
+  joined_on beside a p n old mid (Limit what most) raw on is = (is.0, is.1, (raw, is.2))
+  joined_on beside a p n old mid other raw on is = is
 
   -- with the room for updates the calls are the same
   pub called_group : (said : Said) (old mid : Rvg R g) (s : Secondary R g) → s.rvg ≡ mid → LeavesFuse NoMore said (Up old) (Up mid) → LeavesFuse NoMore said (Up old) (Receives s)
@@ -69,7 +76,8 @@ module _ {R : Type 0} {g : Ghosts R} where
   never_joins n (Bare rack) other stands can = let e : IsBare ≡ IsUp = sym (ap (λ (x : Node). x.state) stands.bare.is) ∙ can.up in cc
   never_joins n (Spoiled rack) other stands can = let e : IsBare ≡ IsUp = sym (ap (λ (x : Node). x.state) stands.is) ∙ can.up in cc
   never_joins n (Up rvg) other stands can = other rvg refl
-  never_joins n (Receives s) other stands can = let e : true ≡ false = sym can.origin ∙ stands.role in cc
+  never_joins n (Receives s) other stands can = let e : true ≡ false = sym can.origin ∙ stands.1.role in cc
   never_joins n (Down rack) other stands can = let e : IsDown ≡ IsUp = sym stands.state ∙ can.up in cc
-  never_joins {beside} n (OfGroup s) other stands can = let e : IsBare ≡ IsUp = sym (apart_bare beside n s stands can.apart) ∙ can.up in cc
+  never_joins {beside} n (OfGroup s) other stands can = let e : IsBare ≡ IsUp = sym (apart_bare beside n s stands (none_apart n can.apart)) ∙ can.up in cc
+  never_joins n (Over s) other stands can = stands.0.0 can.apart
   never_joins n Gone other stands can = stands

@@ -39,12 +39,13 @@ use Rattle.vx_diskset.specs.Holds.{KeptBeside, HasWrites, most_with, state_with}
 use Rattle.vx_diskset.specs.Lasts.{FoundWith, StandsHolding}
 use Rattle.vx_diskset.specs.Layouts.{units_of}
 use Rattle.vx_diskset.specs.Needs.{TakesAs}
-use Rattle.vx_diskset.specs.Stands.{IsReceiverAt, RoleIs, SiteStands}
+use Rattle.vx_diskset.specs.Stands.{IsReceiverAt, RoleIs, SiteStands, IsUngrouped}
 use Rattle.vx_diskset.specs.declared.disk_set.DiskSet.{DiskSet}
-use Rattle.vx_diskset.specs.declared.disk_set.DiskSet.TheVariants.{Bare, Spoiled, Up, Receives, Down, OfGroup, Gone}
+use Rattle.vx_diskset.specs.declared.disk_set.DiskSet.TheVariants.{Bare, Spoiled, Up, Receives, Down, OfGroup, Over, Gone}
 use Rattle.vx_diskset.proofs.GroupStands.{off_or_origin}
+use Rattle.vx_diskset.proofs.OverSets.{over_deaf}
 use Rattle.vx_diskset.proofs.BesideLemmas.{site_sure}
-use Rattle.vx_joins.specs.Deliveries.{DeliveredTo}
+use Rattle.vx_joins.specs.Deliveries.{DeliveredTo, TakesRaw}
 
 -- ---- a receiver as its rule sees it
 
@@ -233,27 +234,28 @@ module _ (w : World) (number : ℕ) (p : Packet) (k : ℕ) (x : Write) (at : pac
         (record { says = refl; stands = stands; fed_by = fed_by; assembly = assembly; flight = flight })
 
     -- disks that receive nothing
-    pub never_heard : (e : DiskSet R g) (fed : ℕ) (a : Assembled) (f : Flying) → ((s : Secondary R g) → e ≡ Receives s → ⊥) → RoleIs there e
+    pub never_heard : (e : DiskSet R g) (fed : ℕ) (a : Assembled) (f : Flying) → ((s : Secondary R g) → e ≡ Receives s → ⊥) → RoleIs there e → TakesRaw e
         → SiteStands beside there e → fed ≡ there.fed_by → AssemblyStands w.packets p.target (w.gathering p.target) a → FlightStands w.packets f → DeliveredTo behind beside p.target e fed a f IsIgnored
-    never_heard (Bare rack) fed a f other role stands = ignored_to (Bare rack) fed a f (inl (inl (ap (λ (n : Node). is_up n.state) stands.bare.is))) stands
-    never_heard (Spoiled rack) fed a f other role stands = ignored_to (Spoiled rack) fed a f (inl (inl (ap (λ (n : Node). is_up n.state) stands.is))) stands
-    never_heard (Up rvg) fed a f other role stands = ignored_to (Up rvg) fed a f (inr role) stands
-    never_heard (Receives s) fed a f other role stands = absurd (other s refl)
-    never_heard (Down rack) fed a f other role stands = ignored_to (Down rack) fed a f (inl (inl (ap is_up stands.state))) stands
-    never_heard (OfGroup s) fed a f other role stands = ignored_to (OfGroup s) fed a f (⊎_elim (λ off. inl (inl off)) (λ origin. inr origin) (off_or_origin beside there s stands)) stands
-    never_heard Gone fed a f other role stands = absurd stands
+    never_heard (Bare rack) fed a f other role raw stands = ignored_to (Bare rack) fed a f (inl (inl (ap (λ (n : Node). is_up n.state) stands.bare.is))) stands
+    never_heard (Spoiled rack) fed a f other role raw stands = ignored_to (Spoiled rack) fed a f (inl (inl (ap (λ (n : Node). is_up n.state) stands.is))) stands
+    never_heard (Up rvg) fed a f other role raw stands = ignored_to (Up rvg) fed a f (inr role) stands
+    never_heard (Receives s) fed a f other role raw stands = absurd (other s refl)
+    never_heard (Down rack) fed a f other role raw stands = ignored_to (Down rack) fed a f (inl (inl (ap is_up stands.state))) stands
+    never_heard (OfGroup s) fed a f other role raw stands = ignored_to (OfGroup s) fed a f (⊎_elim (λ off. inl (inl off)) (λ origin. inr origin) (off_or_origin beside there s stands)) stands
+    never_heard (Over s) fed a f other role raw stands = ignored_to (Over s) fed a f (⊎_elim (λ off. inl (inl off)) (λ origin. inr origin) (over_deaf beside there s.site raw role stands.1)) stands
+    never_heard Gone fed a f other role raw stands = absurd stands
 
     -- a receiver that is halted
     pub halted_to : (s : Secondary R g) (disk : ℕ) (fed : ℕ) (a : Assembled) (f : Flying) → Some disk ≡ s.rvg.core.halted → SiteStands beside there (Receives s) → fed ≡ there.fed_by → AssemblyStands w.packets p.target (w.gathering p.target) a
         → FlightStands w.packets f → DeliveredTo behind beside p.target (Receives s) fed a f IsIgnored
-    halted_to s disk fed a f is stands = ignored_to (Receives s) fed a f (inl (inr (halted_off there.halted disk (is ∙ stands.halted)))) stands
+    halted_to s disk fed a f is stands = ignored_to (Receives s) fed a f (inl (inr (halted_off there.halted disk (is ∙ stands.1.halted)))) stands
 
     -- one that runs
     pub taken_to : (old new : Secondary R g) (fed : ℕ) (a : Assembled) (f : Flying) (said : Said) → new.rvg ≡ old.rvg → SiteStands beside there (Receives old) → there.halted ≡ None
         → StandsForOutcome behind p.target new.rvg.core new.waiting fed a f said → DeliveredTo behind beside p.target (Receives new) fed a f said
     taken_to old new fed a f said same r running stood = record {
       says = stood.says;
-      stands = subst (λ (v : Rvg R g). IsReceiverAt beside (behind.world.nodes p.target) v.core new.waiting (g.meaning v.shelf)) (sym same) (⊎_elim still more (node_behind w p x number k at message));
+      stands = (⊎_elim raw_still raw_more (node_behind w p x number k at message), subst (λ (v : Rvg R g). IsReceiverAt beside (behind.world.nodes p.target) v.core new.waiting (g.meaning v.shelf)) (sym same) (⊎_elim still more (node_behind w p x number k at message)));
       fed_by = stood.receiver.fed_by;
       assembly = stood.assembly;
       flight = stood.flight;
@@ -262,13 +264,19 @@ module _ (w : World) (number : ℕ) (p : Packet) (k : ℕ) (x : Write) (at : pac
         m : Meaning
         m = g.meaning old.rvg.shelf
 
+        raw_still : behind.world.nodes p.target ≡ there → IsUngrouped beside (behind.world.nodes p.target)
+        raw_still is = (ap (λ (n : Node). n.group) is ∙ r.0.0, r.0.1)
+
+        raw_more : behind.world.nodes p.target ≡ with_write there p.source x → IsUngrouped beside (behind.world.nodes p.target)
+        raw_more is = (ap (λ (n : Node). n.group) is ∙ r.0.0, r.0.1)
+
         still : behind.world.nodes p.target ≡ there → IsReceiverAt beside (behind.world.nodes p.target) old.rvg.core new.waiting m
         still is = subst (λ (n : Node). IsReceiverAt beside n old.rvg.core new.waiting m) (sym is)
-            (same_receiver there old.rvg.core old.waiting m r running new.waiting (subst (λ (n : Node). writes_of_updates new.waiting ≡ drop n.safe n.log) is stood.receiver.waits))
+            (same_receiver there old.rvg.core old.waiting m r.1 running new.waiting (subst (λ (n : Node). writes_of_updates new.waiting ≡ drop n.safe n.log) is stood.receiver.waits))
 
         more : behind.world.nodes p.target ≡ with_write there p.source x → IsReceiverAt beside (behind.world.nodes p.target) old.rvg.core new.waiting m
         more is = subst (λ (n : Node). IsReceiverAt beside n old.rvg.core new.waiting m) (sym is)
-            (more_receiver there old.rvg.core old.waiting m r running p.source x new.waiting (subst (λ (n : Node). writes_of_updates new.waiting ≡ drop n.safe n.log) is stood.receiver.waits))
+            (more_receiver there old.rvg.core old.waiting m r.1 running p.source x new.waiting (subst (λ (n : Node). writes_of_updates new.waiting ≡ drop n.safe n.log) is stood.receiver.waits))
 
 -- ---- the disks
 
@@ -299,9 +307,11 @@ module _ {R : Type 0} {g : Ghosts R} where
   }
 
   pub same_stands : (old new : Secondary R g) (beside : KeptBeside) (n : Node) → new.rvg ≡ old.rvg → new.waiting ≡ old.waiting → SiteStands beside n (Receives old) → SiteStands beside n (Receives new)
-  same_stands old new beside n same waiting r =
-      subst (λ (us : List Logged). IsReceiverAt beside n new.rvg.core us (g.meaning new.rvg.shelf)) (sym waiting)
-      (subst (λ (v : Rvg R g). IsReceiverAt beside n v.core old.waiting (g.meaning v.shelf)) (sym same) r)
+  same_stands old new beside n same waiting r = (
+    r.0,
+    subst (λ (us : List Logged). IsReceiverAt beside n new.rvg.core us (g.meaning new.rvg.shelf)) (sym waiting)
+        (subst (λ (v : Rvg R g). IsReceiverAt beside n v.core old.waiting (g.meaning v.shelf)) (sym same) r.1),
+  )
 
 -- ---- by what was answered
 

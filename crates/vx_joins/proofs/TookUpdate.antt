@@ -35,9 +35,10 @@ use Rattle.vx_secondary.specs.declared.secondary.Secondary.{Secondary}
 use Rattle.vx_diskset.specs.Holds.{KeptBeside}
 use Rattle.vx_diskset.specs.Stands.{IsReceiverAt, RoleIs, SiteStands}
 use Rattle.vx_diskset.specs.declared.disk_set.DiskSet.{DiskSet}
-use Rattle.vx_diskset.specs.declared.disk_set.DiskSet.TheVariants.{Bare, Spoiled, Up, Receives, Down, OfGroup, Gone}
+use Rattle.vx_diskset.specs.declared.disk_set.DiskSet.TheVariants.{Bare, Spoiled, Up, Receives, Down, OfGroup, Over, Gone}
 use Rattle.vx_diskset.proofs.GroupStands.{off_or_origin}
-use Rattle.vx_joins.specs.Deliveries.{IsUnheard, TakesNone, TakesOne, TookTo}
+use Rattle.vx_diskset.proofs.OverSets.{over_deaf}
+use Rattle.vx_joins.specs.Deliveries.{IsUnheard, TakesNone, TakesOne, TakesRaw, TookTo}
 use Rattle.vx_joins.proofs.TakesUpdate.{halted_off, ignored_is, more_receiver, receives_at, same_receiver}
 
 abbrev received : RState → RAction → Received
@@ -82,18 +83,19 @@ module _ (w : World) (number : ℕ) (p : Packet) (k : ℕ) (x : Write) (at : pac
     unheard e fed a f why stands fed_by = IsUnheard [] (ignored_is w number p k x at message why ∙ nothing_sent) refl stands fed_by refl (more_none f f refl)
 
     -- disks that receive nothing
-    pub other_took : (e : DiskSet R g) (fed : ℕ) (a : Assembled) (f : Flying) → ((s : Secondary R g) → e ≡ Receives s → ⊥) → RoleIs there e → SiteStands beside there e → fed ≡ there.fed_by → TookTo w number p k beside e fed a a f f IsIgnored
-    other_took (Bare rack) fed a f other role stands = unheard (Bare rack) fed a f (inl (inl (ap (λ (n : Node). is_up n.state) stands.bare.is))) stands
-    other_took (Spoiled rack) fed a f other role stands = unheard (Spoiled rack) fed a f (inl (inl (ap (λ (n : Node). is_up n.state) stands.is))) stands
-    other_took (Up rvg) fed a f other role stands = unheard (Up rvg) fed a f (inr role) stands
-    other_took (Receives s) fed a f other role stands = absurd (other s refl)
-    other_took (Down rack) fed a f other role stands = unheard (Down rack) fed a f (inl (inl (ap is_up stands.state))) stands
-    other_took (OfGroup s) fed a f other role stands = unheard (OfGroup s) fed a f (⊎_elim (λ off. inl (inl off)) (λ origin. inr origin) (off_or_origin beside there s stands)) stands
-    other_took Gone fed a f other role stands = absurd stands
+    pub other_took : (e : DiskSet R g) (fed : ℕ) (a : Assembled) (f : Flying) → ((s : Secondary R g) → e ≡ Receives s → ⊥) → RoleIs there e → TakesRaw e → SiteStands beside there e → fed ≡ there.fed_by → TookTo w number p k beside e fed a a f f IsIgnored
+    other_took (Bare rack) fed a f other role raw stands = unheard (Bare rack) fed a f (inl (inl (ap (λ (n : Node). is_up n.state) stands.bare.is))) stands
+    other_took (Spoiled rack) fed a f other role raw stands = unheard (Spoiled rack) fed a f (inl (inl (ap (λ (n : Node). is_up n.state) stands.is))) stands
+    other_took (Up rvg) fed a f other role raw stands = unheard (Up rvg) fed a f (inr role) stands
+    other_took (Receives s) fed a f other role raw stands = absurd (other s refl)
+    other_took (Down rack) fed a f other role raw stands = unheard (Down rack) fed a f (inl (inl (ap is_up stands.state))) stands
+    other_took (OfGroup s) fed a f other role raw stands = unheard (OfGroup s) fed a f (⊎_elim (λ off. inl (inl off)) (λ origin. inr origin) (off_or_origin beside there s stands)) stands
+    other_took (Over s) fed a f other role raw stands = unheard (Over s) fed a f (⊎_elim (λ off. inl (inl off)) (λ origin. inr origin) (over_deaf beside there s.site raw role stands.1)) stands
+    other_took Gone fed a f other role raw stands = absurd stands
 
     -- a receiver that is halted
     pub halted_took : (s : Secondary R g) (disk fed : ℕ) (a : Assembled) (f : Flying) → Some disk ≡ s.rvg.core.halted → SiteStands beside there (Receives s) → fed ≡ there.fed_by → TookTo w number p k beside (Receives s) fed a a f f IsIgnored
-    halted_took s disk fed a f is stands = unheard (Receives s) fed a f (inl (inr (halted_off there.halted disk (is ∙ stands.halted)))) stands
+    halted_took s disk fed a f is stands = unheard (Receives s) fed a f (inl (inr (halted_off there.halted disk (is ∙ stands.1.halted)))) stands
 
     -- one that runs
     module _ (old new : Secondary R g) (fed fed' : ℕ) (a a' : Assembled) (f f' : Flying) (same : new.rvg ≡ old.rvg) (r : SiteStands beside there (Receives old)) (running : there.halted ≡ None) (fed_by : fed ≡ there.fed_by) where
@@ -101,16 +103,16 @@ module _ (w : World) (number : ℕ) (p : Packet) (k : ℕ) (x : Write) (at : pac
       m = g.meaning old.rvg.shelf
 
       waits : writes_of_updates old.waiting ≡ drop there.safe there.log
-      waits = r.waits ∙ ap (λ (i : ℕ). drop i there.log) (r.head running)
+      waits = r.1.waits ∙ ap (λ (i : ℕ). drop i there.log) (r.1.head running)
 
-      group_same : (n : Node) → IsReceiverAt beside n old.rvg.core new.waiting m → SiteStands beside n (Receives new)
-      group_same n here = subst (λ (v : Rvg R g). IsReceiverAt beside n v.core new.waiting (g.meaning v.shelf)) (sym same) here
+      group_same : (n : Node) → n.group ≡ there.group → IsReceiverAt beside n old.rvg.core new.waiting m → SiteStands beside n (Receives new)
+      group_same n group here = ((group ∙ r.0.0, r.0.1), subst (λ (v : Rvg R g). IsReceiverAt beside n v.core new.waiting (g.meaning v.shelf)) (sym same) here)
 
       same_waits : new.waiting ≡ old.waiting → IsReceiverAt beside there old.rvg.core new.waiting m
-      same_waits is = same_receiver there old.rvg.core old.waiting m r running new.waiting (ap (λ (us : List Logged). writes_of_updates us) is ∙ waits)
+      same_waits is = same_receiver there old.rvg.core old.waiting m r.1 running new.waiting (ap (λ (us : List Logged). writes_of_updates us) is ∙ waits)
 
       peer : ReceivesAt there old.rvg.core old.waiting fed
-      peer = receives_at there old.rvg.core old.waiting m r running fed fed_by
+      peer = receives_at there old.rvg.core old.waiting m r.1 running fed fed_by
 
       rule : rule_at old.rvg.core old.waiting p.line k ≡ rule_of w p k
       rule = ap (λ (s : RState). (received_step s (HearUpdate p.line k)).action) peer.rule
@@ -124,17 +126,17 @@ module _ (w : World) (number : ℕ) (p : Packet) (k : ℕ) (x : Write) (at : pac
           → TookTo w number p k beside (Receives new) fed' a a' f f' said
       running_took said (OneWaits u n takes is from sends taken) =
           let next : n ≡ k = next_of n (sym rule ∙ takes) in
-          TakesOne (r.state, running) r.role (sym rule ∙ takes ∙ ap (λ (i : ℕ). Take i) next) (write_of_update u) taken
-          (group_same (with_write there p.source (write_of_update u))
-          (more_receiver there old.rvg.core old.waiting m r running p.source (write_of_update u) new.waiting
+          TakesOne (r.1.state, running) r.1.role (sym rule ∙ takes ∙ ap (λ (i : ℕ). Take i) next) (write_of_update u) taken
+          (group_same (with_write there p.source (write_of_update u)) refl
+          (more_receiver there old.rvg.core old.waiting m r.1 running p.source (write_of_update u) new.waiting
           (ap (λ (us : List Logged). writes_of_updates us) is ∙ map-append write_of_update old.waiting (u ∷ []) ∙ ap (λ (ws : List Write). ws ++ write_of_update u ∷ []) waits
-          ∙ sym (drop-append-le there.safe there.log (write_of_update u ∷ []) (omega (arith, r.least, r.most))))))
+          ∙ sym (drop-append-le there.safe there.log (write_of_update u ∷ []) (omega (arith, r.1.least, r.1.most))))))
           from (subst (λ (i : ℕ). Sends (packets_of p.target p.source there.line (NetAck there.session i)) f f') next (acks n sends))
       running_took said (NoneWaits n takes is from still how) =
           let next : n ≡ k = next_of n (sym rule ∙ takes) in
-          TakesNone (r.state, running) r.role (sym rule ∙ takes ∙ ap (λ (i : ℕ). Take i) next) how (group_same there (same_waits is)) (from ∙ fed_by) still
+          TakesNone (r.1.state, running) r.1.role (sym rule ∙ takes ∙ ap (λ (i : ℕ). Take i) next) how (group_same there refl (same_waits is)) (from ∙ fed_by) still
       running_took said (AcksAgain n again is from kept sends how) =
           IsUnheard (packets_of p.target p.source there.line (NetAck there.session n))
-          (heard_is r.state running r.role ∙ ap (λ (x' : RAction). gathers p (update_taken w p x x')) (sym rule ∙ again)) how (group_same there (same_waits is)) (from ∙ fed_by) kept (acks n sends)
+          (heard_is r.1.state running r.1.role ∙ ap (λ (x' : RAction). gathers p (update_taken w p x x')) (sym rule ∙ again)) how (group_same there refl (same_waits is)) (from ∙ fed_by) kept (acks n sends)
       running_took said (NotHeard idle is from kept still how) =
-          IsUnheard [] (heard_is r.state running r.role ∙ idle_ignored (rule_of w p k) (subst IsIdle rule idle) ∙ nothing_sent) how (group_same there (same_waits is)) (from ∙ fed_by) kept (more_none f f' still)
+          IsUnheard [] (heard_is r.1.state running r.1.role ∙ idle_ignored (rule_of w p k) (subst IsIdle rule idle) ∙ nothing_sent) how (group_same there refl (same_waits is)) (from ∙ fed_by) kept (more_none f f' still)

@@ -20,6 +20,7 @@ use Rattle.vx_rvg.specs.Holdings.{update_of}
 use Rattle.vx_rvg.specs.Views.{Core, unit_of}
 use Rattle.vx_secondary.specs.Receivers.{can_log}
 use Rattle.vx_diskset.specs.Layouts.{LiesOn, units_of}
+use Rattle.vx_diskset.proofs.Laying.{laid_in}
 
 -- ---- an update carries the write that its line holds under its number
 
@@ -73,10 +74,11 @@ all_fit vol count block blocks ring size many there room within = grind (arith, 
 
 pub fits_group : (n : Node) (c : Core) (m : Meaning) (line : Line) (k : ℕ) (x : Write) → LiesOn n m → c.units ≡ units_of n → c.log.ring ≡ n.ring → WriteFits n x → can_log c m.size (update_of line k x) ≡ true
 fits_group n c m line k x lies units ring fits =
+    let laid = laid_in n m lies in
     let there : x.volume < length n.volumes = volume_exists n.volumes x.volume (omega (arith, fits.some, fits.within)) in
     let one = volume_at n.volumes x.volume there in
-    let own : blocks_of_volume n.volumes x.volume ≡ m.size (unit_of (units_of n).vols x.volume) = one.2 ∙ sym (lies.laid.named x.volume one.0 one.1) ∙ lies.laid.each x.volume there in
+    let own : blocks_of_volume n.volumes x.volume ≡ m.size (unit_of (units_of n).vols x.volume) = one.2 ∙ sym (laid.named x.volume one.0 one.1) ∙ laid.each x.volume there in
     let size : blocks_of_volume n.volumes x.volume ≡ m.size (unit_of c.units.vols x.volume) = own ∙ ap (λ u. m.size (unit_of u.vols x.volume)) (sym units) in
-    let many : length c.units.vols ≡ length n.volumes = ap (λ u. length u.vols) units ∙ lies.laid.count in
+    let many : length c.units.vols ≡ length n.volumes = ap (λ u. length u.vols) units ∙ laid.count in
     all_fit x.volume (blocks_in x.bytes) x.start 0 c.log.ring (m.size (unit_of c.units.vols x.volume)) (length c.units.vols)
     (omega (arith, there, many)) (omega (arith, fits.room, ring)) (omega (arith, fits.within, size))

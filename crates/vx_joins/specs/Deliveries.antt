@@ -17,11 +17,18 @@ use Rattle.vx_events.specs.LinkFinds.{rule_of}
 use Rattle.vx_net.specs.Flights.{Flying}
 use Rattle.vx_peers.specs.Senders.{Sends}
 use Rattle.vx_packet.specs.Assemblies.{Assembled}
+use Rattle.vx_diskset.specs.Aboves.{IsDeaf, above_in}
 use Rattle.vx_diskset.specs.Holds.{KeptBeside}
 use Rattle.vx_diskset.specs.Stands.{SiteStands}
 use Rattle.vx_diskset.specs.declared.disk_set.DiskSet.{DiskSet}
+use Rattle.vx_diskset.specs.declared.disk_set.DiskSet.TheVariants.{Over}
 
 module _ {R : Type 0} {g : Ghosts R} where
+  -- a site over a group of disks takes no updates yet
+  abbrev pub TakesRaw : DiskSet R g → Type 0
+  TakesRaw (Over s) = IsDeaf (above_in s)
+  TakesRaw other = Unit {0}
+
   -- The packet was delivered to this site: what is said is what the world says; and the disks, who feeds the site, what is in assembly, and
   -- what is under way are what the world has.
   pub record DeliveredTo (o : Outcome) (beside : KeptBeside) (site : ℕ) (e : DiskSet R g) (fed : ℕ) (a : Assembled) (f : Flying) (said : Said) : Type 0 where

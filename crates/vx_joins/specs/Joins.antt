@@ -1,5 +1,5 @@
 -- What the disks of a site promise as it comes to the line of another one.
-use Rattle.std.specs.Prelude.{◌≡◌, ℕ, ◌+◌, ◌≤◌, [], true, false, IsTrue, Some, None, Result, Ok, Err}
+use Rattle.std.specs.Prelude.{◌≡◌, ℕ, ◌+◌, ◌≤◌, [], true, IsTrue, Some, None, Result, Ok, Err}
 use Rattle.vx_model.specs.Sites.{is_origin}
 use Rattle.vx_model.specs.declared.no.No.{No}
 use Rattle.vx_model.specs.declared.no.No.TheVariants.{Device, Limit, Down as IsOff}
@@ -14,7 +14,6 @@ use Rattle.vx_disk.specs.declared.shelf.Shelf.{Ghosts}
 use Rattle.vx_rvg.specs.Views.{Core}
 use Rattle.vx_srl.specs.Views.{most_number}
 use Rattle.vx_events.specs.Fails.{IsLogDisk}
-use Rattle.vx_events.specs.GroupLines.{is_over_group}
 use Rattle.vx_diskset.specs.declared.disk_set.DiskSet.{DiskSet}
 use Rattle.vx_diskset.specs.DiskSets.{CrashedAt, RoseAt, halted_at, no_number}
 use Rattle.vx_diskset.specs.Holds.{KeptBeside, KeptSite, most_header, sure_of}
@@ -24,7 +23,7 @@ use Rattle.vx_diskset.specs.Stands.{IsHeldAt, IsReceiverAt, IsToldAt, IsUpAt, Ro
 pub record CanJoin (beside : KeptBeside) (n : Node) : Type 0 where
   pub up : n.state ≡ IsUp
   pub running : n.halted ≡ None
-  pub apart : is_over_group n ≡ false
+  pub apart : n.group ≡ None
   pub origin : is_origin n.role ≡ true
   pub empty : n.log ≡ []
   pub unlinked : beside.links ≡ []

@@ -13,7 +13,7 @@ ghost use Rattle.vx_model.specs.declared.site.SiteState.TheVariants.{Up as UpSta
 ghost use Rattle.vx_model.specs.declared.state.KeptLink.{KeptLink as KeptValue};
 ghost use Rattle.vx_peers.specs.Answers.{is_answer};
 ghost use Rattle.vx_srlfmt.specs.Headers.{CanSpellState};
-ghost use Rattle.vx_diskset.specs.Asked.{HeadUnder, LeavesFuse, stored_calls};
+ghost use Rattle.vx_diskset.specs.Asked.{HeadUnder, IsRawSet, LeavesFuse, stored_calls};
 ghost use Rattle.vx_diskset.specs.Burning.{NoMore};
 ghost use Rattle.vx_diskset.specs.DiskSets.{Later};
 ghost use Rattle.vx_diskset.specs.Holds.{KeptBeside, beside_of, header_links, state_with};
@@ -74,8 +74,8 @@ fn keep_stored<R: Rack>(
     requires state { CanSpellState state.now }
     ensures kept { (beside : KeptBeside) (n : Node) → SiteStands beside n disks.old → n.state ≡ UpState → n.halted ≡ None → is_over_group n ≡ false → state.now ≡ state_with n beside.links
         → ((k : ℕ) (x : KeptValue) → slice_get beside.links k ≡ Some x → x.site ≡ to → x.stored ≤ stored) → StoredIs beside n to old stored disks.old disks.new result }
-    ensures called { (beside : KeptBeside) (n : Node) → SiteStands beside n disks.old → LeavesFuse NoMore (reply_by result) disks.old disks.new }
-    ensures headed { (beside : KeptBeside) (n : Node) → SiteStands beside n disks.old → (result ≡ Err Stop.OutOfMemory → ⊥) → HeadUnder (stored_calls old stored) (reply_by result) disks.old disks.new }
+    ensures called { (beside : KeptBeside) (n : Node) → SiteStands beside n disks.old → IsRawSet disks.old → LeavesFuse NoMore (reply_by result) disks.old disks.new }
+    ensures headed { (beside : KeptBeside) (n : Node) → SiteStands beside n disks.old → IsRawSet disks.old → (result ≡ Err Stop.OutOfMemory → ⊥) → HeadUnder (stored_calls old stored) (reply_by result) disks.old disks.new }
     ensures short { result ≡ Err Stop.OutOfMemory → disks.new ≡ disks.old }
     ensures rises { (why : NoValue) → result ≡ Err (Stop.No why) → old < stored }
     ensures role { KeepsRole disks.old disks.new }
@@ -120,11 +120,11 @@ pub fn hear<R: Rack, N: Net>(
         → FlightStands d.world.packets (N.flying flight.now) → IsListening (d.world.nodes site) (d.world.links site p.source) → link.old ≡ plain_link p.source (d.world.links site p.source)
         → SiteStands (beside_of d site) (d.world.nodes site) disks.old → state.now ≡ state_with (d.world.nodes site) (header_links d.world site)
         → PartHeardAt d site p.source number disks.old disks.new link.new (N.flying flight.now) result }
-    ensures called { (beside : KeptBeside) (n : Node) → SiteStands beside n disks.old → LeavesFuse NoMore (reply_by result) disks.old disks.new }
+    ensures called { (beside : KeptBeside) (n : Node) → SiteStands beside n disks.old → IsRawSet disks.old → LeavesFuse NoMore (reply_by result) disks.old disks.new }
     // It is one header where the link comes to count more as stored, and else no call.
     ensures headed { (d : Doubted) (p : Packet) (site : ℕ) → packet_at d.world.packets number ≡ Some p → p.target ≡ site → is_answer p.message ≡ true
         → FlightStands d.world.packets (N.flying flight.now) → IsListening (d.world.nodes site) (d.world.links site p.source) → link.old ≡ plain_link p.source (d.world.links site p.source)
-        → SiteStands (beside_of d site) (d.world.nodes site) disks.old → state.now ≡ state_with (d.world.nodes site) (header_links d.world site) → (result ≡ Err Stop.OutOfMemory → ⊥)
+        → SiteStands (beside_of d site) (d.world.nodes site) disks.old → state.now ≡ state_with (d.world.nodes site) (header_links d.world site) → IsRawSet disks.old → (result ≡ Err Stop.OutOfMemory → ⊥)
         → HeadUnder (stored_calls (d.world.links site p.source).stored ((world_behind d.world number).links site p.source).stored) (reply_by result) disks.old disks.new }
     ensures short { result ≡ Err Stop.OutOfMemory → disks.new ≡ disks.old }
     // A header is refused where the link comes to count more as stored.

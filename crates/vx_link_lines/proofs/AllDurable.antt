@@ -10,10 +10,11 @@ use Rattle.vx_model.specs.Content.{Write}
 use Rattle.vx_model.proofs.Lists.{get_there}
 use Rattle.vx_disk.specs.declared.shelf.Shelf.{Ghosts}
 use Rattle.vx_diskset.proofs.GroupStands.{up_has_none}
+use Rattle.vx_diskset.proofs.OverSets.{over_durable}
 use Rattle.vx_diskset.specs.Holds.{KeptBeside, beside_of}
 use Rattle.vx_diskset.specs.Stands.{SiteStands}
 use Rattle.vx_diskset.specs.declared.disk_set.DiskSet.{DiskSet}
-use Rattle.vx_diskset.specs.declared.disk_set.DiskSet.TheVariants.{Bare, Spoiled, Up, Receives, Down, OfGroup, Gone}
+use Rattle.vx_diskset.specs.declared.disk_set.DiskSet.TheVariants.{Bare, Spoiled, Up, Receives, Down, OfGroup, Over, Gone}
 use Rattle.vx_yard.specs.Standing.{StandsFor}
 use Rattle.vx_yard.specs.declared.yard.Yard.{Yard}
 
@@ -21,10 +22,11 @@ module _ {R : Type 0} {g : Ghosts R} where
   durable_at : (beside : KeptBeside) (n : Node) (e : DiskSet R g) → SiteStands beside n e → n.state ≡ IsUp → n.halted ≡ None → is_origin n.role ≡ true → length n.log ≤ n.safe
   durable_at beside n (Bare rack) h up none origin = let e : IsBare ≡ IsUp = sym (ap (λ (x : Node). x.state) h.bare.is) ∙ up in absurd (cc)
   durable_at beside n (Spoiled rack) h up none origin = let e : IsBare ≡ IsUp = sym (ap (λ (x : Node). x.state) h.is) ∙ up in absurd (cc)
-  durable_at beside n (Up rvg) h up none origin = h.durable none
-  durable_at beside n (Receives s) h up none origin = let e : true ≡ false = sym origin ∙ h.role in absurd (cc)
+  durable_at beside n (Up rvg) h up none origin = h.1.durable none
+  durable_at beside n (Receives s) h up none origin = let e : true ≡ false = sym origin ∙ h.1.role in absurd (cc)
   durable_at beside n (Down rack) h up none origin = let e : IsDown ≡ IsUp = sym h.state ∙ up in absurd (cc)
   durable_at beside n (OfGroup s) h up none origin = let has = up_has_none beside n s h up in omega (arith, ap (λ (xs : List Write). length xs) has.log)
+  durable_at beside n (Over s) h up none origin = over_durable beside n s.site h.1 up none origin
   durable_at beside n Gone h up none origin = absurd h
 
   pub durable_for : (d : Doubted) (y : Yard R g) → StandsFor d y → AreDurable d.world

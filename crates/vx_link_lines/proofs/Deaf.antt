@@ -35,13 +35,17 @@ use Rattle.vx_packet.specs.Assemblies.{Assembled}
 use Rattle.vx_script.specs.declared.line.ScriptLine.TheVariants.{Deliver}
 use Rattle.vx_diskset.specs.Asked.{LeavesAlone}
 use Rattle.vx_diskset.specs.Holds.{KeptBeside, beside_of}
-use Rattle.vx_diskset.specs.Stands.{IsToldAt, RoleIs, SiteStands}
+use Rattle.vx_diskset.specs.Stands.{IsRackTold, RoleIs, SiteStands}
+use Rattle.vx_diskset.specs.Aboves.{IsDeaf, above_in}
+use Rattle.vx_diskset.specs.declared.above.Above.{Above}
+use Rattle.vx_diskset.specs.declared.above.Above.TheVariants.{Nothing, Origin, Receiver}
 use Rattle.vx_diskset.specs.declared.disk_set.DiskSet.{DiskSet}
-use Rattle.vx_diskset.specs.declared.disk_set.DiskSet.TheVariants.{Bare, Spoiled, Up, Receives as HasRoom, Down, OfGroup, Gone}
+use Rattle.vx_diskset.specs.declared.disk_set.DiskSet.TheVariants.{Bare, Spoiled, Up, Receives as HasRoom, Down, OfGroup, Over, Gone}
 use Rattle.vx_joins.proofs.TakesUpdate.{ignored_is}
 use Rattle.vx_joins.specs.Deliveries.{IsUnheard, TakesNone, TakesOne, TookTo}
 use Rattle.vx_yard.specs.Changes.{last_facts}
-use Rattle.vx_yard.specs.Deliveries.{Receives}
+use Rattle.vx_diskset.proofs.OverSets.{over_deaf}
+use Rattle.vx_yard.specs.Deliveries.{Receives, is_receiver}
 use Rattle.vx_yard.specs.Standing.{Leads, StandsFor}
 use Rattle.vx_yard.specs.Stands.{AreTold}
 use Rattle.vx_yard.specs.Yards.{IsTold}
@@ -49,7 +53,7 @@ use Rattle.vx_yard.specs.declared.yard.Yard.{Yard}
 use Rattle.vx_yard.proofs.ApplySite.{worked_effect, worked_for}
 use Rattle.vx_yard.proofs.Carrying.{SameLoad, carries_node}
 use Rattle.vx_yard.proofs.OneSite.{Changed}
-use Rattle.vx_yard.proofs.RecoverLine.{told_or}
+use Rattle.vx_yard.proofs.RecoverLine.{rack_told_or}
 use Rattle.vx_link_lines.proofs.UpdateLine.{done_as, leads_same}
 
 pub last_received : (number : ℕ) (f : SiteFacts) → last_facts number f ≡ received_fact number f
@@ -80,6 +84,12 @@ none_start n row sites starts receives = shown_none n row n.state (linked_sites 
 abbrev outcome_at : Doubted → (number : ℕ) → Outcome
 outcome_at d number = delivered d.world number (packet_at d.world.packets number)
 
+-- nothing that is not a receiver takes updates
+deaf_above : (a : Above) → is_receiver a ≡ false → IsDeaf a
+deaf_above Nothing none = tt
+deaf_above (Origin core) none = tt
+deaf_above (Receiver core waiting) none = absurd (let e : true ≡ false = none in cc)
+
 module _ {R : Type 0} {g : Ghosts R} where
   -- whether contents are told
   place_told : (e : DiskSet R g) (es : List (DiskSet R g)) → AreTold es ⊎ (AreTold es → ⊥) → (let one : Type 0 = AreTold (e ∷ es) in one ⊎ (one → ⊥))
@@ -89,10 +99,10 @@ module _ {R : Type 0} {g : Ghosts R} where
       (λ none. inr (λ all. none (record { each = λ s x is. all.each (suc s) x is })))
       rest)
       (λ none. inr (λ all. none (all.each zero e refl)))
-      (told_or e)
+      (rack_told_or e)
     where
-      at : (s : ℕ) (x : DiskSet R g) → slice_get (e ∷ es) s ≡ Some x → IsToldAt e → AreTold es → IsToldAt x
-      at zero x is told all = subst (λ (y : DiskSet R g). IsToldAt y) (some_same is) told
+      at : (s : ℕ) (x : DiskSet R g) → slice_get (e ∷ es) s ≡ Some x → IsRackTold e → AreTold es → IsRackTold x
+      at zero x is told all = subst (λ (y : DiskSet R g). IsRackTold y) (some_same is) told
       at (suc s) x is told all = all.each s x is
 
   pub all_told : (es : List (DiskSet R g)) → AreTold es ⊎ (AreTold es → ⊥)
@@ -130,6 +140,8 @@ module _ {R : Type 0} {g : Ghosts R} where
     ignored_by beside (OfGroup s) b is none role stands = ⊎_elim
         (λ (bare : (d.world.nodes p.target).state ≡ IsBare). ignored_is d.world number p k x at message (inl (inl (ap is_up bare))))
         (λ made. ignored_is d.world number p k x at message (inr (ap is_origin (set_notes beside (d.world.nodes p.target) s stands made).1.none.role))) (bare_or_made (d.world.nodes p.target).state)
+    ignored_by beside (Over s) b is none role stands =
+        ignored_is d.world number p k x at message (⊎_elim (λ off. inl (inl off)) (λ origin. inr origin) (over_deaf beside (d.world.nodes p.target) s.site (deaf_above (above_in s) (sym is ∙ none)) role stands.1))
     ignored_by beside Gone b is none role stands = absurd stands
 
     pub deaf_leads : (old new : Yard R g) (before after : DiskSet R g) (b : Bool) → StandsFor d old → p.target < d.world.sites → Changed old new p.target before after → LeavesAlone before after → Receives after b → b ≡ false → RoleIs (d.world.nodes p.target) after → SiteStands (beside_of d p.target) (d.world.nodes p.target) after

@@ -60,6 +60,8 @@ use Rattle.vx_link_lines.proofs.HeadedWorlds as worlds
 use Rattle.vx_link_lines.proofs.HeadedWorlds.{stopped_noted}
 use Rattle.vx_yard.proofs.Lists.{get-set_same, set_same}
 use Rattle.vx_yard.proofs.OneSite.{Changed, role_off, rose_at, told_by}
+use Rattle.vx_yard.proofs.OverGroup.{none_over}
+use Rattle.vx_yard.proofs.RawSites.{raw_site, raw_told}
 use Rattle.vx_link_lines.proofs.Turned.{stands_turned}
 
 group_halted : (disk : ℕ) (o : Option RvgFacts) → halted_group disk o ≡ halted_there disk o
@@ -150,7 +152,7 @@ module _ {R : Type 0} {g : Ghosts R} (note : (ℕ → Node) → ℕ → Node) (s
       → new.facts.items ≡ slice_set (facts_over start.world) s (noted_facts why (linked_fact start.world s))
   noted_there why x x' at is facts =
       let shown : slice_get (facts_over start.world) s ≡ Some x = ap (λ (fs : List SiteFacts). slice_get fs s) (sym stands.facts) ∙ at in
-      let same : x ≡ linked_fact start.world s = some_same (sym shown ∙ site_apart start.world s below (ap is_over_group here ∙ h.alone)) in
+      let same : x ≡ linked_fact start.world s = some_same (sym shown ∙ site_apart start.world s below (ap is_over_group here ∙ none_over n h.none)) in
       facts ∙ ap (λ (fs : List SiteFacts). slice_set fs s x') stands.facts ∙ ap (slice_set (facts_over start.world) s) (is ∙ ap (noted_facts why) same)
 
   -- a disk failed in it
@@ -179,7 +181,7 @@ module _ {R : Type 0} {g : Ghosts R} (note : (ℕ → Node) → ℕ → Node) (s
             ∙ ap (slice_set (facts_over start.world) s)
             (ap (λ (k : Node). halted_fact disk (fact_of k (d.world.links s) d.world.sites)) here
             ∙ sym (halted_is (worked n) (d.world.links s) d.world.sites disk) ∙ ap (λ (k : Node). fact_of k (d.world.links s) d.world.sites) (stopped_noted n disk))
-            ∙ sym (facts_there start to s (stopped n disk) (d.world.links s) w.site below h.alone w.is.node w.is.links))
+            ∙ sym (facts_there start to s (stopped n disk) (d.world.links s) w.site below (none_over n h.none) w.is.node w.is.links))
             (λ a some.
             let same : after_of d e s disk ≡ a = some_same (sym w.is.after ∙ some) in
             subst (λ (b : After). IsSameSite (to.world.nodes s) b.node) same
@@ -196,7 +198,8 @@ module _ {R : Type 0} {g : Ghosts R} (note : (ℕ → Node) → ℕ → Node) (s
   headed_full kind what most x x' is calls at noted facts load =
       record {
         is = is.0;
-        least = λ told. is.1 (told.each s after (ap (λ es. slice_get es s) changed.disk_sets ∙ get-set_same old.disk_sets.items s after (worlds.within old.disk_sets.items s before changed.there)));
+        least = λ told. is.1 (raw_told after (raw_site (beside_of d s) (worked n) after h.none is.2)
+            (told.each s after (ap (λ es. slice_get es s) changed.disk_sets ∙ get-set_same old.disk_sets.items s after (worlds.within old.disk_sets.items s before changed.there))));
         next = record {
           stands = stands_turned start start old new s before after stands below changed
               (record {
@@ -261,13 +264,13 @@ module _ {R : Type 0} {g : Ghosts R} (note : (ℕ → Node) → ℕ → Node) (s
       itself_by q own =
           subst (λ (y : KeptSite). (count : ℕ) → y.node.safe ≤ count → count ≤ length y.node.log → SiteStands (sure_of y) (crashed y.node count) after → CutFor note d e s old new) (sym own)
           (λ count least most stood_there.
-          by count false (stopped n 0) (d.world.links s) (header_links d.world s) (worlds.own_node note s notes d e m h.row ls gathered h.effect h.kept h.sure) (λ j. refl) refl least most h.alone h.opens.0 refl refl stood_there)
+          by count false (stopped n 0) (d.world.links s) (header_links d.world s) (worlds.own_node note s notes d e m h.row ls gathered h.effect h.kept h.sure) (λ j. refl) refl least most (none_over n h.none) h.opens.0 refl refl stood_there)
 
       doubt_by : (q : KeptSite) → (in_doubt (beside_of d s) (worked m) ls 0).doubt ≡ Some q → (count : ℕ) → q.node.safe ≤ count → count ≤ length q.node.log → SiteStands (sure_of q) (crashed q.node count) after → CutFor note d e s old new
       doubt_by q other =
           subst (λ (y : KeptSite). (count : ℕ) → y.node.safe ≤ count → count ≤ length y.node.log → SiteStands (sure_of y) (crashed y.node count) after → CutFor note d e s old new) (some_same other)
           (λ count least most stood_there.
-          by count true (stopped m 0) h.row ls (worlds.other_node note s notes d e m h.row ls gathered h.effect h.kept h.sure) (worlds.other_row note s notes d e m h.row ls gathered h.effect h.kept h.sure) h.kept least most (over_body n m h.like ∙ h.alone) (h.like.state ∙ h.opens.0) h.like.failing
+          by count true (stopped m 0) h.row ls (worlds.other_node note s notes d e m h.row ls gathered h.effect h.kept h.sure) (worlds.other_row note s notes d e m h.row ls gathered h.effect h.kept h.sure) h.kept least most (over_body n m h.like ∙ none_over n h.none) (h.like.state ∙ h.opens.0) h.like.failing
           (down_alike n (stopped m 0) (d.world.links s) h.row d.world.sites h.like.name h.like.disks h.like.blocks h.like.volumes) stood_there)
 
   -- by what was answered

@@ -1,5 +1,5 @@
 -- An event that writes one header of a site's log, and what a call on the disks of the site promises that does it.
-use Rattle.std.proofs.Common.{◌≡◌, ◌∙◌, ◌≤◌, ◌+◌, ℕ, false, List, ap, length}
+use Rattle.std.proofs.Common.{◌≡◌, ◌∙◌, ◌≤◌, ◌+◌, ℕ, List, ap, length}
 use Rattle.std.specs.Prelude.{◌&&◌, eqb, Option, Some, None, is_some, Result, Ok, Err}
 use Rattle.vx_history.specs.Groups.{GroupNode}
 use Rattle.vx_history.specs.Doubts.{Doubted}
@@ -53,7 +53,7 @@ pub record IsHeader (d : Doubted) (e : Event) (s : ℕ) (m : Node) (ls : List Ke
   pub fits_before : LinksFit d
   pub sets : SetsFail e
   pub opens : IsOpen (d.world.nodes s)
-  pub alone : is_over_group (d.world.nodes s) ≡ false
+  pub none : (d.world.nodes s).group ≡ None
   pub writes : WritesAt d.world e s
 
 -- a halted site that may be this node with these links on its disks

@@ -49,7 +49,6 @@ use Rattle.vx_effects.proofs.Packets.{no_header}
 use Rattle.vx_events.proofs.Places.{never_some, some_same}
 use Rattle.vx_events.specs.Effects.{ChangesNode, EffectAt}
 use Rattle.vx_events.specs.LinkEnds.{LinkEnds, LinksDone, link_noted, target_noted}
-use Rattle.vx_events.specs.GroupLines.{is_over_group}
 use Rattle.vx_events.specs.StepsOver.{facts_over}
 use Rattle.vx_events.specs.LinksFit.{LinksFit}
 use Rattle.vx_events.specs.Sayings.{RepeatsSaid}
@@ -195,7 +194,7 @@ module _ {R : Type 0} {g : Ghosts R} where
 
   module _ (d : Doubted) (number : ℕ) (p : Packet) (at : packet_at d.world.packets number ≡ Some p) (answers : is_answer p.message ≡ true) (old new : Yard R g) (before after : DiskSet R g) (stands : StandsFor d old)
       (below : p.target < d.world.sites) (changed : Changed old new p.target before after) (keeps : KeepsRole before after) (opens : IsOpen (d.world.nodes p.target))
-      (alone : is_over_group (d.world.nodes p.target) ≡ false) where
+      (none : (d.world.nodes p.target).group ≡ None) where
     abbrev s : ℕ
     s = p.target
 
@@ -263,7 +262,7 @@ module _ {R : Type 0} {g : Ghosts R} where
       -- a header was written
       wrote : ltb (d.world.links s p.source).stored (o.world.links s p.source).stored ≡ true → StoresAt (beside_of d s) n true ls after → NextFor [] start to old new
       wrote rises stored =
-          let header : IsHeader d event s n ls (o.world.gathering s) = heard_header d number p at answers rises stands.links opens alone in
+          let header : IsHeader d event s n ls (o.world.gathering s) = heard_header d number p at answers rises stands.links opens none in
           header_done (note_one s) s (notes_one s) d event n ls (o.world.gathering s) header old before noted below changed.there new after changed role
           (subst (λ (k : Node). SiteStands (record { links = ls; headers = d.world.headers s + 1; doubt = None }) k after) (sym (worked_twice n)) stored) h.calls h.facts (carried (heard_rose d number p at answers rises))
 
@@ -308,7 +307,7 @@ module _ {R : Type 0} {g : Ghosts R} where
     pub unheard_leads : (why : No) (said : Said) (x x' : SiteFacts) → said ≡ Refused why → ltb (d.world.links s p.source).stored (o.world.links s p.source).stored ≡ true → KeptAt (beside_of d s) n (state_with n ls) before after (Err why)
         → LeavesFuse NoMore (Refused why) before after → slice_get old.facts.items s ≡ Some x → x' ≡ noted_facts why x → new.facts.items ≡ slice_set old.facts.items s x' → LetsGoBy why old new s → Leads d (Deliver number) said old new
     unheard_leads why said x x' says rises is calls shown facts_is facts lets =
-        let header : IsHeader d event s n ls (o.world.gathering s) = heard_header d number p at answers rises stands.links opens alone in
+        let header : IsHeader d event s n ls (o.world.gathering s) = heard_header d number p at answers rises stands.links opens none in
         let h = headed_refused (note_one s) s (notes_one s) d event n ls (o.world.gathering s) header old new before after noted below changed role why x x'
         (refused_noted (beside_of d s) n ls before after why (answered_keep CrashedAt (beside_of d s) n (state_with n ls) before after (Err why) is)) calls shown facts_is facts lets in
         let b : IsBehind d (Deliver number) (note_one s) event s d = record {
@@ -334,7 +333,7 @@ module _ {R : Type 0} {g : Ghosts R} where
     pub changed : Changed old new t before after
     pub keeps : KeepsRole before after
     pub opens : IsOpen (d.world.nodes t)
-    pub alone : is_over_group (d.world.nodes t) ≡ false
+    pub none : (d.world.nodes t).group ≡ None
     pub says : said ≡ (delivered d.world number (packet_at d.world.packets number)).said
     pub calls : LeavesFuse NoMore Done before after
     pub facts : new.facts.items ≡ facts_over (behind d (DeliverAt number)).world
@@ -350,7 +349,7 @@ module _ {R : Type 0} {g : Ghosts R} where
   heard_by d number p old new before after a said reply t at answers stands to says there =
       let h = subst (λ (i : ℕ). HeardBy d number p old new before after a said i) (sym to) there in
       subst (λ (r : Said). Leads d (Deliver number) r old new) (sym says)
-      (heard_leads d number p at answers old new before after stands h.below h.changed h.keeps h.opens h.alone a said
+      (heard_leads d number p at answers old new before after stands h.below h.changed h.keeps h.opens h.none a said
       (record { says = h.says; calls = h.calls; facts = h.facts; flight = h.flight; assemblies = h.assemblies; feeders = h.feeders; exact = h.exact }) h.stored)
 
   -- its header was refused
@@ -359,7 +358,7 @@ module _ {R : Type 0} {g : Ghosts R} where
     pub changed : Changed old new t before after
     pub keeps : KeepsRole before after
     pub opens : IsOpen (d.world.nodes t)
-    pub alone : is_over_group (d.world.nodes t) ≡ false
+    pub none : (d.world.nodes t).group ≡ None
     pub rises : (d.world.links t p.source).stored < ((delivered d.world number (packet_at d.world.packets number)).world.links t p.source).stored
     pub stops : KeptAt (beside_of d t) (d.world.nodes t) (state_with (d.world.nodes t) (header_links (delivered d.world number (packet_at d.world.packets number)).world t)) before after (Err why)
     pub calls : LeavesFuse NoMore (Refused why) before after
@@ -372,7 +371,7 @@ module _ {R : Type 0} {g : Ghosts R} where
       → StandsFor d old → p.target ≡ t → said ≡ Refused why → RefusedBy d number p old new before after why x x' t → Leads d (Deliver number) said old new
   refused_by d number p old new before after why said x x' t at answers stands to says there =
       let h = subst (λ (i : ℕ). RefusedBy d number p old new before after why x x' i) (sym to) there in
-      unheard_leads d number p at answers old new before after stands h.below h.changed h.keeps h.opens h.alone why said x x' says
+      unheard_leads d number p at answers old new before after stands h.below h.changed h.keeps h.opens h.none why said x x' says
       (less_true (d.world.links p.target p.source).stored ((delivered d.world number (packet_at d.world.packets number)).world.links p.target p.source).stored h.rises) h.stops h.calls h.shown h.notes h.facts h.lets
 
   -- ---- nobody hears it

@@ -35,7 +35,6 @@ use Rattle.vx_diskset.specs.declared.disk_set.DiskSet.{DiskSet}
 use Rattle.vx_effects.proofs.Fitting.{fit_happened}
 use Rattle.vx_effects.proofs.LinkParts.{AreTwo, joins_effect, two_done}
 use Rattle.vx_events.specs.StepsOver.{facts_over}
-use Rattle.vx_events.specs.GroupLines.{is_over_group}
 use Rattle.vx_events.specs.LinksFit.{LinksFit}
 use Rattle.vx_events.specs.declared.said.Said.{Said}
 use Rattle.vx_events.specs.declared.said.Said.TheVariants.{Refused}
@@ -72,7 +71,7 @@ module _ {R : Type 0} {g : Ghosts R} where
 
 -- ---- the site may come to that line
 
-module _ (d : Doubted) (p s : ℕ) (sync : SyncMode) (fit : LinksFit d) (alone : is_over_group (d.world.nodes s) ≡ false) (said : (step d.world (LinkAt p s sync FailsWhenFull Joins)).said ≡ IsDone) where
+module _ (d : Doubted) (p s : ℕ) (sync : SyncMode) (fit : LinksFit d) (alone : (d.world.nodes s).group ≡ None) (said : (step d.world (LinkAt p s sync FailsWhenFull Joins)).said ≡ IsDone) where
   abbrev site : Node
   site = d.world.nodes s
 
@@ -94,13 +93,13 @@ module _ (d : Doubted) (p s : ℕ) (sync : SyncMode) (fit : LinksFit d) (alone :
 
 module _ {R : Type 0} {g : Ghosts R} where
   -- what the call on the disks promises of their fuse
-  pub join_headed : (note : (ℕ → Node) → ℕ → Node) (d : Doubted) (p s : ℕ) (sync : SyncMode) → NotesAt s note → LinksFit d → is_over_group (d.world.nodes s) ≡ false → (step d.world (LinkAt p s sync FailsWhenFull Joins)).said ≡ IsDone
+  pub join_headed : (note : (ℕ → Node) → ℕ → Node) (d : Doubted) (p s : ℕ) (sync : SyncMode) → NotesAt s note → LinksFit d → (d.world.nodes s).group ≡ None → (step d.world (LinkAt p s sync FailsWhenFull Joins)).said ≡ IsDone
       → (old : Yard R g) (before after : DiskSet R g) → StandsFor (noted_by note d) old → s < d.world.sites → slice_get old.disk_sets.items s ≡ Some before → (result : Result (Unit {0}) No)
       → ((beside : KeptBeside) (k : Node) → SiteStands beside k before → CanJoin beside k → HeadUnder 2 (done_by result) before after) → HeadUnder 2 (done_by result) before after
   join_headed note d p s sync notes fit alone said old before after stands below at result call =
       call (beside_of d s) (worked (d.world.nodes s)) (subst (λ (k : Node). SiteStands (beside_of d s) k before) (notes.here d.world.nodes) (stands.disk_sets.sites s before below at)) (can_join d p s sync fit alone said)
 
-module _ {R : Type 0} {g : Ghosts R} (note : (ℕ → Node) → ℕ → Node) (d : Doubted) (p s : ℕ) (sync : SyncMode) (notes : NotesAt s note) (fit : LinksFit d) (alone : is_over_group (d.world.nodes s) ≡ false) (said : (step d.world (LinkAt p s sync FailsWhenFull Joins)).said ≡ IsDone)
+module _ {R : Type 0} {g : Ghosts R} (note : (ℕ → Node) → ℕ → Node) (d : Doubted) (p s : ℕ) (sync : SyncMode) (notes : NotesAt s note) (fit : LinksFit d) (alone : (d.world.nodes s).group ≡ None) (said : (step d.world (LinkAt p s sync FailsWhenFull Joins)).said ≡ IsDone)
     (old new : Yard R g) (before after : DiskSet R g) (stands : StandsFor (noted_by note d) old) (below : s < d.world.sites) (changed : Changed old new s before after) where
   abbrev w : World
   w = d.world
@@ -128,7 +127,7 @@ module _ {R : Type 0} {g : Ghosts R} (note : (ℕ → Node) → ℕ → Node) (d
     fits_before = fit;
     sets = refl;
     opens = (two.up_too, two.running_too);
-    alone = alone;
+    none = alone;
     writes = refl;
   }
 

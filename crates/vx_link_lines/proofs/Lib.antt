@@ -22,6 +22,7 @@ pub mod OverGroups
 pub mod PartLine
 pub mod PumpCalls
 pub mod PumpLine
+pub mod RawParts
 pub mod ReceiverLine
 pub mod SetLine
 pub mod SetLink

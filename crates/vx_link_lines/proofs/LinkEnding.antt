@@ -1,6 +1,6 @@
 -- What a line that makes a link leads a yard to, by how far its parts came.
 use Rattle.std.proofs.Common.{◌≡◌, ◌∙◌, inl, inr, ◌<◌, ◌*◌, ℕ, false, List, [], ◌∷◌, ap, sym, subst, refl, arith}
-use Rattle.std.specs.Prelude.{Result, Ok, Err, Some, slice_get}
+use Rattle.std.specs.Prelude.{Result, Ok, Err, Some, None, slice_get}
 use Rattle.vx_history.specs.Doubts.{Doubted, Runs}
 use Rattle.vx_history.specs.Step.{step}
 use Rattle.vx_history.specs.Steps.{worked_on}
@@ -29,7 +29,6 @@ use Rattle.vx_diskset.specs.declared.disk_set.DiskSet.{DiskSet}
 use Rattle.vx_events.specs.Fails.{Fails}
 use Rattle.vx_events.specs.Facts.{site_number}
 use Rattle.vx_events.specs.Fuses.{MayPass, header_calls}
-use Rattle.vx_events.specs.GroupLines.{is_over_group}
 use Rattle.vx_events.specs.LinkEnds.{LinkEnds, LinkReplies, LinksDone, link_noted}
 use Rattle.vx_events.specs.LinkLists.{link_events, link_parts}
 use Rattle.vx_events.specs.LinksFit.{LinksFit}
@@ -70,22 +69,22 @@ module _ {R : Type 0} {g : Ghosts R} where
     abbrev pub HeadsJoin : Type 0
     HeadsJoin =
         (d : Doubted) (note : (ℕ → Node) → ℕ → Node) → NotesAt s note → StandsFor (noted_by note d) old → LinksFit d → s < d.world.sites
-        → is_over_group (d.world.nodes p) ≡ false → is_over_group (d.world.nodes s) ≡ false → (step d.world (LinkAt p s sync FailsWhenFull Joins)).said ≡ IsDone → states.joined ≡ state_with (joined_to (d.world.nodes p) p (d.world.nodes s)) [] → HeadedSo note d (LinkAt p s sync FailsWhenFull Joins) s old new result
+        → (d.world.nodes p).group ≡ None → (d.world.nodes s).group ≡ None → (step d.world (LinkAt p s sync FailsWhenFull Joins)).said ≡ IsDone → states.joined ≡ state_with (joined_to (d.world.nodes p) p (d.world.nodes s)) [] → HeadedSo note d (LinkAt p s sync FailsWhenFull Joins) s old new result
 
     abbrev pub HeadsMade : Type 0
     HeadsMade =
-        (d : Doubted) (note : (ℕ → Node) → ℕ → Node) → NotesAt p note → StandsFor (noted_by note d) old → LinksFit d → p < d.world.sites → is_over_group (d.world.nodes p) ≡ false → (d.world.nodes s).session ≡ states.session
+        (d : Doubted) (note : (ℕ → Node) → ℕ → Node) → NotesAt p note → StandsFor (noted_by note d) old → LinksFit d → p < d.world.sites → (d.world.nodes p).group ≡ None → (d.world.nodes s).session ≡ states.session
         → (step d.world (LinkAt p s sync FailsWhenFull Made)).said ≡ IsDone → states.made ≡ state_with (d.world.nodes p) (header_links (step d.world (LinkAt p s sync FailsWhenFull Made)).world p)
         → HeadedSo note d (LinkAt p s sync FailsWhenFull Made) p old new result
 
     abbrev pub HeadsMarked : Type 0
     HeadsMarked =
-        (d : Doubted) (note : (ℕ → Node) → ℕ → Node) → NotesAt s note → StandsFor (noted_by note d) old → LinksFit d → s < d.world.sites → is_over_group (d.world.nodes s) ≡ false → (step d.world (LinkAt p s sync FailsWhenFull Marked)).said ≡ IsDone
+        (d : Doubted) (note : (ℕ → Node) → ℕ → Node) → NotesAt s note → StandsFor (noted_by note d) old → LinksFit d → s < d.world.sites → (d.world.nodes s).group ≡ None → (step d.world (LinkAt p s sync FailsWhenFull Marked)).said ≡ IsDone
         → states.marked ≡ (let m : State = record (state_with (d.world.nodes s) (header_links d.world s)) { mark = Consistent } in m) → HeadedSo note d (LinkAt p s sync FailsWhenFull Marked) s old new result
 
     abbrev pub HeadsOpened : Type 0
     HeadsOpened =
-        (d : Doubted) (note : (ℕ → Node) → ℕ → Node) → NotesAt p note → StandsFor (noted_by note d) old → LinksFit d → p < d.world.sites → is_over_group (d.world.nodes p) ≡ false → (d.world.nodes p).safe ≡ states.last
+        (d : Doubted) (note : (ℕ → Node) → ℕ → Node) → NotesAt p note → StandsFor (noted_by note d) old → LinksFit d → p < d.world.sites → (d.world.nodes p).group ≡ None → (d.world.nodes p).safe ≡ states.last
         → (step d.world (LinkAt p s sync FailsWhenFull Opened)).said ≡ IsDone → states.opened ≡ state_with (d.world.nodes p) (header_links (step d.world (LinkAt p s sync FailsWhenFull Opened)).world p)
         → HeadedSo note d (LinkAt p s sync FailsWhenFull Opened) p old new result
 
@@ -192,6 +191,22 @@ module _ {R : Type 0} {g : Ghosts R} where
     pub below_three : (i : ℕ) → i < d.world.sites → i < (noted_by note three).world.sites
     below_three i below = chain.below_three d p s sync fit l.said i below
 
+    -- neither of the two notes a group then
+    pub raw_one : ((noted_by note one).world.nodes p).group ≡ None
+    raw_one =
+        ap (λ (n : Node). n.group) ((notes_both p s p (inl refl)).here one.world.nodes)
+        ∙ ap (λ (n : Node). n.group) (chain.first_one d p s sync fit l.said) ∙ l.apart
+
+    pub raw_two : ((noted_by note two).world.nodes s).group ≡ None
+    raw_two =
+        ap (λ (n : Node). n.group) ((notes_both p s s (inr refl)).here two.world.nodes)
+        ∙ ap (λ (n : Node). n.group) (chain.second_two d p s sync fit l.said) ∙ l.apart_too
+
+    pub raw_three : ((noted_by note three).world.nodes p).group ≡ None
+    raw_three =
+        ap (λ (n : Node). n.group) ((notes_both p s p (inl refl)).here three.world.nodes)
+        ∙ ap (λ (n : Node). n.group) (chain.first_three d p s sync fit l.said) ∙ l.apart
+
     -- ---- the second site joins
 
     called_one : (new : Yard R g) (result : Result (Unit {0}) Said) → HeadsJoin p s sync states old new result → HeadedSo note d joins s old new result
@@ -222,7 +237,7 @@ module _ {R : Type 0} {g : Ghosts R} where
     called_two : (mid new : Yard R g) (result : Result (Unit {0}) Said) → Comes one mid → HeadsMade p s sync states mid new result → HeadedSo note one makes p mid new result
     called_two mid new result before call =
         call one note (notes_both p s p (inl refl)) before.stands (chain.fit_one d p s sync fit l.said) (chain.below_one d p s sync fit l.said p l.below)
-        (ap is_over_group (chain.first_one d p s sync fit l.said) ∙ l.apart)
+        (ap (λ (n : Node). n.group) (chain.first_one d p s sync fit l.said) ∙ l.apart)
         (ap (λ (n : Node). n.session) (chain.second_one d p s sync fit l.said) ∙ sym l.are.session) (chain.said_two d p s sync fit l.said)
         (chain.made_is d p s sync fit l.said states.made states.session l.are.made)
 
@@ -251,7 +266,7 @@ module _ {R : Type 0} {g : Ghosts R} where
     called_three : (mid new : Yard R g) (result : Result (Unit {0}) Said) → Comes two mid → HeadsMarked p s sync states mid new result → HeadedSo note two marks s mid new result
     called_three mid new result before call =
         call two note (notes_both p s s (inr refl)) before.stands (chain.fit_two d p s sync fit l.said) (chain.below_two d p s sync fit l.said s l.below_too)
-        (ap is_over_group (chain.second_two d p s sync fit l.said) ∙ l.apart_too) (chain.said_three d p s sync fit l.said)
+        (ap (λ (n : Node). n.group) (chain.second_two d p s sync fit l.said) ∙ l.apart_too) (chain.said_three d p s sync fit l.said)
         (chain.marked_is d p s sync fit l.said states.marked l.are.marked)
 
     pub comes_three : (mid new : Yard R g) → Comes two mid → HeadsMarked p s sync states mid new (Ok tt) → Comes three new
@@ -279,7 +294,7 @@ module _ {R : Type 0} {g : Ghosts R} where
     called_four : (mid new : Yard R g) (result : Result (Unit {0}) Said) → Comes three mid → HeadsOpened p s sync states mid new result → HeadedSo note three opening p mid new result
     called_four mid new result before call =
         call three note (notes_both p s p (inl refl)) before.stands (chain.fit_three d p s sync fit l.said) (chain.below_three d p s sync fit l.said p l.below)
-        (ap is_over_group (chain.first_three d p s sync fit l.said) ∙ l.apart)
+        (ap (λ (n : Node). n.group) (chain.first_three d p s sync fit l.said) ∙ l.apart)
         (ap (λ (n : Node). n.safe) (chain.first_three d p s sync fit l.said) ∙ sym l.are.last) (chain.said_four d p s sync fit l.said)
         (chain.opened_is d p s sync fit l.said states.opened states.session states.last l.are.last l.are.opened)
 
@@ -318,7 +333,7 @@ module _ {R : Type 0} {g : Ghosts R} where
     -- what the call of the first part promises of the fuse of its site
     abbrev pub CallsJoin : Yard R g → Result (Unit {0}) Said → Type 0
     CallsJoin new result =
-        (e : Doubted) (noting : (ℕ → Node) → ℕ → Node) → NotesAt s noting → StandsFor (noted_by noting e) old → LinksFit e → s < e.world.sites → is_over_group (e.world.nodes s) ≡ false
+        (e : Doubted) (noting : (ℕ → Node) → ℕ → Node) → NotesAt s noting → StandsFor (noted_by noting e) old → LinksFit e → s < e.world.sites → (e.world.nodes s).group ≡ None
         → (step e.world (LinkAt p s sync FailsWhenFull Joins)).said ≡ IsDone → OfSite (HeadUnder 2 (part_said result)) s old new
 
     pub under_one : (new : Yard R g) (result : Result (Unit {0}) Said) → CallsJoin new result → BothSites (UnderJoined (part_said result)) p s old new

@@ -23,6 +23,8 @@ use Rattle.vx_events.proofs.Refused.{passes}
 use Rattle.vx_events.specs.Facts.{seat_of, site_number}
 use Rattle.vx_events.specs.GroupLines.{is_over_group}
 use Rattle.vx_events.specs.LinkedFacts.{linked_fact, links_by, links_of_site}
+use Rattle.vx_events.specs.RvgLinks.{links_rvg}
+use Rattle.vx_events.specs.RvgSteps.{over_rvg_at}
 use Rattle.vx_events.specs.StepsOver.{refused_over}
 use Rattle.vx_linked.proofs.Finding.{seat_found}
 use Rattle.vx_link_lines.specs.Linking.{AreLinkStates, IsLinking}
@@ -32,6 +34,7 @@ use Rattle.vx_yard.specs.Yards.{in_files}
 use Rattle.vx_link_lines.specs.declared.linking.LinkStates.{LinkStates}
 use Rattle.vx_yard.specs.declared.yard.Yard.{Yard}
 use Rattle.vx_link_lines.proofs.AllDurable.{durable_for}
+use Rattle.vx_link_lines.proofs.RawParts.{first_off, none_seat, second_off}
 use Rattle.vx_yard.proofs.LinkLines.{listed}
 use Rattle.vx_yard.proofs.NamedSite.{PlaceAt, place_at}
 
@@ -77,5 +80,21 @@ module _ {R : Type 0} {g : Ghosts R} (d : Doubted) (old : Yard R g) (first secon
   pub link_links : (f : SiteFacts) → f ≡ linked_fact w p → f.links ≡ links_of_site w p
   link_links f is = ap (λ (x : SiteFacts). x.links) is ∙ ap (λ (t : SiteState). links_by t (links_of_site w p)) link_two.up
 
-  pub links_it : (states : LinkStates) → AreLinkStates w p s sync states → IsLinking d first second p s sync states
-  links_it states are = record { below = here.below; below_too = there.below; apart = link_apart; apart_too = link_apart_too; number = here.number; number_too = there.number; said = link_said; are = are }
+  module _ (off : links_rvg w (Link first second sync prot) ≡ false) where
+    abbrev is_first : Bool
+    is_first = over_rvg_at w first
+
+    abbrev is_second : Bool
+    is_second = over_rvg_at w second
+
+    pub links_it : (states : LinkStates) → AreLinkStates w p s sync states → IsLinking d first second p s sync states
+    links_it states are = record {
+      below = here.below;
+      below_too = there.below;
+      apart = none_seat d old first p stands seat link_apart (first_off is_first is_second off);
+      apart_too = none_seat d old second s stands seat_too link_apart_too (second_off is_first is_second off);
+      number = here.number;
+      number_too = there.number;
+      said = link_said;
+      are = are;
+    }

@@ -70,6 +70,9 @@ use Rattle.vx_events.proofs.Steps.{no_sites}
 use Rattle.vx_diskset.specs.Stands.{KeepsRole, SiteStands}
 use Rattle.vx_diskset.specs.declared.disk_set.DiskSet.{DiskSet}
 use Rattle.vx_diskset.specs.declared.receivers.Reached.{Reached}
+use Rattle.vx_events.specs.RvgViews.{is_over_rvg}
+use Rattle.vx_yard.proofs.RawSites.{raw_told}
+use Rattle.vx_yard.proofs.OverGroup.{raw_set}
 use Rattle.vx_yard.specs.Carries.{Carries}
 use Rattle.vx_yard.specs.Standing.{Leads, StandsFor}
 use Rattle.vx_yard.specs.Writes.{noted_facts}
@@ -181,7 +184,8 @@ module _ {R : Type 0} {g : Ghosts R} where
     pub assemblies : new.assemblies.items ≡ old.assemblies.items
     pub feeders : new.feeders.items ≡ old.feeders.items
 
-  module _ (d : Doubted) (old new : Yard R g) (name : List ℕ) (count s : ℕ) (before after : DiskSet R g) (stands : StandsFor d old) (here : CanApplyAt d old name s) (changed : Changed old new s before after) (keeps : KeepsRole before after) (receives : is_origin (d.world.nodes s).role ≡ false) where
+  module _ (d : Doubted) (old new : Yard R g) (name : List ℕ) (count s : ℕ) (before after : DiskSet R g) (stands : StandsFor d old) (here : CanApplyAt d old name s) (changed : Changed old new s before after) (keeps : KeepsRole before after) (receives : is_origin (d.world.nodes s).role ≡ false)
+      (off : is_over_rvg (d.world.nodes s) ≡ false) where
     abbrev n : Node
     n = d.world.nodes s
 
@@ -258,7 +262,9 @@ module _ {R : Type 0} {g : Ghosts R} where
         let ev : (let es : List Event = ApplyAt k count 0 ∷ [] in es) ≡ ApplyAt s count 0 ∷ [] = ap (λ (i : ℕ). let es : List Event = ApplyAt i count 0 ∷ [] in es) here.seat.number in
         let within = slice_get_within old.disk_sets.items s before changed.there in
         let lacks : IsTold new → MOST_NUMBER ≤ most_stamp_at d.world s + waiting_of n
-        = λ told. let far = is.1 (told.each s after (ap (λ es. slice_get es s) changed.disk_sets ∙ get-set_same old.disk_sets.items s after within)) in omega (arith, far) in
+        = λ told.
+        let far = is.1 (raw_told after (raw_set (beside_of d s) (worked n) after is.2 off)
+        (told.each s after (ap (λ es. slice_get es s) changed.disk_sets ∙ get-set_same old.disk_sets.items s after within))) in omega (arith, far) in
         record {
           next = e;
           fails = [];

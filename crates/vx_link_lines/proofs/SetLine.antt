@@ -50,7 +50,9 @@ use Rattle.vx_events.specs.Sayings.{RepeatsSaid}
 use Rattle.vx_events.specs.declared.said.Said.{Said}
 use Rattle.vx_events.specs.declared.said.Said.TheVariants.{Done, Refused}
 use Rattle.vx_linked.proofs.PartFacts.{sets}
+use Rattle.vx_link_lines.proofs.RawParts.{none_seat}
 use Rattle.vx_link_lines.specs.Headed.{NextFor, behind, noted_by}
+use Rattle.vx_events.specs.RvgSteps.{over_rvg_at}
 use Rattle.vx_yard.specs.Standing.{Leads, StandsFor}
 use Rattle.vx_yard.specs.Working.{IsFree}
 use Rattle.vx_yard.specs.Writes.{noted_facts}
@@ -77,7 +79,8 @@ set_open w p s sync said =
     (λ _. Tests.site_ends Q w none s (at_work w p led) (λ _. Tests.work_ends Q w none p led (λ up runs _. (up, runs)))) said
 
 module _ {R : Type 0} {g : Ghosts R} (d : Doubted) (old : Yard R g) (first second : List ℕ) (sync : SyncMode) (free_prot : Prot) (s q : ℕ) (before : DiskSet R g) (stands : StandsFor d old)
-    (free : IsFree old (Set first second sync free_prot)) (seat : seat_of old.facts.items first ≡ Some s) (seat_too : seat_of old.facts.items second ≡ Some q) (at : slice_get old.disk_sets.items s ≡ Some before) where
+    (free : IsFree old (Set first second sync free_prot)) (seat : seat_of old.facts.items first ≡ Some s) (seat_too : seat_of old.facts.items second ≡ Some q) (at : slice_get old.disk_sets.items s ≡ Some before)
+    (off : over_rvg_at d.world first ≡ false) where
   abbrev n : Node
   n = d.world.nodes s
 
@@ -136,7 +139,7 @@ module _ {R : Type 0} {g : Ghosts R} (d : Doubted) (old : Yard R g) (first secon
       fits_before = stands.links;
       sets = refl;
       opens = set_opens;
-      alone = set_alone;
+      none = none_seat d old first s stands seat set_alone off;
       writes = refl;
     };
     role = refl;

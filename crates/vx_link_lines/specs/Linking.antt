@@ -1,5 +1,5 @@
 -- What the headers of two logs keep behind each part of a line that links a site to another.
-use Rattle.std.specs.Prelude.{◌≡◌, ◌<◌, ◌++◌, ◌∷◌, [], ℕ, false, List}
+use Rattle.std.specs.Prelude.{◌≡◌, ◌<◌, ◌++◌, ◌∷◌, [], ℕ, List, None}
 use Rattle.vx_model.specs.declared.link.Prot.TheVariants.{Fail as FailsWhenFull}
 use Rattle.vx_model.specs.declared.link.SyncMode.{SyncMode}
 use Rattle.vx_model.specs.declared.site.Mark.TheVariants.{Consistent}
@@ -16,7 +16,6 @@ use Rattle.vx_srlfmt.specs.Headers.{CanSpellState}
 use Rattle.vx_diskset.specs.Holds.{header_links, state_with}
 use Rattle.vx_effects.specs.LinkParts.{kept_over}
 use Rattle.vx_events.specs.Facts.{site_number}
-use Rattle.vx_events.specs.GroupLines.{is_over_group}
 use Rattle.vx_linked.specs.Making.{fresh_link, kept_plain, opened_link}
 use Rattle.vx_link_lines.specs.declared.linking.LinkStates.{LinkStates}
 
@@ -48,8 +47,8 @@ pub record AreLinkStates (w : World) (p s : ℕ) (sync : SyncMode) (states : Lin
 pub record IsLinking (d : Doubted) (first second : List ℕ) (p s : ℕ) (sync : SyncMode) (states : LinkStates) : Type 0 where
   pub below : p < d.world.sites
   pub below_too : s < d.world.sites
-  pub apart : is_over_group (d.world.nodes p) ≡ false
-  pub apart_too : is_over_group (d.world.nodes s) ≡ false
+  pub apart : (d.world.nodes p).group ≡ None
+  pub apart_too : (d.world.nodes s).group ≡ None
   pub number : site_number d.world first ≡ p
   pub number_too : site_number d.world second ≡ s
   pub said : (step d.world (LinkAt p s sync FailsWhenFull Joins)).said ≡ IsDone

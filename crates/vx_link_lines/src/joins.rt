@@ -1,5 +1,5 @@
 // The first part of a line that makes a link: a site comes to the line of another one.
-ghost use Rattle.std.specs.Prelude.{◌≡◌, ◌<◌, [], ℕ, false, IfOk, Some, length, slice_get};
+ghost use Rattle.std.specs.Prelude.{◌≡◌, ◌<◌, [], ℕ, IfOk, Some, length, slice_get, None};
 ghost use Rattle.vx_model.specs.declared.limits.TheConstants.{MOST_SITES};
 ghost use Rattle.vx_model.specs.declared.link.Prot.TheVariants.{Fail as FailsWhenFull};
 ghost use Rattle.vx_model.specs.declared.link.SyncMode.{SyncMode as SyncValue};
@@ -14,7 +14,6 @@ ghost use Rattle.vx_order.specs.declared.facts.SiteFacts.{SiteFacts as SiteValue
 ghost use Rattle.vx_srlfmt.specs.Headers.{CanSpellState};
 ghost use Rattle.vx_diskset.specs.Asked.{HeadUnder, SameFailing};
 ghost use Rattle.vx_diskset.specs.Holds.{state_with};
-ghost use Rattle.vx_events.specs.GroupLines.{is_over_group};
 ghost use Rattle.vx_events.specs.LinksFit.{LinksFit};
 ghost use Rattle.vx_link_lines.specs.Headed.{HeadedSo, NotesAt, noted_by, part_said};
 ghost use Rattle.vx_yard.specs.OfSites.{OfSite};
@@ -49,12 +48,12 @@ pub(crate) fn join_site<R: Rack>(
     requires disk_set { there < length yard.old.disk_sets.items }
     requires state { CanSpellState state.now }
     ensures heads { (d : Doubted) (note : (ℕ → Node) → ℕ → Node) (sync : SyncValue) → NotesAt there note → StandsFor (noted_by note d) yard.old → LinksFit d → there < d.world.sites
-        → is_over_group (d.world.nodes here) ≡ false → is_over_group (d.world.nodes there) ≡ false → (step d.world (LinkAt here there sync FailsWhenFull Joins)).said ≡ IsDone → state.now ≡ state_with (joined (d.world.nodes here) here (d.world.nodes there)) []
+        → (d.world.nodes here).group ≡ None → (d.world.nodes there).group ≡ None → (step d.world (LinkAt here there sync FailsWhenFull Joins)).said ≡ IsDone → state.now ≡ state_with (joined (d.world.nodes here) here (d.world.nodes there)) []
         → HeadedSo note d (LinkAt here there sync FailsWhenFull Joins) there yard.old yard.new result }
     ensures asked { (d : Doubted) → StandsFor d yard.old → there < d.world.sites → OfSite SameFailing there yard.old yard.new }
     // It is one header, and no other call.
     ensures called { (d : Doubted) (note : (ℕ → Node) → ℕ → Node) (sync : SyncValue) → NotesAt there note → StandsFor (noted_by note d) yard.old → LinksFit d → there < d.world.sites
-        → is_over_group (d.world.nodes there) ≡ false → (step d.world (LinkAt here there sync FailsWhenFull Joins)).said ≡ IsDone → OfSite (HeadUnder 2 (part_said result)) there yard.old yard.new }
+        → (d.world.nodes there).group ≡ None → (step d.world (LinkAt here there sync FailsWhenFull Joins)).said ≡ IsDone → OfSite (HeadUnder 2 (part_said result)) there yard.old yard.new }
     ensures links { IfOk result (λ done. (k : ℕ) (a b : SiteValue) → slice_get yard.old.facts.items k ≡ Some a → slice_get yard.new.facts.items k ≡ Some b → b.links ≡ a.links) }
     ensures many { length yard.new.facts.items ≡ length yard.old.facts.items }
     ensures disk_sets { length yard.new.disk_sets.items ≡ length yard.old.disk_sets.items }

@@ -1,5 +1,5 @@
 // The parts of the line that links a site to another. Each is durable before the next.
-ghost use Rattle.std.specs.Prelude.{◌≡◌, ◌<◌, [], ℕ, false, Some, length, slice_get};
+ghost use Rattle.std.specs.Prelude.{◌≡◌, ◌<◌, [], ℕ, None, Some, length, slice_get};
 ghost use Rattle.vx_model.specs.declared.limits.TheConstants.{LINK_PLACES};
 ghost use Rattle.vx_model.specs.declared.link.Prot.TheVariants.{Fail as FailsWhenFull};
 ghost use Rattle.vx_model.specs.declared.link.SyncMode.{SyncMode as SyncValue};
@@ -14,7 +14,6 @@ ghost use Rattle.vx_order.specs.declared.facts.SiteFacts.{SiteFacts as SiteValue
 ghost use Rattle.vx_srlfmt.specs.Headers.{CanSpellState};
 ghost use Rattle.vx_diskset.specs.Asked.{HeadUnder, SameFailing};
 ghost use Rattle.vx_diskset.specs.Holds.{header_links, state_with};
-ghost use Rattle.vx_events.specs.GroupLines.{is_over_group};
 ghost use Rattle.vx_events.specs.LinksFit.{LinksFit};
 ghost use Rattle.vx_link_lines.specs.Headed.{HeadedSo, NotesAt, noted_by, part_said};
 ghost use Rattle.vx_yard.specs.OfSites.{OfSite};
@@ -48,11 +47,11 @@ pub(crate) fn make_link<R: Rack>(
     requires few { (site : SiteValue) → slice_get yard.old.facts.items here ≡ Some site → length site.links < LINK_PLACES }
     requires state { CanSpellState state.now }
     ensures heads { (d : Doubted) (note : (ℕ → Node) → ℕ → Node) → NotesAt here note → StandsFor (noted_by note d) yard.old → LinksFit d → here < d.world.sites
-        → is_over_group (d.world.nodes here) ≡ false → (d.world.nodes there).session ≡ session → (step d.world (LinkAt here there sync FailsWhenFull Made)).said ≡ IsDone
+        → (d.world.nodes here).group ≡ None → (d.world.nodes there).session ≡ session → (step d.world (LinkAt here there sync FailsWhenFull Made)).said ≡ IsDone
         → state.now ≡ state_with (d.world.nodes here) (header_links (step d.world (LinkAt here there sync FailsWhenFull Made)).world here)
         → HeadedSo note d (LinkAt here there sync FailsWhenFull Made) here yard.old yard.new result }
-    ensures asked { (d : Doubted) → StandsFor d yard.old → here < d.world.sites → OfSite SameFailing here yard.old yard.new }
-    ensures called { (d : Doubted) → StandsFor d yard.old → here < d.world.sites → OfSite (HeadUnder 2 (part_said result)) here yard.old yard.new }
+    ensures asked { (d : Doubted) → StandsFor d yard.old → here < d.world.sites → (d.world.nodes here).group ≡ None → OfSite SameFailing here yard.old yard.new }
+    ensures called { (d : Doubted) → StandsFor d yard.old → here < d.world.sites → (d.world.nodes here).group ≡ None → OfSite (HeadUnder 2 (part_said result)) here yard.old yard.new }
     ensures many { length yard.new.facts.items ≡ length yard.old.facts.items }
     ensures disk_sets { length yard.new.disk_sets.items ≡ length yard.old.disk_sets.items }
     ensures flight { yard.new.flight ≡ yard.old.flight }
@@ -82,10 +81,10 @@ pub(crate) fn mark_site<R: Rack>(
     requires disk_set { there < length yard.old.disk_sets.items }
     requires state { CanSpellState state.now }
     ensures heads { (d : Doubted) (note : (ℕ → Node) → ℕ → Node) (here : ℕ) (sync : SyncValue) → NotesAt there note → StandsFor (noted_by note d) yard.old → LinksFit d → there < d.world.sites
-        → is_over_group (d.world.nodes there) ≡ false → (step d.world (LinkAt here there sync FailsWhenFull Marked)).said ≡ IsDone → state.now ≡ record (state_with (d.world.nodes there) (header_links d.world there)) { mark = Consistent }
+        → (d.world.nodes there).group ≡ None → (step d.world (LinkAt here there sync FailsWhenFull Marked)).said ≡ IsDone → state.now ≡ record (state_with (d.world.nodes there) (header_links d.world there)) { mark = Consistent }
         → HeadedSo note d (LinkAt here there sync FailsWhenFull Marked) there yard.old yard.new result }
-    ensures asked { (d : Doubted) → StandsFor d yard.old → there < d.world.sites → OfSite SameFailing there yard.old yard.new }
-    ensures called { (d : Doubted) → StandsFor d yard.old → there < d.world.sites → OfSite (HeadUnder 2 (part_said result)) there yard.old yard.new }
+    ensures asked { (d : Doubted) → StandsFor d yard.old → there < d.world.sites → (d.world.nodes there).group ≡ None → OfSite SameFailing there yard.old yard.new }
+    ensures called { (d : Doubted) → StandsFor d yard.old → there < d.world.sites → (d.world.nodes there).group ≡ None → OfSite (HeadUnder 2 (part_said result)) there yard.old yard.new }
     ensures many { length yard.new.facts.items ≡ length yard.old.facts.items }
     ensures disk_sets { length yard.new.disk_sets.items ≡ length yard.old.disk_sets.items }
     ensures flight { yard.new.flight ≡ yard.old.flight }
@@ -117,11 +116,11 @@ pub(crate) fn open_link<R: Rack>(
     requires disk_set { here < length yard.old.disk_sets.items }
     requires state { CanSpellState state.now }
     ensures heads { (d : Doubted) (note : (ℕ → Node) → ℕ → Node) (sync : SyncValue) → NotesAt here note → StandsFor (noted_by note d) yard.old → LinksFit d → here < d.world.sites
-        → is_over_group (d.world.nodes here) ≡ false → (d.world.nodes here).safe ≡ last → (step d.world (LinkAt here there sync FailsWhenFull Opened)).said ≡ IsDone
+        → (d.world.nodes here).group ≡ None → (d.world.nodes here).safe ≡ last → (step d.world (LinkAt here there sync FailsWhenFull Opened)).said ≡ IsDone
         → state.now ≡ state_with (d.world.nodes here) (header_links (step d.world (LinkAt here there sync FailsWhenFull Opened)).world here)
         → HeadedSo note d (LinkAt here there sync FailsWhenFull Opened) here yard.old yard.new result }
-    ensures asked { (d : Doubted) → StandsFor d yard.old → here < d.world.sites → OfSite SameFailing here yard.old yard.new }
-    ensures called { (d : Doubted) → StandsFor d yard.old → here < d.world.sites → OfSite (HeadUnder 2 (part_said result)) here yard.old yard.new }
+    ensures asked { (d : Doubted) → StandsFor d yard.old → here < d.world.sites → (d.world.nodes here).group ≡ None → OfSite SameFailing here yard.old yard.new }
+    ensures called { (d : Doubted) → StandsFor d yard.old → here < d.world.sites → (d.world.nodes here).group ≡ None → OfSite (HeadUnder 2 (part_said result)) here yard.old yard.new }
     ensures many { length yard.new.facts.items ≡ length yard.old.facts.items }
     ensures disk_sets { length yard.new.disk_sets.items ≡ length yard.old.disk_sets.items }
     ensures flight { yard.new.flight ≡ yard.old.flight }

@@ -9,6 +9,7 @@ ghost use Rattle.vx_script.specs.declared.line.ScriptLine.TheVariants.{Link};
 ghost use Rattle.vx_diskset.specs.Holds.{beside_of};
 ghost use Rattle.vx_diskset.specs.Stands.{SiteStands};
 ghost use Rattle.vx_events.specs.GroupLines.{is_over_group};
+ghost use Rattle.vx_events.specs.RvgLinks.{links_rvg};
 ghost use Rattle.vx_events.specs.LinkedFacts.{links_of_site};
 ghost use Rattle.vx_link_lines.specs.Linking.{AreLinkStates, AreSpelled, IsLinking};
 ghost use Rattle.vx_yard.specs.BothSites.{BothSites, LinkBurns};
@@ -159,10 +160,10 @@ pub(crate) fn link_line<R: Rack>(
 ) -> Result<Said, OutOfMemory>
     requires kept { IsYardKept yard.old }
     requires free { (prot : Prot) × IsFree yard.old (Link first.now second.now sync prot) }
-    ensures leads { (d : Doubted) (prot : Prot) → StandsFor d yard.old → LeadsIs d (Link first.now second.now sync prot) yard.old yard.new result }
-    ensures asked { (d : Doubted) (prot : Prot) → StandsFor d yard.old → AsAsked d.world (Link first.now second.now sync prot) yard.old yard.new }
+    ensures leads { (d : Doubted) (prot : Prot) → StandsFor d yard.old → links_rvg d.world (Link first.now second.now sync prot) ≡ false → LeadsIs d (Link first.now second.now sync prot) yard.old yard.new result }
+    ensures asked { (d : Doubted) (prot : Prot) → StandsFor d yard.old → links_rvg d.world (Link first.now second.now sync prot) ≡ false → AsAsked d.world (Link first.now second.now sync prot) yard.old yard.new }
     // It writes two headers at each of its sites, and touches no third.
-    ensures called { (d : Doubted) (prot : Prot) → StandsFor d yard.old → IfOk result (λ said. HasCalled d.world (Link first.now second.now sync prot) said yard.old yard.new) }
+    ensures called { (d : Doubted) (prot : Prot) → StandsFor d yard.old → links_rvg d.world (Link first.now second.now sync prot) ≡ false → IfOk result (λ said. HasCalled d.world (Link first.now second.now sync prot) said yard.old yard.new) }
     ensures flight { yard.new.flight ≡ yard.old.flight }
     ensures told { IsTold yard.new → IsTold yard.old }
     ensures files { in_files yard.new ≡ in_files yard.old }

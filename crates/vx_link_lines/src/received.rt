@@ -5,6 +5,7 @@ ghost use Rattle.vx_diskset.specs.Holds.{KeptBeside};
 ghost use Rattle.vx_diskset.specs.Stands.{SiteStands};
 ghost use Rattle.vx_events.specs.Facts.{seat_of};
 ghost use Rattle.vx_events.specs.GroupLines.{is_over_group};
+ghost use Rattle.vx_events.specs.RvgSteps.{is_for_rvg};
 ghost use Rattle.vx_history.specs.Doubts.{Doubted};
 ghost use Rattle.vx_history.specs.Sends.{packets_of};
 ghost use Rattle.vx_history.specs.World.{DataAck as AcksFromDisk, Node, Packet};
@@ -72,10 +73,10 @@ pub(crate) fn apply_received<R: Rack>(
 ) -> Result<Said, OutOfMemory>
     requires kept { IsYardKept yard.old }
     requires free { IsFree yard.old (Apply name.now count) }
-    ensures leads { (d : Doubted) (s : ℕ) → StandsFor d yard.old → Carries d yard.old → seat_of yard.old.facts.items name.now ≡ Some s → is_origin (d.world.nodes s).role ≡ false
+    ensures leads { (d : Doubted) (s : ℕ) → StandsFor d yard.old → is_for_rvg d.world (Apply name.now count) ≡ false → Carries d yard.old → seat_of yard.old.facts.items name.now ≡ Some s → is_origin (d.world.nodes s).role ≡ false
         → LeadsIs d (Apply name.now count) yard.old yard.new result }
-    ensures asked { (d : Doubted) → StandsFor d yard.old → AsAsked d.world (Apply name.now count) yard.old yard.new }
-    ensures called { (d : Doubted) → StandsFor d yard.old → IfOk result (λ said. HasCalled d.world (Apply name.now count) said yard.old yard.new) }
+    ensures asked { (d : Doubted) → StandsFor d yard.old → is_for_rvg d.world (Apply name.now count) ≡ false → AsAsked d.world (Apply name.now count) yard.old yard.new }
+    ensures called { (d : Doubted) → StandsFor d yard.old → is_for_rvg d.world (Apply name.now count) ≡ false → IfOk result (λ said. HasCalled d.world (Apply name.now count) said yard.old yard.new) }
     ensures told { IsTold yard.new → IsTold yard.old }
     ensures files { in_files yard.new ≡ in_files yard.old }
 {

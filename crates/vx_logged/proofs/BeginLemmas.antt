@@ -15,7 +15,8 @@ use Rattle.vx_group.specs.declared.group_core.GroupCore.{GroupCore}
 use Rattle.vx_group.proofs.DetachLemmas.{zero_bit}
 use Rattle.vx_grouplogs.specs.Covering.{OnLogs}
 use Rattle.vx_grouplogs.specs.Gone.{LogsDrop}
-use Rattle.vx_grouplogs.specs.On.{ReadsOne, VolumeOn}
+use Rattle.vx_grouplogs.specs.On.{VolumeOn}
+use Rattle.vx_group.specs.Settles.{ReadsOne}
 use Rattle.vx_grouplogs.proofs.GoneLemmas.{drops_of}
 use Rattle.vx_grouplogs.proofs.KnowActs.{know_logs, logs_off_plex}
 use Rattle.vx_grouplogs.proofs.MapLemmas.{goes_logs, maps_logs}

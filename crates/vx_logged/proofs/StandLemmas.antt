@@ -24,7 +24,7 @@ use Rattle.vx_layout.proofs.Placing.{sound_apart}
 use Rattle.vx_volume.specs.Plexes.{DisksFit, InRun, Inside}
 use Rattle.vx_volume.proofs.PlaceLemmas.{has_of}
 use Rattle.vx_groupmaps.specs.Knowing.{MapsKnowBy}
-use Rattle.vx_groupmaps.specs.Missing.{none_spared}
+use Rattle.vx_groupmaps.specs.Missing.{OnMaps, none_spared}
 use Rattle.vx_volume.specs.Volumes.{OnPlexes}
 use Rattle.vx_group.specs.Calls.{GroupNarrows}
 use Rattle.vx_group.specs.Holding.{GroupStands, active_at, config_by, wide}
@@ -38,11 +38,15 @@ use Rattle.vx_grouplogs.specs.Covering.{AllAlike, OnLogs}
 use Rattle.vx_grouplogs.specs.Keeps.{KeepsGroup}
 use Rattle.vx_grouplogs.specs.Marking.{MarksFewer, MarksOnly, NoMarks}
 use Rattle.vx_model.specs.Sizes.{regions_of as regions_in}
-use Rattle.vx_grouplogs.specs.On.{ReadsOne, VolumeOn}
-use Rattle.vx_grouplogs.proofs.KnowActs.{know_acts, know_idle, know_logs}
+use Rattle.vx_grouplogs.specs.On.{VolumeOn}
+use Rattle.vx_group.specs.Settles.{ReadsOne}
+use Rattle.vx_grouplogs.proofs.KnowActs.{know_acts, know_idle, know_logs, logs_off_plex}
 use Rattle.vx_grouplogs.proofs.LogPlaces.{logs_above}
 use Rattle.vx_grouplogs.proofs.OnLemmas.{on_acts, spares_marked, spares_none, spares_other}
 use Rattle.vx_logged.specs.Logged.{EachOn, KnownBy, LogOn, MayWrite, Narrowed, OthersOn}
+use Rattle.vx_group.specs.Finds.{GroupFinds}
+use Rattle.vx_group.proofs.FindingLemmas.{idle_group}
+use Rattle.vx_grouplogs.proofs.MapLemmas.{goes_logs}
 
 -- ---- calls that write no block of a plex or a log
 
@@ -93,7 +97,23 @@ module _ (c d : GroupCore) (m m' : Meaning) (stands : GroupStands c m) (narrows 
     on = narrows.wide_on;
   }
 
--- ---- calls on a log, where no plex is held back
+-- ---- calls on a log
+
+-- no plex that is ACTIVE is written
+pub wide_idle : (core : GroupCore) (v : ℕ) (m m' : Meaning) → GroupStands core m → Goes (OnLogs (wide core).config v) m m' → FindsFrom NoConfiguration m m' → GroupFinds core core m m'
+wide_idle core v m m' stands goes finds =
+    idle_group core m m' stands.stands
+    (record {
+      each = λ w p b y on inside left.
+          ⊎_elim (λ was. was) (λ put. absurd (logs_off_plex (wide core).config (sound_of (wide core) m stands.stands) v w p b y (has_of (wide core).config w p b on inside) put)) (goes.leaves _ _ y left);
+    })
+    goes.falls finds
+
+-- the same of its maps
+pub wide_maps_idle : (core : GroupCore) (v : ℕ) (m m' : Meaning) → GroupStands core m → Goes (OnMaps (wide core).config v) m m' → FindsFrom NoConfiguration m m' → GroupFinds core core m m'
+wide_maps_idle core v m m' stands goes finds = wide_idle core v m m' stands (goes_logs (wide core).config v m m' goes) finds
+
+-- ---- where no plex is held back
 
 module _ (core : GroupCore) (v : ℕ) (m m' : Meaning) (none : core.held ≡ None) (stands : GroupStands core m) where
   pub config_is : (wide core).config ≡ core.inner.config
@@ -129,6 +149,12 @@ module _ (core : GroupCore) (v : ℕ) (m m' : Meaning) (none : core.held ≡ Non
   logs_finds goes before after =
       let wide_goes : Goes (OnLogs (wide core).config v) m m' = subst (λ (c : Config). Goes (OnLogs c v) m m') (sym config_is) goes in
       low_finds (wide core) (OnLogs (wide core).config v) m m' wide_goes (logs_above (wide core).config (sound_of (wide core) m stands.stands) v) before after stands.stands
+
+  pub logs_idle : Goes (OnLogs core.inner.config v) m m' → Lawful m → Lawful m' → GroupFinds core core m m'
+  logs_idle goes before after = wide_idle core v m m' stands (subst (λ (c : Config). Goes (OnLogs c v) m m') (sym config_is) goes) (logs_finds goes before after)
+
+  pub maps_idle : Goes (OnMaps core.inner.config v) m m' → FindsFrom NoConfiguration m m' → GroupFinds core core m m'
+  maps_idle goes finds = wide_maps_idle core v m m' stands (subst (λ (c : Config). Goes (OnMaps c v) m m') (sym config_is) goes) finds
 
   pub know_inner : (w : ℕ) (spare : ℕ → ℕ → Bool) (l : Logs) → KnownBy core w spare l m → MapsKnowBy core.inner.config w spare l m
   know_inner w spare l know = subst (λ (c : Config). MapsKnowBy c w spare l m) config_is know

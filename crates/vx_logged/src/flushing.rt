@@ -12,7 +12,7 @@ ghost use Rattle.vx_group.specs.Loses.{LosesAlong};
 ghost use Rattle.vx_group.specs.Stands.{inner_meaning};
 ghost use Rattle.vx_config.specs.Checks.{blocks_of as blocks_of_is};
 ghost use Rattle.vx_grouplogs.specs.Marking.{MarksFewer};
-ghost use Rattle.vx_grouplogs.specs.On.{ReadsOne};
+ghost use Rattle.vx_group.specs.Settles.{ReadsOne};
 ghost use Rattle.vx_logged.specs.Begun.{MapsBut, MapsOff, fell_in};
 ghost use Rattle.vx_logged.specs.Behind.{AreKept, BothKept, none_missing};
 ghost use Rattle.vx_logged.specs.Logged.{Known, LogOn, Narrowed, OthersOn, TrustsIn};

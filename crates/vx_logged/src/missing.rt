@@ -12,7 +12,7 @@ ghost use Rattle.vx_group.specs.Holding.{GroupStands, wide};
 ghost use Rattle.vx_group.specs.Loses.{LosesAlong};
 ghost use Rattle.vx_group.specs.Stands.{inner_meaning};
 ghost use Rattle.vx_grouplogs.specs.Marking.{MarksOnly};
-ghost use Rattle.vx_grouplogs.specs.On.{ReadsOne};
+ghost use Rattle.vx_group.specs.Settles.{ReadsOne};
 ghost use Rattle.vx_groupmaps.specs.Knowing.{MapsNote};
 ghost use Rattle.vx_logged.specs.Begun.{MapsBut, MapsOff, MapsOfRun, fell_in, fell_now, was_on};
 ghost use Rattle.vx_logged.specs.Behind.{AreKept, BothKept};

@@ -11,7 +11,7 @@ ghost use Rattle.vx_group.specs.Holding.{GroupStands, wide};
 ghost use Rattle.vx_group.specs.Loses.{LosesAlong};
 ghost use Rattle.vx_group.specs.Stands.{inner_meaning};
 ghost use Rattle.vx_grouplogs.specs.Marking.{MarksFewer, MarksOnly};
-ghost use Rattle.vx_grouplogs.specs.On.{ReadsOne};
+ghost use Rattle.vx_group.specs.Settles.{ReadsOne};
 ghost use Rattle.vx_logged.specs.Begun.{MapsBut, MapsOff, MapsOfRun, fell_in};
 ghost use Rattle.vx_logged.specs.Behind.{AreKept, BothKept, none_missing};
 ghost use Rattle.vx_logged.specs.Holds.{TheseHold};

@@ -12,7 +12,7 @@ ghost use Rattle.vx_group.specs.Loses.{LosesAlong};
 ghost use Rattle.vx_group.specs.Stands.{inner_meaning};
 ghost use Rattle.vx_config.specs.Checks.{blocks_of as blocks_of_is};
 ghost use Rattle.vx_grouplogs.specs.Marking.{MarksOnly};
-ghost use Rattle.vx_grouplogs.specs.On.{ReadsOne};
+ghost use Rattle.vx_group.specs.Settles.{ReadsOne};
 ghost use Rattle.vx_groupmaps.specs.Knowing.{MapsNote, or_off};
 ghost use Rattle.vx_groupmaps.specs.Missing.{none_spared, or_run};
 ghost use Rattle.vx_logged.specs.Begun.{MapsBut, MapsOfRun, ReadsBut, begun_in, fell_in};

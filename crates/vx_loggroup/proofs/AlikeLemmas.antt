@@ -19,7 +19,7 @@ use Rattle.vx_group.specs.declared.group_core.GroupCore.{GroupCore}
 use Rattle.vx_group.specs.declared.group_core.Held.{Held}
 use Rattle.vx_group.proofs.HoldLemmas.{wide_shape}
 use Rattle.vx_grouplogs.specs.Marking.{MarksFewer, MarksOnly}
-use Rattle.vx_grouplogs.specs.On.{ReadsOne}
+use Rattle.vx_group.specs.Settles.{ReadsOne}
 use Rattle.vx_groupmaps.specs.Missing.{none_spared}
 use Rattle.vx_logged.specs.Begun.{MapsBut, MapsOff, MapsOfRun}
 use Rattle.vx_logged.specs.Holds.{TheseHold}

@@ -40,7 +40,7 @@ module _ (c : GroupCore) (m new : Meaning) (stands : GroupStands c m) (it : Depo
   pub at_shape : SameShape at (wide c).config
   at_shape = alike_shape at it.behind.config (wide c).config refl (then_shape it.behind.config c.inner.config (wide c).config it.quiesces.shape (inner_wide c m stands))
 
-  at_acts : PlexActs Nothing (wide c).config at m new
+  pub at_acts : PlexActs Nothing (wide c).config at m new
   at_acts = record {
     acts = wider_Acts Nothing Nothing _ m new it.quiesces.acts (λ u b x none. none);
     shape = at_shape;

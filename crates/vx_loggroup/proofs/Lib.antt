@@ -39,3 +39,6 @@ pub mod ComesLemmas
 pub mod FollowLemmas
 pub mod GoingLemmas
 pub mod AttMoves
+pub mod SettledFacts
+pub mod DoubtLemmas
+pub mod UnsureGroups

@@ -39,7 +39,8 @@ use Rattle.vx_group.proofs.TrustingLemmas.{places_Goes}
 use Rattle.vx_groupmaps.specs.Knowing.{MapsKnow, MapsKnowBy}
 use Rattle.vx_groupmaps.specs.Missing.{none_spared}
 use Rattle.vx_grouplogs.specs.Covering.{AllAlike, OnLogs}
-use Rattle.vx_grouplogs.specs.On.{ReadsOne, VolumeOn}
+use Rattle.vx_grouplogs.specs.On.{VolumeOn}
+use Rattle.vx_group.specs.Settles.{ReadsOne}
 use Rattle.vx_grouplogs.proofs.LogPlaces.{log_public, logs_beside}
 use Rattle.vx_grouplogs.proofs.OnCalls.{on_gone}
 use Rattle.vx_grouplogs.proofs.KnowActs.{know_none}

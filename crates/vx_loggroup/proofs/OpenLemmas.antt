@@ -30,7 +30,8 @@ use Rattle.vx_group.proofs.LoseLemmas.{along_same, then_along}
 use Rattle.vx_group.proofs.UnitLemmas.{goes_units, then_units}
 use Rattle.vx_grouplogs.specs.Covering.{AllAlike}
 use Rattle.vx_grouplogs.specs.Marking.{HoldsMany}
-use Rattle.vx_grouplogs.specs.On.{ReadsOne, VolumeOn}
+use Rattle.vx_grouplogs.specs.On.{VolumeOn}
+use Rattle.vx_group.specs.Settles.{ReadsOne}
 use Rattle.vx_grouplogs.proofs.KnowActs.{know_none}
 use Rattle.vx_groupmaps.specs.Missing.{none_spared}
 use Rattle.vx_kept.specs.Cleans.{is_unsure}
@@ -212,6 +213,7 @@ opens_by meaning moment old k law0 law can r it tells a mended resting ls m2 new
         (λ v. same_count k.core.config o.core.inner.config v ((settled_loses old (meaning moment) k law0 law can r it tells ls m2 new drls long goes law2 o.core fin.settles).loses.frames v) (settled_size old (meaning moment) k law0 law can r it tells ls m2 new drls long goes law2 o.core fin.settles v))
         (settled_size old (meaning moment) k law0 law can r it tells ls m2 new drls long goes law2 o.core fin.settles)
         (λ v l at. let low = slice_get_within ls v l at in let many = it.logs.many in omega (arith, low, long, many));
+    sure = fin.sure;
   },
   fin.stands,
   fin.begins,

@@ -4,7 +4,8 @@ use Rattle.vx_config.specs.declared.config.Config.{Config}
 use Rattle.vx_disk.specs.Racks.{Alike}
 use Rattle.vx_disk.specs.Shelf.{Meaning, Values}
 use Rattle.vx_grouplogs.specs.Covering.{AllAlike}
-use Rattle.vx_grouplogs.specs.On.{ReadsOne, VolumeOn}
+use Rattle.vx_grouplogs.specs.On.{VolumeOn}
+use Rattle.vx_group.specs.Settles.{ReadsOne}
 use Rattle.vx_groupmaps.specs.Knowing.{MapsKnow}
 use Rattle.vx_group.specs.Holding.{GroupStands, wide}
 use Rattle.vx_group.specs.declared.group_core.GroupCore.{GroupCore}

@@ -22,7 +22,6 @@ use Rattle.vx_group.proofs.Standing.{fit_of, sound_of}
 use Rattle.vx_groupmaps.specs.Missing.{bit_in_maps}
 use Rattle.vx_groupmaps.proofs.KnowLemmas.{plex_below}
 use Rattle.vx_groupmaps.proofs.MapPlaces.{bit_low, region_low}
-use Rattle.vx_grouplogs.specs.On.{ReadsOne}
 use Rattle.vx_grouplogs.proofs.LogShape.{has_back, run_back}
 use Rattle.vx_kept.specs.Choice.{live}
 use Rattle.vx_kept.specs.Cleans.{at_serial, cleaned, is_unsure}
@@ -34,7 +33,8 @@ use Rattle.vx_kept.proofs.CleanLemmas.{AllClean, all_clean}
 use Rattle.vx_layout.specs.Places.{HasBlock, place, plex_at}
 use Rattle.vx_layout.proofs.Placing.{sound_apart}
 use Rattle.vx_logged.specs.Logged.{Known, LogOn}
-use Rattle.vx_logimport.specs.Rests.{AlikeRests, LivesAgree, MapsRest, MapsTell}
+use Rattle.vx_group.specs.Settles.{LivesAgree, ReadsOne}
+use Rattle.vx_logimport.specs.Rests.{AlikeRests, MapsRest, MapsTell}
 use Rattle.vx_logimport.proofs.RestLemmas.{in_use_trusts}
 use Rattle.vx_logs.specs.Held.{InUse}
 use Rattle.vx_logs.proofs.LogLemmas.{log_placed}

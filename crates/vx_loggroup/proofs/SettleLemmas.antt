@@ -1,5 +1,5 @@
 -- Logs of a group that are lost by commits, one after the other.
-use Rattle.std.proofs.Common.{◌≡◌, ◌⊎◌, ℕ, ◌<◌, ◌≤◌, Bool, true, List, length, sym, subst, arith}
+use Rattle.std.proofs.Common.{◌≡◌, ◌⊎◌, ℕ, ◌<◌, ◌≤◌, Bool, true, List, length, refl, sym, subst, arith}
 use Rattle.std.specs.Prelude.{Err}
 use Rattle.vx_disk.specs.Causes.{Cause, DeviceCause, refusal_of}
 use Rattle.vx_disk.specs.Shelf.{Meaning, Nothing}
@@ -12,7 +12,7 @@ use Rattle.vx_group.specs.Holding.{GroupStands, wide}
 use Rattle.vx_group.specs.Stands.{inner_meaning}
 use Rattle.vx_group.specs.declared.group_core.GroupCore.{GroupCore}
 use Rattle.vx_group.specs.declared.inner.Inner.{Inner}
-use Rattle.vx_group.proofs.FindingLemmas.{still_group, then_group}
+use Rattle.vx_group.proofs.FindingLemmas.{as_finds, none_finds, still_group, then_group}
 use Rattle.vx_group.proofs.HoldLemmas.{wide_shape}
 use Rattle.vx_group.proofs.LoseLemmas.{along_none, then_along}
 use Rattle.vx_group.proofs.MendLemmas.{same_Goes}
@@ -24,6 +24,9 @@ use Rattle.vx_model.specs.declared.no.No.{No}
 use Rattle.vx_loggroup.specs.LoggedVolumes.{LoggedStands}
 use Rattle.vx_loggroup.specs.Taking.{LogsSettle}
 use Rattle.vx_loggroup.proofs.AlikeLemmas.{all_whole}
+use Rattle.vx_group.specs.Finds.{MoreUnsure}
+use Rattle.vx_group.proofs.SettleCalls.{as_told, same_told}
+use Rattle.vx_loggroup.proofs.UnsureGroups.{with_unsure}
 
 pub settle_none : (c : GroupCore) (m : Meaning) → LogsSettle c c m m
 settle_none c m = record {
@@ -41,6 +44,21 @@ settle_then c d e m m1 m2 one two = record {
   loses = then_along c.inner.config d.inner.config e.inner.config m m1 m2 one.loses two.loses;
   finds = then_group c d e m m1 m2 one.finds two.finds;
   below = then_units m m1 m2 one.below two.below;
+}
+
+-- volumes are marked as unsure
+pub settle_marks : (c : GroupCore) (unsure : List Bool) (m : Meaning) → MoreUnsure c.inner.unsure unsure → LogsSettle c (with_unsure unsure c) m m
+settle_marks c unsure m more = record {
+  goes = same_Goes (inner_meaning (wide c) m);
+  narrow = (let same = narrowed_same c in record { shape = same.shape; less = same.less; on = same.on });
+  loses = along_none c.inner.config m;
+  finds = record {
+    core = as_finds (wide c) (wide c) (wide (with_unsure unsure c)) m m refl refl refl (none_finds (wide c) m);
+    settles = as_told (wide c) (wide c) (wide (with_unsure unsure c)) m m refl refl (same_told (wide c) m);
+    unsure = more;
+    free = λ none. none;
+  };
+  below = same_units m;
 }
 
 -- those of the first volumes were committed

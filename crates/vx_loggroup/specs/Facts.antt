@@ -13,7 +13,7 @@ use Rattle.vx_groupmaps.specs.Knowing.{MapsKnow}
 use Rattle.vx_group.specs.Holding.{GroupStands, wide}
 use Rattle.vx_group.specs.declared.group_core.GroupCore.{GroupCore}
 use Rattle.vx_grouplogs.specs.Covering.{DiskCovers, MemoryCovers}
-use Rattle.vx_grouplogs.specs.On.{ReadsOne}
+use Rattle.vx_group.specs.Settles.{ReadsOne}
 use Rattle.vx_kept.specs.LogRuns.{log_trusted}
 use Rattle.vx_logs.specs.Held.{LogsStand}
 use Rattle.vx_logs.specs.declared.logs.Logs.{Logs}

@@ -10,3 +10,4 @@ pub mod Resting
 pub mod Mirrors
 pub mod Keeping
 pub mod Moving
+pub mod Settled

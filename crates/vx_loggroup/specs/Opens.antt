@@ -23,6 +23,7 @@ use Rattle.vx_loggroup.specs.Marks.{MarksAreOff}
 use Rattle.vx_loggroup.specs.Moving.{MapsTaken}
 use Rattle.vx_loggroup.specs.Taking.{LogsSettle, MapsShrink, MapsWhy}
 use Rattle.vx_loggroup.specs.declared.opening.Opened.{Opened}
+use Rattle.vx_loggroup.specs.Settled.{SureFlags}
 
 -- Of the volumes whose plexes are alike no log has a region, unless logs are stopped. Since then only logs were written, and logs were lost by commits;
 -- each log stands, none of missed regions is in memory that was not, and the newest configuration is committed where the one before was.
@@ -35,6 +36,7 @@ pub record AreSettled (c : GroupCore) (logs : List Logs) (alike : List Bool) (ol
   pub off : o.stopped ≡ false → MarksAreOff (wide c).config alike (length o.logs.items) o.logs.items
   pub stands : LoggedStands o.core o.logs.items o.alike o.stopped new
   pub begins : FreshStands o.core o.fresh new
+  pub sure : SureFlags (length o.core.inner.config.volumes) o.core.inner.unsure o.alike
 
 -- refused, a group stands as it did, but for logs that are lost, and imports agree where the newest configuration was committed
 pub record NotSettled (c : GroupCore) (old new : Meaning) (stop : Stop) : Type 0 where
@@ -73,6 +75,7 @@ pub record IsOpened {S : Type 0} (meaning : S → Meaning) (rested : Rested) (ol
   pub off : ended ≡ false → MarksAreOff marked.core.config flags (length logs) logs
   pub maps : MapsWhy marked.good marked.core.config marked.stopped rested logs
   pub took : MapsTaken old core.inner.config logs
+  pub sure : SureFlags (length core.inner.config.volumes) core.inner.unsure flags
 
 -- how it ends, with each log standing
 abbrev pub OpensLogged : {S : Type 0} → (S → Meaning) → Rested → Meaning → Meaning → Result Opened Stop → Type 0

@@ -13,6 +13,7 @@ ghost use Rattle.vx_loggroup.specs.LoggedVolumes.{LoggedStands};
 ghost use Rattle.vx_model.specs.declared.errors.Stop.TheVariants.{No as Refused};
 ghost use Rattle.vx_model.specs.declared.no.No.{No as NoValue};
 ghost use Rattle.vx_volume.specs.Plexes.{active};
+ghost use Rattle.vx_group.specs.Settles.{CoreSettles};
 
 use vx_config::Config;
 use vx_disk::Shelf;
@@ -89,6 +90,7 @@ pub fn att_whole<S: Shelf>(
     ensures keeps { LogsKeep core.old core.new logs.now.items logs.now.items (S.meaning shelf.old) (S.meaning shelf.new) }
     ensures trust { OnOk result (core.old.inner.committed ≡ true → core.new.inner.committed ≡ true) }
     ensures finds { CoreFinds (wide core.old) (wide core.new) (S.meaning shelf.old) (S.meaning shelf.new) }
+    ensures settles { CoreSettles (wide core.old) (wide core.new) (S.meaning shelf.old) (S.meaning shelf.new) }
     ensures free { OnOk result (core.old.held ≡ None → core.new.held ≡ None) }
     ensures alone { active core.old.inner.config vol plex ≡ false → OnOk result (core.new.held ≡ None) }
     ensures cause { att_refusal core.old.inner.config vol plex ≡ None → DetStops (S.meaning shelf.old) (S.meaning shelf.new) result }

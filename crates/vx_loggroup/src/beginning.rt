@@ -8,7 +8,7 @@ ghost use Rattle.vx_group.specs.GivesUp.{FaultMisses};
 ghost use Rattle.vx_group.specs.Holding.{GroupStands, wide};
 ghost use Rattle.vx_group.specs.Stands.{inner_meaning};
 ghost use Rattle.vx_grouplogs.specs.Covering.{AllAlike};
-ghost use Rattle.vx_grouplogs.specs.On.{ReadsOne};
+ghost use Rattle.vx_group.specs.Settles.{ReadsOne};
 ghost use Rattle.vx_logged.specs.Logged.{Known, LogOn};
 ghost use Rattle.vx_loggroup.specs.Fresh.{LogsStart, FirstLogs, NewMaps};
 ghost use Rattle.vx_loggroup.specs.Keeping.{TrustsNew};

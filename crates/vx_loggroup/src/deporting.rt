@@ -1,6 +1,6 @@
 // A group with logs that is deported.
-ghost use Rattle.vx_group.specs.Finds.{GroupFinds};
-ghost use Rattle.std.specs.Prelude.{◌≡◌, ◌<◌, ◌≤◌, ◌-◌, IfErr, IfOk, IsTrue, OnOk, Err, Some, false, length, true};
+ghost use Rattle.vx_group.specs.Finds.{GroupImages};
+ghost use Rattle.std.specs.Prelude.{Err, IfErr, IfOk, IsTrue, OnOk, Some, false, length, true, ◌-◌, ◌<◌, ◌≡◌, ◌≤◌};
 ghost use Rattle.vx_config.specs.Table.{greatest};
 ghost use Rattle.vx_disk.specs.Shelf.{Goes, Nothing};
 ghost use Rattle.vx_group.specs.Calls.{GroupCloses};
@@ -17,6 +17,8 @@ ghost use Rattle.vx_model.specs.declared.errors.Stop.TheVariants.{No as Refused}
 ghost use Rattle.vx_model.specs.declared.limits.TheConstants.{MOST_VOLUMES};
 ghost use Rattle.vx_model.specs.declared.no.Counted.TheVariants.{Number as Numbers};
 ghost use Rattle.vx_model.specs.declared.no.No.TheVariants.{Limit};
+ghost use Rattle.vx_group.specs.Settles.{CoreSettles};
+ghost use Rattle.vx_loggroup.specs.Settled.{SureFlags};
 
 use crate::resting::rest_all;
 use vx_config::Config;
@@ -55,6 +57,7 @@ pub fn deport_whole<S: Shelf>(
     stopped: bool,
 ) -> Result<Option<Rested>, Stop>
     requires stands { LoggedStands core.old logs.now.items alike.now stopped (S.meaning shelf.old) }
+    requires sure { (IsTrue (S.meaning shelf.old).down → ⊥) → SureFlags (length core.old.inner.config.volumes) core.old.inner.unsure alike.now }
     ensures stands { IfErr result (λ e. LoggedStands core.new logs.now.items alike.now stopped (S.meaning shelf.new)) }
     ensures limit { greatest - margin < core.old.inner.config.serial → (result ≡ Err (Refused (Limit Numbers greatest))) × (core.new ≡ core.old) × (shelf.new ≡ shelf.old) }
     ensures ends { GroupCloses core.old core.new (S.meaning shelf.old) (S.meaning shelf.new) result }
@@ -65,7 +68,8 @@ pub fn deport_whole<S: Shelf>(
     ensures rests { IfOk result (λ r. RestsOr core.old.inner.config stopped logs.now.items alike.now r) }
     ensures trusts { IfErr result (λ e. TrustsStill core.old.inner.config core.new.inner.config) }
     ensures agreed { IfErr result (λ e. core.old.inner.committed ≡ true → core.new.inner.agreed ≡ true) }
-    ensures finds { IfErr result (λ e. GroupFinds core.old core.new (S.meaning shelf.old) (S.meaning shelf.new)) }
+    ensures finds { IfErr result (λ e. GroupImages core.old core.new (S.meaning shelf.old) (S.meaning shelf.new)) }
+    ensures settles { IfErr result (λ e. CoreSettles (wide core.old) (wide core.new) (S.meaning shelf.old) (S.meaning shelf.new)) }
     ensures cause { core.old.inner.config.serial ≤ greatest - margin → DetStops (S.meaning shelf.old) (S.meaning shelf.new) result }
 {
     let rested = rest_by(&core.inner.config, logs, alike, stopped);

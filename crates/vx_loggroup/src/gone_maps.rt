@@ -14,6 +14,7 @@ ghost use Rattle.vx_logged.specs.Behind.{MapSaid};
 ghost use Rattle.vx_loggroup.specs.Attaching.{fmr_at};
 ghost use Rattle.vx_loggroup.specs.Keeping.{LogsStay, logs_at};
 ghost use Rattle.vx_loggroup.specs.LoggedVolumes.{LoggedStands};
+ghost use Rattle.vx_group.specs.Settles.{CoreSettles};
 
 use crate::attaching::has_maps;
 use vx_config::{Config, VolumeLog};
@@ -63,6 +64,7 @@ pub fn lose_gone<S: Shelf>(
     ensures full { greatest ≤ core.old.inner.config.serial + COMMIT_SERIALS → core.new ≡ core.old }
     ensures trust { OnOk result (core.old.inner.committed ≡ true → core.new.inner.committed ≡ true) }
     ensures finds { CoreFinds (wide core.old) (wide core.new) (S.meaning shelf.old) (S.meaning shelf.new) }
+    ensures settles { CoreSettles (wide core.old) (wide core.new) (S.meaning shelf.old) (S.meaning shelf.new) }
     ensures free { OnOk result (core.new.held ≡ None) }
     ensures cause { DetStops (S.meaning shelf.old) (S.meaning shelf.new) result }
 {

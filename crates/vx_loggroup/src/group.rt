@@ -36,6 +36,7 @@ ghost use Rattle.vx_model.specs.declared.limits.TheConstants.{MOST_DISKS};
 ghost use Rattle.vx_model.specs.declared.no.No.{No as NoValue};
 ghost use Rattle.vx_model.specs.declared.no.No.TheVariants.{Size};
 ghost use Rattle.vx_volume.specs.Plexes.{active};
+ghost use Rattle.vx_loggroup.specs.Settled.{SettledFact};
 
 use crate::deporting::deport_whole;
 use crate::detached::det_fresh;
@@ -67,6 +68,7 @@ pub struct LoggedGroup<S: Shelf> {
     pub(crate) stopped: bool,
     pub(crate) ghost stands: { LoggedFact core logs.items alike stopped (S.meaning shelf) },
     pub(crate) ghost begins: { FreshStands core fresh (S.meaning shelf) },
+    pub(crate) ghost settles: { SettledFact core alike (S.meaning shelf) },
 }
 
 impl<S: Shelf> LoggedGroup<S> {
@@ -74,6 +76,7 @@ impl<S: Shelf> LoggedGroup<S> {
     ///
     /// Answers 4 exactly where a disk has fewer than 1,024 blocks, and then nothing has changed; else 7 only where the count of the disk
     /// that it names rose, and 6 only where the shelf is then down. Where none is made the shelf is handed back. It takes memory.
+    #[tactic(auto, using(crate::proofs::SettledFacts::settled_new))]
     pub fn create(alloc: Global, shelf: S, site: u32) -> Result<LoggedGroup<S>, (S, Stop)>
         requires some { 0 < (S.meaning shelf).units }
         requires few { (S.meaning shelf).units ≤ MOST_DISKS }
@@ -320,6 +323,7 @@ impl<S: Shelf> LoggedGroup<S> {
         ensures stopped { result.1.stopped ≡ self.stopped }
         ensures stands { LoggedStands result.1.core result.1.logs.items result.1.alike result.1.stopped (S.meaning result.0) }
         ensures begins { FreshStands result.1.core result.1.fresh (S.meaning result.0) }
+        ensures settles { SettledFact result.1.core result.1.alike (S.meaning result.0) }
     {
         (
             self.shelf,
@@ -337,6 +341,7 @@ impl<S: Shelf> LoggedGroup<S> {
     pub fn together(shelf: S, rest: Opened) -> LoggedGroup<S>
         requires stands { LoggedStands rest.core rest.logs.items rest.alike rest.stopped (S.meaning shelf) }
         requires begins { FreshStands rest.core rest.fresh (S.meaning shelf) }
+        requires settles { SettledFact rest.core rest.alike (S.meaning shelf) }
         ensures shelf { result.shelf ≡ shelf }
         ensures core { result.core ≡ rest.core }
         ensures logs { result.logs ≡ rest.logs }

@@ -14,6 +14,7 @@ mod crashing;
 mod deporting;
 mod detached;
 mod detaching;
+mod doubting;
 mod failed_maps;
 mod first;
 mod following;

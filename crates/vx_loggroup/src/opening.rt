@@ -11,6 +11,7 @@ ghost use Rattle.vx_logimport.specs.Rests.{LogsTell};
 ghost use Rattle.vx_logs.specs.declared.logs.Logs.{Logs as LogsValue};
 
 use crate::clearing::clear_all;
+use crate::doubting::doubt_all;
 use crate::losing::lose_all;
 use crate::taking::{alike_of, take_all};
 use std::alloc::Global;
@@ -35,7 +36,7 @@ pub struct Opened {
     pub stopped: bool,
 }
 
-// Takes the marks off the logs of the volumes whose plexes are alike, and commits as lost what is in memory no more.
+// Takes the marks off the logs of the volumes whose plexes are alike, and commits as lost what is in memory no more. Each other volume is unsure then.
 fn settle_logs<S: Shelf>(
     shelf: &mut S,
     core: GroupCore,
@@ -60,6 +61,7 @@ fn settle_logs<S: Shelf>(
     if shelf.is_down() {
         return Err(Stop::No(No::Down));
     }
+    doubt_all(&mut core.inner.unsure, &alike);
     Ok(Opened {
         core,
         logs,

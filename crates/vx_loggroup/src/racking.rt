@@ -8,6 +8,7 @@ ghost use Rattle.vx_group.specs.Holding.{wide};
 ghost use Rattle.vx_group.specs.Stands.{inner_meaning};
 ghost use Rattle.vx_loggroup.specs.Fresh.{FreshStands};
 ghost use Rattle.vx_loggroup.specs.LoggedVolumes.{LoggedStands};
+ghost use Rattle.vx_loggroup.specs.Settled.{SettledFact};
 
 use vx_disk::Rack;
 use vx_group::{GroupCore, fail_in, fuse_in};
@@ -28,8 +29,10 @@ pub fn fail_whole<R: Rack>(
     requires inside { disk < (R.meaning rack.old).units }
     requires stands { LoggedStands core.now logs.now.items alike.now stopped (R.meaning rack.old) }
     requires fresh { FreshStands core.now fresh.now (R.meaning rack.old) }
+    requires settles { SettledFact core.now alike.now (R.meaning rack.old) }
     ensures stands { LoggedStands core.now logs.now.items alike.now stopped (R.meaning rack.new) }
     ensures fresh { FreshStands core.now fresh.now (R.meaning rack.new) }
+    ensures settles { SettledFact core.now alike.now (R.meaning rack.new) }
     ensures goes { Goes Nothing (R.meaning rack.old) (R.meaning rack.new) }
     ensures alike { Alike (R.meaning rack.old) (R.meaning rack.new) }
     ensures down { (R.meaning rack.new).down ≡ (R.meaning rack.old).down }
@@ -55,8 +58,10 @@ pub fn fuse_whole<R: Rack>(
 )
     requires stands { LoggedStands core.now logs.now.items alike.now stopped (R.meaning rack.old) }
     requires fresh { FreshStands core.now fresh.now (R.meaning rack.old) }
+    requires settles { SettledFact core.now alike.now (R.meaning rack.old) }
     ensures stands { LoggedStands core.now logs.now.items alike.now stopped (R.meaning rack.new) }
     ensures fresh { FreshStands core.now fresh.now (R.meaning rack.new) }
+    ensures settles { SettledFact core.now alike.now (R.meaning rack.new) }
     ensures alike { Alike (R.meaning rack.old) (R.meaning rack.new) }
     ensures down { (R.meaning rack.new).down ≡ (R.meaning rack.old).down }
     ensures armed { IsTrue (R.meaning rack.new).armed }

@@ -8,7 +8,8 @@ use Rattle.vx_kept.specs.Groups.{found}
 use Rattle.vx_kept.proofs.Low.{found_same}
 use Rattle.vx_layout.specs.Places.{place}
 use Rattle.vx_logimport.specs.Covers.{DisksTell}
-use Rattle.vx_logimport.specs.Rests.{AlikeRests, LivesAgree, LogsTell, MapsTell, RestsNone, rests}
+use Rattle.vx_group.specs.Settles.{LivesAgree}
+use Rattle.vx_logimport.specs.Rests.{AlikeRests, LogsTell, MapsTell, RestsNone, rests}
 use Rattle.vx_logimport.specs.declared.rested.Rested.{Rested}
 use Rattle.vx_logimport.proofs.ToldLemmas.{cover_less, tells_less}
 

@@ -9,6 +9,7 @@ use Rattle.vx_config.specs.declared.entry.VolumeLog.TheVariants.{Fmr}
 use Rattle.vx_copyfmt.specs.Imports.{Found}
 use Rattle.vx_disk.specs.Shelf.{Each, Image, Meaning}
 use Rattle.vx_group.specs.Resumes.{stopped}
+use Rattle.vx_group.specs.Settles.{LivesAgree}
 use Rattle.vx_groupmaps.specs.Missing.{bit_in_maps}
 use Rattle.vx_kept.specs.Choice.{live}
 use Rattle.vx_kept.specs.Groups.{found}
@@ -21,11 +22,6 @@ use Rattle.vx_logimport.specs.declared.rested.Rested.{Rested}
 -- whether a volume is one of those
 abbrev pub rests : List Bool → ℕ → Bool
 rests flags v = slice_index_or flags v false
-
--- by a configuration: plexes that take part have one value in each block
-pub record LivesAgree (x : Config) (v : ℕ) (m : Meaning) : Type 0 where
-  pub so : (p q b : ℕ) (y z : List ℕ) → Inside x v b → IsTrue (live x v p) → IsTrue (live x v q)
-      → m.leaves (place x v p b).0 (place x v p b).1 y → m.leaves (place x v q b).0 (place x v q b).1 z → y ≡ z
 
 -- By a configuration: where the log of missed regions of a volume is in use, and does not say of a plex that it missed the region of a block, this plex,
 -- whatever its state, reads there as each plex that takes part; and a crash leaves of each block of the log one value. What a crash leaves of the plex may be

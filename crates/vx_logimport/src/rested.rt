@@ -29,6 +29,18 @@ impl Rested {
         }
     }
 
+    /// Of disks that were found, of which nothing is told: the plexes of each are alike, and no log of missed regions is taken up; each dirty region log may be read.
+    pub fn found() -> Rested
+        ensures alike { (v : ℕ) → v < MOST_VOLUMES → rests result.alike v ≡ true }
+        ensures drls { (v : ℕ) → v < MOST_VOLUMES → rests result.drls v ≡ true }
+    {
+        Rested {
+            alike: [true; MOST_VOLUMES],
+            maps: [false; MOST_VOLUMES],
+            drls: [true; MOST_VOLUMES],
+        }
+    }
+
     /// Of each.
     pub fn all() -> Rested
         ensures alike { (v : ℕ) → v < MOST_VOLUMES → rests result.alike v ≡ true }

@@ -2,13 +2,14 @@
 ghost use Rattle.std.specs.Prelude.{◌≡◌, ◌≤◌, ◌+◌, ◌*◌, ◌++◌, ◌∷◌, [], OnOk, codes, length};
 ghost use Rattle.std.specs.Fmt.{decimal};
 ghost use Rattle.vx_model.specs.Content.{block_of, blocks_in};
-ghost use Rattle.vx_yard.specs.Replies.{reply_text, blocks_text, kept_lines, recovered_text, resumed_text};
+ghost use Rattle.vx_yard.specs.Replies.{reply_text, blocks_text, came_up_text, kept_lines, recovered_text, resumed_text};
 
 use vx_events::Said;
 use vx_model::OutOfMemory;
 use vx_model::limits::BLOCK;
 use vx_report::{
-    Kept, SiteView, push_block, push_kept, push_number, push_refusal, push_status, push_text,
+    Kept, RvgView, SiteView, push_block, push_kept, push_number, push_refusal, push_status,
+    push_text,
 };
 
 /// Appends the lines of a reply.
@@ -54,9 +55,18 @@ fn push_recovered(out: &mut Vec<u8>, last: u64, view: &SiteView) -> Result<(), O
 fn push_resumed(out: &mut Vec<u8>, view: &SiteView, kept: &Option<Kept>) -> Result<(), OutOfMemory>
     ensures { OnOk result (out.new.items ≡ out.old.items ++ resumed_text view.now kept.now) }
 {
-    push_text(out, b"recovered\n")?;
+    push_came_up(out, &view.rvg)?;
     push_status(out, view)?;
     push_kept_lines(out, kept)
+}
+
+fn push_came_up(out: &mut Vec<u8>, rvg: &Option<RvgView>) -> Result<(), OutOfMemory>
+    ensures { OnOk result (out.new.items ≡ out.old.items ++ came_up_text rvg.now) }
+{
+    match rvg {
+        Some(rvg) => push_numbered(out, b"recovered ", rvg.head),
+        None => push_text(out, b"recovered\n"),
+    }
 }
 
 fn push_kept_lines(out: &mut Vec<u8>, kept: &Option<Kept>) -> Result<(), OutOfMemory>

@@ -1,5 +1,5 @@
 -- The tests of a further link.
-use Rattle.std.specs.Prelude.{ℕ, Bool, true, false, not, ◌&&◌, ◌||◌, ◌==◌, nat_le, List, [], ◌∷◌, Option, Some, None, if◌then◌else◌}
+use Rattle.std.specs.Prelude.{ℕ, Bool, true, false, not, ◌&&◌, ◌||◌, ◌==◌, nat_le, List, [], ◌∷◌, Option, Some, None, is_some, slice_get, if◌then◌else◌}
 use Rattle.vx_history.specs.Refusals.{is_primary}
 use Rattle.vx_model.specs.declared.history.Line.{Line}
 use Rattle.vx_model.specs.declared.limits.TheConstants.{MOST_LINKS}
@@ -75,10 +75,11 @@ same_sizes [] (y ∷ ys) = false
 same_sizes (x ∷ xs) [] = false
 same_sizes (x ∷ xs) (y ∷ ys) = x == y && same_sizes xs ys
 
+-- the first site has data volumes, and those of the second are as many and of the same sizes
 abbrev pub volumes_agree : Option SiteFacts → Option SiteFacts → Bool
 volumes_agree None second = false
 volumes_agree (Some first) None = false
-volumes_agree (Some first) (Some second) = same_sizes (data_sizes first.volumes) (data_sizes second.volumes)
+volumes_agree (Some first) (Some second) = is_some (slice_get (data_sizes first.volumes) 0) && same_sizes (data_sizes first.volumes) (data_sizes second.volumes)
 
 -- the second log holds 17 blocks, or as many as the first
 abbrev pub ring_fits : Option RvgFacts → Option RvgFacts → Bool

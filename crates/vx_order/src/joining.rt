@@ -139,7 +139,10 @@ fn agree(first: Option<&SiteFacts>, second: Option<&SiteFacts>) -> bool
 {
     match first {
         Some(first) => match second {
-            Some(second) => has_same_sizes(first.volumes.as_slice(), second.volumes.as_slice()),
+            Some(second) => {
+                let sizes = first.volumes.as_slice();
+                size_at(sizes, 0).is_some() && has_same_sizes(sizes, second.volumes.as_slice())
+            }
             None => false,
         },
         None => false,

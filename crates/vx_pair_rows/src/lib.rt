@@ -20,4 +20,6 @@ mod policy;
 #[cfg(test)]
 mod sender;
 #[cfg(test)]
+mod turning;
+#[cfg(test)]
 mod world;

@@ -1,11 +1,11 @@
 // Worked runs of two sites, event by event: what is said, and which packets are sent.
 use std::test::Fail;
-use vx_history::{Event, LinkPart, Said};
+use vx_history::{DataVolume, DataVolumes, Event, LinkPart, Said};
 use vx_model::{Blocks, Counted, Name, Named, No, OutOfMemory, Prot, SiteName, SyncMode};
 use vx_world::{World, step};
 
 // An event, what is said of it with its number, and the packets that it sends.
-type Row = (Event, &'static str, u64, Option<(u64, u64)>);
+pub(crate) type Row = (Event, &'static str, u64, Option<(u64, u64)>);
 
 // What is said, and the number in it: of a site, a packet or a write, or the first byte of blocks.
 fn say(said: &Said) -> (&'static str, u64) {
@@ -63,7 +63,7 @@ fn is_answered(world: &mut World, row: &Row) -> Result<bool, OutOfMemory> {
 }
 
 // The place of the first row that is answered otherwise.
-fn first_wrong(world: &mut World, rows: &[Row]) -> Result<Option<usize>, OutOfMemory> {
+pub(crate) fn first_wrong(world: &mut World, rows: &[Row]) -> Result<Option<usize>, OutOfMemory> {
     for at in 0..rows.len() {
         if !is_answered(world, &rows[at])? {
             return Ok(Some(at));
@@ -97,7 +97,7 @@ fn link(to: u32, sync: SyncMode, part: LinkPart) -> Row {
 }
 
 // Sites a and b, with a link from a to b that is connected.
-fn two_sites(blocks: u64, sync: SyncMode) -> [Row; 9] {
+pub(crate) fn two_sites(blocks: u64, sync: SyncMode) -> [Row; 9] {
     [
         site(b"a", blocks),
         raw(0),
@@ -111,7 +111,7 @@ fn two_sites(blocks: u64, sync: SyncMode) -> [Row; 9] {
     ]
 }
 
-fn put(start: u64, bytes: Blocks) -> Event {
+pub(crate) fn put(start: u64, bytes: Blocks) -> Event {
     Event::Write {
         site: 0,
         vol: 0,
@@ -121,7 +121,7 @@ fn put(start: u64, bytes: Blocks) -> Event {
     }
 }
 
-fn read(site: u32, start: u64) -> Event {
+pub(crate) fn read(site: u32, start: u64) -> Event {
     Event::Read {
         site,
         vol: 0,
@@ -134,7 +134,7 @@ fn wait(number: u64) -> Event {
     Event::Wait { site: 0, number }
 }
 
-fn recover(site: u32) -> Event {
+pub(crate) fn recover(site: u32) -> Event {
     Event::Recover { site, fails: None }
 }
 
@@ -148,7 +148,7 @@ const APPLY: Event = Event::Apply {
     reached: 0,
 };
 
-const PUMP: Event = Event::Pump { site: 0, to: 1 };
+pub(crate) const PUMP: Event = Event::Pump { site: 0, to: 1 };
 
 const TICK: Event = Event::Tick { site: 0, to: 1 };
 
@@ -207,7 +207,7 @@ fn a_receiver_that_crashes_forgets_what_it_acknowledged_from_memory(
 }
 
 // Writes of one, one and two blocks fill the log of ten.
-fn filling() -> [Row; 3] {
+pub(crate) fn filling() -> [Row; 3] {
     [
         (put(0, Blocks::filled(1, 1)), "done", 1, None),
         (put(1, Blocks::filled(1, 2)), "done", 2, None),
@@ -252,56 +252,6 @@ fn a_full_log_fails_writes_where_the_link_is_cut(rt: HostRuntime) -> Result<(), 
     let rows = [
         (CUT, "done", 0, None),
         (put(4, Blocks::filled(1, 4)), "logfull", 1, None),
-    ];
-    assert!(rt; first_wrong(&mut world, &rows)? == None);
-    Ok(())
-}
-
-// The link of a goes by a map where its log is full, or holds the log no more and then again.
-fn set(prot: Prot) -> Row {
-    let event = Event::Set {
-        site: 0,
-        to: 1,
-        sync: SyncMode::Off,
-        prot,
-    };
-    (event, "done", 0, None)
-}
-
-const DETACH: Event = Event::Detach { site: 0, to: 1 };
-
-const ATTACH: Event = Event::Attach { site: 0, to: 1 };
-
-#[test]
-fn a_full_log_turns_a_link_to_a_map(rt: HostRuntime) -> Result<(), Fail> {
-    let mut world = World::new(rt.alloc())?;
-    assert!(rt; first_wrong(&mut world, &two_sites(10, SyncMode::Off))? == None);
-    assert!(rt; first_wrong(&mut world, &[set(Prot::Autodcm)])? == None);
-    assert!(rt; first_wrong(&mut world, &filling())? == None);
-    let rows = [
-        (put(4, Blocks::filled(1, 4)), "done", 4, None),
-        (PUMP, "done", 0, None),
-        (put(5, Blocks::filled(2, 5)), "done", 5, None),
-        (Event::Crash { site: 0, kept: 5 }, "done", 0, None),
-        (recover(0), "recovered", 5, None),
-        (read(0, 6), "got", 5, None),
-    ];
-    assert!(rt; first_wrong(&mut world, &rows)? == None);
-    Ok(())
-}
-
-#[test]
-fn a_link_that_is_detached_holds_no_log(rt: HostRuntime) -> Result<(), Fail> {
-    let mut world = World::new(rt.alloc())?;
-    assert!(rt; first_wrong(&mut world, &two_sites(10, SyncMode::Off))? == None);
-    assert!(rt; first_wrong(&mut world, &filling())? == None);
-    let rows = [
-        (put(4, Blocks::filled(1, 4)), "stalled", 1, None),
-        (DETACH, "done", 0, None),
-        (put(4, Blocks::filled(1, 4)), "done", 4, None),
-        (ATTACH, "done", 0, None),
-        (PUMP, "done", 0, None),
-        (put(5, Blocks::filled(1, 5)), "done", 5, None),
     ];
     assert!(rt; first_wrong(&mut world, &rows)? == None);
     Ok(())
@@ -358,6 +308,9 @@ fn deported_sites_come_back(rt: HostRuntime) -> Result<(), Fail> {
         (Event::Deport { site: 0 }, "done", 0, None),
         (Event::Deport { site: 0 }, "no", 0, None),
         (Event::Group { site: 0 }, "role", 0, None),
+        (Event::Fall { site: 1 }, "role", 0, None),
+        (Event::Fall { site: 0 }, "done", 0, None),
+        (Event::Fall { site: 0 }, "role", 0, None),
         (put(1, Blocks::filled(1, 0x22)), "no", 0, None),
         (recover(0), "recovered", 1, None),
         (read(0, 0), "got", 0x11, None),
@@ -374,5 +327,47 @@ fn deported_sites_come_back(rt: HostRuntime) -> Result<(), Fail> {
         (recover(2), "recovered", 0, None),
     ];
     assert!(rt; first_wrong(&mut world, &rows)? == None);
+    Ok(())
+}
+
+// A group of disks gets a replicated volume group, with one data volume of 64 blocks.
+fn volumes(site: u32) -> Event {
+    let volume = DataVolume {
+        place: 2,
+        name: Name::new(b"v"),
+        blocks: 64,
+    };
+    Event::Volumes {
+        site,
+        log: 64,
+        volumes: DataVolumes::new(&[volume]),
+    }
+}
+
+#[test]
+fn groups_get_volumes(rt: HostRuntime) -> Result<(), Fail> {
+    let mut world = World::new(rt.alloc())?;
+    let rows = [
+        site(b"a", 64),
+        site(b"b", 64),
+        (volumes(0), "no", 0, None),
+        (Event::Group { site: 0 }, "done", 0, None),
+        (Event::Group { site: 1 }, "done", 0, None),
+        (link(1, SyncMode::Off, LinkPart::Joins).0, "no", 0, None),
+        (volumes(0), "done", 0, None),
+        (volumes(0), "role", 0, None),
+        (link(1, SyncMode::Off, LinkPart::Joins).0, "no", 0, None),
+        (volumes(1), "done", 0, None),
+        (read(0, 0), "got", 0, None),
+        (link(1, SyncMode::Off, LinkPart::Joins).0, "done", 0, None),
+        (volumes(1), "role", 0, None),
+        (put(0, Blocks::filled(1, 0x11)), "done", 1, None),
+        (Event::Crash { site: 0, kept: 0 }, "done", 0, None),
+        (volumes(0), "no", 0, None),
+        (Event::Group { site: 0 }, "role", 0, None),
+        (recover(0), "recovered", 1, None),
+        (read(0, 0), "got", 0x11, None),
+    ];
+    assert_eq!(rt; first_wrong(&mut world, &rows)?, None);
     Ok(())
 }

@@ -1,7 +1,7 @@
 -- Each call of the log, at each moment.
 use Rattle.std.proofs.Common.{◌≡◌, ◌⊎◌, inl, inr, ⊎_elim, ℕ, zero, suc, ◌+◌, ◌%◌, ◌<◌, ◌≤◌, List, [], ◌∷◌, ◌++◌, take, refl, sym, ◌∙◌, ap, subst, arith, append_assoc}
 use Rattle.std.proofs.Math.Nat.{mod-add-mod}
-use Rattle.vx_srlfmt.specs.Kinds.{Top}
+use Rattle.vx_srlfmt.specs.Kinds.{Front, Top}
 use Rattle.vx_srlfmt.specs.declared.header.Header.{Header}
 use Rattle.vx_ringlog.specs.Cells.{Act, Always, Cells, Flush, RingImage, IsImage, Leaves, Write, flush, run_all, write}
 use Rattle.vx_ringlog.specs.Records.{Era, Record, era_of}
@@ -130,6 +130,16 @@ ready_like size u e new_era p n new_number floor new_floor held staged same_era 
 pub tame_top : (e : Era) (n : ℕ) (g : Header) → TameValue e n (Top g)
 tame_top e n g = record { whole = λ is. cc; incarnation = λ r is. absurd cc; run = λ r is. absurd cc; fresh = λ r is i k. absurd cc }
 
+-- the headers are flushed behind them
+pub fronts_loose : (size : ℕ) (u : Cells) (p : ℕ) (ss : List Record) → (run_all u (fronts_of size p ss)).loose ≡ []
+fronts_loose size u p [] = refl
+fronts_loose size u p (s ∷ ss) = fronts_loose size (write u (block size p) (Front s.head)) (p + width s) ss
+
+-- what was staged is staged still
+never_none : (ss : List Record) (r : Record) → ss ++ r ∷ [] ≡ [] → ⊥
+never_none [] r is = cc
+never_none (s ∷ ss) r is = cc
+
 module _ (size : ℕ) (s : State) (log : IsLog size s) where
   abbrev Finds : RingImage → Type 0
   Finds i = (k : ℕ) × Scan size i (era_of s.header) s.base s.header.low s.header.floor (s.held ++ take k s.staged) × Bounded i (era_of s.header)
@@ -156,7 +166,7 @@ module _ (size : ℕ) (s : State) (log : IsLog size s) where
       (last_le (era_of s.header) (next s.header.low s.held) (last s.header.floor s.held) s.staged log.ready.staged_fits (last_le (era_of s.header) s.header.low s.header.floor s.held log.ready.fits log.ready.floor_below)) log.ready in
       let ring = ring_bodies size (suc (after (after s.base s.held) s.staged)) r.body in (
         counted Finds (Found size s (Stage r)) s.here s.other s.header (λ i count finds. inl (old i count finds)) s.unit (acts_of size s (Stage r)) ring log.heads all.0,
-        record { ready = all.1; heads = heads_run s.unit s.here s.other s.header (acts_of size s (Stage r)) ring log.heads; place = log.place; origin = log.origin },
+        record { ready = all.1; heads = heads_run s.unit s.here s.other s.header (acts_of size s (Stage r)) ring log.heads; place = log.place; origin = log.origin; still = λ none. absurd (never_none s.staged r none) },
       )
 
   seal_safe : Always (Leaves (Found size s Seal)) s.unit (acts_of size s Seal) × IsLog size (behind_call size s Seal)
@@ -169,6 +179,7 @@ module _ (size : ℕ) (s : State) (log : IsLog size s) where
           heads = heads_run s.unit s.here s.other s.header (acts_of size s Seal) ring log.heads;
           place = log.place;
           origin = λ r is. ⊎_elim (log.origin r) (λ new. inr (now_in (era_of s.header) r s.staged log.ready.now new)) (in_append r s.held s.staged is);
+          still = λ none. fronts_loose size (flush s.unit) (after s.base s.held) s.staged;
         },
       )
 
@@ -220,6 +231,7 @@ module _ (size : ℕ) (s : State) (log : IsLog size s) where
           heads = heads_written s.unit s.here s.other s.header g log.heads may.stamp;
           place = may.place;
           origin = λ r is. subst (λ (x : Era). In r s.found ⊎ (r.incarnation ≡ x.incarnation)) (sym may.era) (log.origin r (subst (λ (l : List Record). In r l) (sym may.split) (in_behind r gone kept is)));
+          still = λ none. refl;
         },
       )
 
@@ -263,6 +275,7 @@ module _ (size : ℕ) (s : State) (log : IsLog size s) where
           heads = heads_written s.unit s.here s.other s.header g log.heads may.stamp;
           place = refl;
           origin = λ r is. absurd is;
+          still = λ none. refl;
         },
       )
 

@@ -1,15 +1,13 @@
 -- A log at rest.
-use Rattle.std.proofs.Common.{◌≡◌, inl, ⊎_elim, ℕ, zero, suc, ◌+◌, List, [], ◌∷◌, ◌++◌, take, refl, ◌∙◌, ap, subst}
+use Rattle.std.proofs.Common.{◌≡◌, inl, ⊎_elim, ℕ, zero, suc, List, [], ◌∷◌, ◌++◌, take, refl, ◌∙◌, ap, subst}
 use Rattle.std.proofs.lemmas.List.{append-nil}
-use Rattle.vx_srlfmt.specs.Kinds.{Front}
-use Rattle.vx_ringlog.specs.Cells.{Cells, flush, run_all, write}
+use Rattle.vx_ringlog.specs.Cells.{flush}
 use Rattle.vx_ringlog.specs.Records.{Record}
-use Rattle.vx_ringlog.specs.Chain.{Recovers, block, width}
+use Rattle.vx_ringlog.specs.Chain.{Recovers}
 use Rattle.vx_ringlog.specs.Ready.{after}
-use Rattle.vx_ringlog.specs.Acts.{fronts_of}
 use Rattle.vx_ringlog.specs.Logs.{Seal}
 use Rattle.vx_ringlog.specs.Runs.{NothingLoose, RestIsStill}
-use Rattle.vx_ringlog.proofs.Calls.{call_safe}
+use Rattle.vx_ringlog.proofs.Calls.{call_safe, fronts_loose}
 
 take_none : (k : ℕ) (ss : List Record) → ss ≡ [] → take k ss ≡ []
 take_none zero ss is = refl
@@ -22,10 +20,6 @@ rest_is_still size s log none =
     (λ (o : (k : ℕ) × Recovers size s.unit.stable s.header (s.held ++ take k s.staged)). subst (λ (l : List Record). Recovers size s.unit.stable s.header l) (ap (λ (l : List Record). s.held ++ l) (take_none o.0 s.staged none) ∙ append-nil s.held) o.1)
     (λ no_call. absurd no_call)
     ((call_safe size s Seal log tt).0.0 s.unit.stable (λ b. inl refl))
-
-fronts_loose : (size : ℕ) (u : Cells) (p : ℕ) (ss : List Record) → (run_all u (fronts_of size p ss)).loose ≡ []
-fronts_loose size u p [] = refl
-fronts_loose size u p (s ∷ ss) = fronts_loose size (write u (block size p) (Front s.head)) (p + width s) ss
 
 pub nothing_loose : NothingLoose
 nothing_loose size s = (fronts_loose size (flush s.unit) (after s.base s.held) s.staged, (λ g gone kept. refl), (λ g. refl))

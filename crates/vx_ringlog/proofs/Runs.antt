@@ -162,6 +162,7 @@ made_safe size head i h g m = (
       };
       place = ap (λ (x : ℕ). block size x) (sym m.place);
       origin = λ r is. absurd is;
+      still = λ none. refl;
     },
     ([], refl),
     refl,

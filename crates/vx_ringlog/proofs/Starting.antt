@@ -162,6 +162,7 @@ first_header size i here other h g rs stands rec raises =
         heads = heads2;
         place = refl;
         origin = λ r is. inl is;
+        still = λ none. refl;
       },
     )
 

@@ -25,12 +25,13 @@ pub record State : Type 0 where
   pub staged : List Record
   pub found : List Record
 
--- the log stands: each held record was found by the last start or made since it
+-- the log stands: each held record was found by the last start or made since it; and while nothing is staged no block has a value that was not flushed
 pub record IsLog (size : ℕ) (s : State) : Type 0 where
   pub ready : ReadyRing size s.unit (era_of s.header) s.base s.header.low s.header.floor s.held s.staged
   pub heads : Heads s.unit s.here s.other s.header
   pub place : block size s.base ≡ block size s.header.place
   pub origin : (r : Record) → In r s.held → In r s.found ⊎ (r.incarnation ≡ s.header.incarnation)
+  pub still : s.staged ≡ [] → s.unit.loose ≡ []
 
 -- `Save` is a change of the state, or a reclaim: the header's low number moves behind the first of the two lists into which what is held falls
 pub data Call : Type 0 where

@@ -134,7 +134,7 @@ has_maps_beside mine units maps m i apart keeps beside = has_maps units maps m i
 -- and behind it
 pub maps_moved : (mine : Blocks) (P : Says) (units : Units) (maps : List (List ℕ)) (m m' : Meaning) → Moves mine P m m' → ((b : ℕ) → mine units.maps b → ⊥) → KeepsMaps units maps m → KeepsMaps units maps m'
 maps_moved mine P units maps m m' moves apart keeps = record {
-  size = keeps.size ∙ sym (moves.size units.maps);
+  size = (let least = keeps.size in let same = moves.size units.maps in omega (arith, least, same));
   each = λ b bytes there. kept_beside mine P m m' moves units.maps b (apart b) bytes (keeps.each b bytes there);
 }
 

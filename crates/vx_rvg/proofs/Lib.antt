@@ -9,6 +9,7 @@ pub mod CommitCalls
 pub mod ContentFacts
 pub mod EmptyStands
 pub mod FetchGives
+pub mod LeftRest
 pub mod MakeStands
 pub mod MapStands
 pub mod MarkAbove

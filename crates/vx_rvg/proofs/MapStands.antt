@@ -1,7 +1,5 @@
 -- The change maps that were read are those of the map unit.
-use Rattle.std.proofs.Common.{◌≡◌, ◌∙◌, ℕ, ◌+◌, ◌*◌, ◌/◌, ◌<◌, ◌≤◌, Bool, true, false, List, [], length, get_or, Some, IsTrue, IsFalse, refl, sym, ap, subst, arith}
-use Rattle.std.specs.Prelude.{slice_get}
-use Rattle.std.proofs.lemmas.Option.{slice_get-get_or}
+use Rattle.std.proofs.Common.{◌≡◌, ℕ, ◌+◌, ◌*◌, ◌/◌, ◌<◌, ◌≤◌, Bool, true, false, List, length, IsTrue, IsFalse, refl, sym, subst, arith}
 use Rattle.vx_model.specs.Content.{block_of}
 use Rattle.vx_model.specs.declared.limits.TheConstants.{LINK_PLACES}
 use Rattle.vx_model.specs.declared.no.No.{No}
@@ -13,7 +11,7 @@ use Rattle.vx_disk.specs.Maps.{maps_of}
 use Rattle.vx_disk.specs.Moves.{Anything, Moves, Run}
 use Rattle.vx_disk.specs.Shelf.{Goes, Lawful, Meaning, Nothing}
 use Rattle.vx_disk.proofs.Moving.{then_goes}
-use Rattle.vx_bitmap.specs.Maps.{IsRead, Lies, map_block_count}
+use Rattle.vx_bitmap.specs.Maps.{IsRead, Lies}
 use Rattle.vx_dcm.specs.Places.{DcmLoaded, Maps, MapsFit}
 use Rattle.vx_srl.specs.Starts.{IsNewLog}
 use Rattle.vx_srl.specs.Views.{Log}
@@ -43,7 +41,7 @@ loaded_lies units d m placed loaded = record {
 -- the blocks of the map unit behind a call that writes nothing
 pub maps_rest : (units : Units) (maps : List (List ℕ)) (m m' : Meaning) → Goes Nothing m m' → KeepsMaps units maps m → KeepsMaps units maps m'
 maps_rest units maps m m' goes keeps = record {
-  size = keeps.size ∙ sym (goes.size units.maps);
+  size = (let least = keeps.size in let same = goes.size units.maps in omega (arith, least, same));
   each = λ b bytes there. keeps_rest m m' goes units.maps b bytes (keeps.each b bytes there);
 }
 
@@ -52,21 +50,14 @@ maps_rest units maps m m' goes keeps = record {
 -- what a read gave of each block is what the unit keeps
 pub marks_read : (units : Units) (d : Maps) (maps : List (List ℕ)) (m : Meaning) → Lawful m → UnitsPlaced units m → IsTrue m.tells → DcmLoaded units m d → KeepsMaps units maps m → IsRead d.map m → HasMarks d maps
 marks_read units d maps m lawful placed tells loaded keeps read = record {
-  each = λ k low.
-      let lies = loaded_lies units d m placed loaded in
-      let there : k < length maps
-      = below k d.map.first (map_block_count d.map) (m.size d.map.unit) (m.size units.maps) (length maps) low lies.within (ap (λ (u : ℕ). m.size u) loaded.unit) keeps.size in
-      let is : slice_get maps k ≡ Some (get_or maps k []) = slice_get-get_or maps k [] there in
+  each = λ k bytes low is.
       let left : m.leaves d.map.unit (d.map.first + k) (block_of d.map.bytes k) = lawful.shown d.map.unit (d.map.first + k) (block_of d.map.bytes k) (read.each tells k low) in
       let here : m.leaves units.maps k (block_of d.map.bytes k)
       = subst (λ (b : ℕ). m.leaves units.maps b (block_of d.map.bytes k)) (from_first d.map.first k loaded.first)
       (subst (λ (u : ℕ). m.leaves u (d.map.first + k) (block_of d.map.bytes k)) loaded.unit left) in
-      is ∙ ap (λ (x : List ℕ). Some x) (sym ((keeps.each k (get_or maps k []) is).only (block_of d.map.bytes k) here));
+      sym ((keeps.each k bytes is).only (block_of d.map.bytes k) here);
 }
   where
-    below : (k first blocks here there long : ℕ) → k < blocks → first + blocks ≤ here → here ≡ there → long ≡ there → k < long
-    below k first blocks here there long low within same size = omega (arith, low, within, same, size)
-
     from_first : (first k : ℕ) → first ≡ 0 → first + k ≡ k
     from_first first k none = omega (arith, none)
 

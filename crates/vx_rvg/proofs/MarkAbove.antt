@@ -73,8 +73,8 @@ module _ (core : Core) (size : ℕ → ℕ) (slot n : ℕ) (kept : Kept) (there 
     moves_above m m' moves =
         wider (map_run core) (map_run core) (Marking core own true m) (Marking core (IsPlaceAbove core size slot above) true m) m m' moves (λ u b run. run)
         (λ i beside marking. record {
-          each = λ h stands.
-              let got = marking.each h stands in
+          each = λ h stands all.
+              let got = marking.each h stands all in
               (got.0, record { long = got.1.long; rest = got.1.rest; marks = record { each = λ r lt. ⊎_elim (λ same. inl same) (λ set. inr (here r set.0, set.1)) (got.1.marks.each r lt) } }, got.2);
         })
 

@@ -12,7 +12,7 @@ use Rattle.vx_dcm.specs.Places.{DcmLoaded, IsPlaceOfSlots, Maps, SlotsMarked, So
 use Rattle.vx_dcm.proofs.SlotMarks.{slots_all}
 use Rattle.vx_rvg.specs.Commits.{Committing, HasStaged, StageIs, Stages, number_refusal}
 use Rattle.vx_rvg.specs.Holdings.{Holding, with_writes}
-use Rattle.vx_rvg.specs.Marks.{Marks, blocks_over, map_run, with_marks}
+use Rattle.vx_rvg.specs.Marks.{HasAllMaps, Marks, blocks_over, map_run, with_marks}
 use Rattle.vx_rvg.specs.StagedMarks.{MarkedCommitting, StagedMarking, StagedRemarks}
 use Rattle.vx_rvg.specs.Stands.{FoundAs}
 use Rattle.vx_rvg.specs.Views.{Core}
@@ -74,10 +74,10 @@ module _ (core c1 : Core) (is : c1 ≡ record core { maps = c1.maps }) where
 
     -- it stands behind what was staged, with the marks
     pub staged_marks : (x : Write) (m : Meaning) → StagedRemarks core c1 m mid → OnOk r ((xs : List Write) (h : Holding) → HasStaged xs c1 h mid → HasStaged (xs ++ x ∷ []) c2 h m')
-        → OnOk r ((xs : List Write) (h : Holding) → HasStaged xs core h m → HasStaged (xs ++ x ∷ []) c2 (with_marks c2.maps h) m')
+        → OnOk r ((xs : List Write) (h : Holding) → HasStaged xs core h m → HasAllMaps core.maps h.maps → HasStaged (xs ++ x ∷ []) c2 (with_marks c2.maps h) m')
     staged_marks x m remarks staged =
         on_ok_weaker r
-        (λ stand xs h has. subst (λ (d : Maps). HasStaged (xs ++ x ∷ []) c2 (with_marks d h) m') (sym staged_maps) (stand xs (with_marks c1.maps h) (remarks.each xs h has)))
+        (λ stand xs h has all. subst (λ (d : Maps). HasStaged (xs ++ x ∷ []) c2 (with_marks d h) m') (sym staged_maps) (stand xs (with_marks c1.maps h) (remarks.each xs h has all)))
         staged
 
   -- ---- an image in the call
@@ -86,11 +86,11 @@ module _ (core c1 : Core) (is : c1 ≡ record core { maps = c1.maps }) where
       (bits : SomeChanged mine true (regions_mapped core.maps.map) (is_marked core.maps.map.bytes) (is_marked c1.maps.map.bytes)) (long : length c1.maps.map.bytes ≡ length core.maps.map.bytes) where
     staging_found : (i : Image) → Committing c1 mid i → StagedMarking core mine true m i
     staging_found i found = record {
-      each = λ xs h has.
-          let has1 : HasStaged xs c1 (with_marks c1.maps h) mid = remarks.each xs h has in
+      each = λ xs h has all.
+          let has1 : HasStaged xs c1 (with_marks c1.maps h) mid = remarks.each xs h has all in
           let part : (k : ℕ) × FoundAs c1 i (with_writes (take k xs) (with_marks c1.maps h)) = found.each xs (with_marks c1.maps h) has1 in (
             blocks_over c1.maps.map.bytes (map_block_count c1.maps.map) 0 h.maps,
-            marks_changed core c1 mine m mid loaded loaded1 bits long h.maps has.stands.maps has.stands.marks has1.stands.maps has1.stands.marks,
+            marks_changed core c1 mine m mid loaded loaded1 bits long h.maps has.stands.maps has.stands.marks all has1.stands.maps has1.stands.marks,
             record { count = part.0; found = subst (λ (k : Core). FoundAs k i (with_writes (take part.0 xs) (with_marks c1.maps h))) is part.1 },
           );
     }
@@ -111,9 +111,9 @@ pub seal_marked : (core : Core) (m m' : Meaning) → DcmLoaded core.units m core
 seal_marked core m m' loaded moves marks vol first last all =
     wider (Run core.units.srl 0 (core.log.ring + 2)) (Run core.units.srl 0 (core.log.ring + 2)) (Committing core m) (MarkedCommitting core (IsPlaceOfSlots core.maps marks vol first last) m) m m' moves (λ u b run. run)
     (λ i beside found. record {
-      each = λ xs h has.
+      each = λ xs h has known.
           let part : (k : ℕ) × FoundAs core i (with_writes (take k xs) h) = found.each xs h has in (
-            record { each = λ r low own. marks_as core.units core.maps h.maps m loaded has.stands.maps has.stands.marks r low ∙ slots_all core.maps core.maps marks vol first last refl all r own },
+            record { each = λ r low own. marks_as core.units core.maps h.maps m loaded has.stands.maps has.stands.marks known r low ∙ slots_all core.maps core.maps marks vol first last refl all r own },
             record { count = part.0; found = part.1 },
           );
     })

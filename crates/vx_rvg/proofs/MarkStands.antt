@@ -1,6 +1,6 @@
 -- A group that stands, while marks in its change maps change.
 use Rattle.std.proofs.Common.{◌≡◌, ◌∙◌, ◌⊎◌, inl, inr, ⊎_elim, ℕ, zero, suc, ◌+◌, ◌*◌, ◌/◌, ◌%◌, ◌<◌, ◌≤◌, Bool, true, false, List, [], ◌∷◌, ◌++◌, length, take, get_or, Option, Some, None, MatchOption, IsTrue, IsFalse, refl, sym, ap, subst, arith, append-nil}
-use Rattle.std.specs.Prelude.{if◌then◌else◌, ltb}
+use Rattle.std.specs.Prelude.{if◌then◌else◌, ltb, slice_get}
 use Rattle.std.proofs.lemmas.Bool.{cases_lt, lt-ltb}
 use Rattle.std.proofs.lemmas.Bool.Decides.{nat_tests}
 use Rattle.std.proofs.lemmas.List.{get_or_past}
@@ -30,7 +30,7 @@ use Rattle.vx_rvg.specs.Commits.{HasStaged}
 use Rattle.vx_rvg.specs.Contents.{writes_of}
 use Rattle.vx_rvg.specs.Groups.{core_halted}
 use Rattle.vx_rvg.specs.Holdings.{Holding, with_writes}
-use Rattle.vx_rvg.specs.Marks.{Marking, MarksBetween, Remarks, blocks_over, map_run, marked_in, with_blocks_of_maps, with_marks}
+use Rattle.vx_rvg.specs.Marks.{HasAllMaps, Marking, MarksBetween, Remarks, blocks_over, map_run, marked_in, with_blocks_of_maps, with_marks}
 use Rattle.vx_rvg.specs.StagedMarks.{FoundPart, StagedMarking, StagedRemarks}
 use Rattle.vx_rvg.specs.Stands.{FoundAs, HasMaps, HasMarks, KeepsMaps, ReadyWith}
 use Rattle.vx_rvg.specs.Views.{Core, IsSound, IsSoundWith, unit_of}
@@ -69,20 +69,26 @@ over_at bytes count k (x ∷ xs) (suc j) low =
 
 -- ---- the maps that memory has, and the blocks of the unit
 
-module _ (units : Units) (d : Maps) (maps : List (List ℕ)) (m : Meaning) (loaded : DcmLoaded units m d) (keeps : KeepsMaps units maps m) (marks : HasMarks d maps) where
+-- a block of maps that are all known
+mark_at : (d : Maps) (maps : List (List ℕ)) (k : ℕ) → HasMarks d maps → HasAllMaps d maps → k < map_block_count d.map → slice_get maps k ≡ Some (block_of d.map.bytes k)
+mark_at d maps k marks all low =
+    let there : slice_get maps k ≡ Some (get_or maps k []) = slice_get-get_or maps k [] (omega (arith, low, all)) in
+    there ∙ ap (λ (bytes : List ℕ). Some bytes) (marks.each k (get_or maps k []) low there)
+
+module _ (units : Units) (d : Maps) (maps : List (List ℕ)) (m : Meaning) (loaded : DcmLoaded units m d) (keeps : KeepsMaps units maps m) (marks : HasMarks d maps) (all : HasAllMaps d maps) where
   -- whatever a crash leaves, they stand
   pub maps_on : MapOn d.map m
   maps_on = record {
     each = λ k low.
         subst (λ (u : ℕ). Keeps m u (d.map.first + k) (block_of d.map.bytes k)) (sym loaded.unit)
-        (subst (λ (b : ℕ). Keeps m units.maps b (block_of d.map.bytes k)) (let e : k ≡ d.map.first + k = omega (arith, loaded.first) in e) (keeps.each k (block_of d.map.bytes k) (marks.each k low)));
+        (subst (λ (b : ℕ). Keeps m units.maps b (block_of d.map.bytes k)) (let e : k ≡ d.map.first + k = omega (arith, loaded.first) in e) (keeps.each k (block_of d.map.bytes k) (mark_at d maps k marks all low)));
   }
 
   -- a region is marked where the blocks have it marked
   pub marks_as : (r : ℕ) → r < regions_mapped d.map → marked_in maps r ≡ is_marked d.map.bytes r
   marks_as r low =
       let there : r / 4096 < map_block_count d.map = below r (length d.map.bytes) _ low loaded.long in
-      ap (λ (b : List ℕ). is_marked b (r % 4096)) (get_or_from_slice_get maps (r / 4096) (block_of d.map.bytes (r / 4096)) [] (marks.each (r / 4096) there)) ∙ sym (by_block d.map.bytes r)
+      ap (λ (b : List ℕ). is_marked b (r % 4096)) (get_or_from_slice_get maps (r / 4096) (block_of d.map.bytes (r / 4096)) [] (mark_at d maps (r / 4096) marks all there)) ∙ sym (by_block d.map.bytes r)
     where
       below : (r long blocks : ℕ) → r < 8 * long → long ≡ 512 * blocks → r / 4096 < long / 512
       below r long blocks low is = omega (arith, low, is)
@@ -103,13 +109,6 @@ module _ (units : Units) (d : Maps) (maps : List (List ℕ)) (m : Meaning) (load
           sym (now_at b low) ∙ get_or_from_slice_get now b bytes [] there;
     }
 
-    map_fits : map_block_count d.map ≤ length maps
-    map_fits =
-        ⊎_elim
-        (λ (lt : length maps < map_block_count d.map). absurd (omega (arith, slice_get_within maps (length maps) (block_of d.map.bytes (length maps)) (marks.each (length maps) lt))))
-        (λ (le : map_block_count d.map ≤ length maps). le)
-        (cases_lt (length maps) (map_block_count d.map))
-
     now_rest : (b : ℕ) → map_block_count d.map ≤ b → get_or now b [] ≡ get_or maps b []
     now_rest b high =
         ⊎_elim
@@ -122,7 +121,7 @@ module _ (units : Units) (d : Maps) (maps : List (List ℕ)) (m : Meaning) (load
 
     now_marks : (r : ℕ) → r < regions_mapped d.map → marked_in now r ≡ is_marked_in d.map i r
     now_marks r low =
-        let there : r / 4096 < length maps = below r (length d.map.bytes) _ (length maps) low loaded.long map_fits in
+        let there : r / 4096 < length maps = below r (length d.map.bytes) _ (length maps) low loaded.long all in
         ap (λ (b : List ℕ). is_marked b (r % 4096)) (now_at (r / 4096) there)
         ∙ ap (λ (u : ℕ). is_marked (i u (r / 4096)) (r % 4096)) (sym loaded.unit)
         ∙ ap (λ (b : ℕ). is_marked (i d.map.unit b) (r % 4096)) (let e : r / 4096 ≡ d.map.first + r / 4096 = omega (arith, loaded.first) in e)
@@ -152,29 +151,21 @@ module _ (units : Units) (d d' : Maps) (maps : List (List ℕ)) (m m' : Meaning)
       let was = loaded_same units d m m' same loaded in
       record { unit = place.unit ∙ was.unit; first = place.first ∙ was.first; long = place.long ∙ was.long; sizes = sizes ∙ was.sizes }
 
-  module _ (P : Says) (moves : Moves (Run units.maps 0 (map_block_count d.map)) P m m') (keeps : KeepsMaps units maps m) (marks : HasMarks d maps) (on : MapOn d'.map m') where
+  module _ (P : Says) (moves : Moves (Run units.maps 0 (map_block_count d.map)) P m m') (keeps : KeepsMaps units maps m) (on : MapOn d'.map m') where
     abbrev pub count : ℕ
     count = map_block_count d'.map
 
     abbrev pub over : List (List ℕ)
     over = blocks_over d'.map.bytes count 0 maps
 
-    fits : count ≤ length maps
-    fits =
-        ⊎_elim
-        (λ (lt : length maps < count). absurd (omega (arith, slice_get_within maps (length maps) (block_of d.map.bytes (length maps)) (marks.each (length maps) (subst (λ (n : ℕ). length maps < n / 512) place.long lt)))))
-        (λ (le : count ≤ length maps). le)
-        (cases_lt (length maps) count)
-
     over_is : (b : ℕ) → b < length maps → get_or over b [] ≡ (if ltb b count then block_of d'.map.bytes b else get_or maps b [])
     over_is b low = over_at d'.map.bytes count 0 maps b low ∙ ap (λ (n : ℕ). if ltb n count then block_of d'.map.bytes n else get_or maps b []) (let e : 0 + b ≡ b = omega arith in e)
 
     pub over_marks : HasMarks d' over
     over_marks = record {
-      each = λ k low.
-          let there : k < length maps = omega (arith, low, fits) in
-          slice_get-get_or over k [] (subst (λ (n : ℕ). k < n) (sym (over_long d'.map.bytes count 0 maps)) there)
-          ∙ ap (λ (b : List ℕ). Some b) (over_is k there ∙ ap (λ (t : Bool). if t then block_of d'.map.bytes k else get_or maps k []) (lt-ltb k count low));
+      each = λ k bytes low is.
+          let there : k < length maps = subst (λ (n : ℕ). k < n) (over_long d'.map.bytes count 0 maps) (slice_get_within over k bytes is) in
+          sym (get_or_from_slice_get over k bytes [] is) ∙ over_is k there ∙ ap (λ (t : Bool). if t then block_of d'.map.bytes k else get_or maps k []) (lt-ltb k count low);
     }
 
     here : (k : ℕ) → k < count → Keeps m' units.maps k (block_of d'.map.bytes k)
@@ -197,7 +188,7 @@ module _ (units : Units) (d d' : Maps) (maps : List (List ℕ)) (m m' : Meaning)
 
     pub over_kept : KeepsMaps units over m'
     over_kept = record {
-      size = over_long d'.map.bytes count 0 maps ∙ keeps.size ∙ sym (moves.size units.maps);
+      size = (let long = over_long d'.map.bytes count 0 maps in let least = keeps.size in let same = moves.size units.maps in omega (arith, long, least, same));
       each = λ b bytes there.
           let low : b < length maps = subst (λ (n : ℕ). b < n) (over_long d'.map.bytes count 0 maps) (slice_get_within over b bytes there) in
           subst (λ (x : List ℕ). Keeps m' units.maps b x) (get_or_from_slice_get over b bytes [] there) (kept_at b low);
@@ -220,18 +211,18 @@ module _ {ks : List Kept} (core : Core) (m : Meaning) (sound : IsSoundWith ks co
         seal_part core.log.ring has.stands.log (classes core.log.unit core.log.ring i)
         ((call_safe core.log.ring has.stands.log Seal has.stands.ready.ring.is_log tt).0.0 (classes core.log.unit core.log.ring i) (image_beside core.log.unit core.log.ring has.stands.log.unit (map_run core) m i has.stands.ready.ring.tracks beside log_aside))
 
-    marking_found : (mine : ℕ → Type 0) (value : Bool) (i : Image) → Beside (map_run core) m.leaves i → MapChanging core.maps.map mine value m i
+    marking_found : HasAllMaps core.maps h.maps → (mine : ℕ → Type 0) (value : Bool) (i : Image) → Beside (map_run core) m.leaves i → MapChanging core.maps.map mine value m i
         → (maps : List (List ℕ)) × MarksBetween core.maps mine value h.maps maps × FoundPart core i xs (with_blocks_of_maps maps h)
-    marking_found mine value i beside changing = (
-      now core.units core.maps h.maps m sound.maps has.stands.maps has.stands.marks mine value i beside changing,
-      now_between core.units core.maps h.maps m sound.maps has.stands.maps has.stands.marks mine value i beside changing,
+    marking_found all mine value i beside changing = (
+      now core.units core.maps h.maps m sound.maps has.stands.maps has.stands.marks all mine value i beside changing,
+      now_between core.units core.maps h.maps m sound.maps has.stands.maps has.stands.marks all mine value i beside changing,
       record {
         count = (aside_part i beside).0;
         found =
             part_having xs core h m has sound.log_unit i (aside_part i beside).0 (aside_part i beside).1
             (has_content_beside (map_run core) core.units.vols h.content (writes_of has.stands.log.held) m i volumes_aside has.stands.ready.content beside)
-            (now core.units core.maps h.maps m sound.maps has.stands.maps has.stands.marks mine value i beside changing)
-            (now_has core.units core.maps h.maps m sound.maps has.stands.maps has.stands.marks mine value i beside changing);
+            (now core.units core.maps h.maps m sound.maps has.stands.maps has.stands.marks all mine value i beside changing)
+            (now_has core.units core.maps h.maps m sound.maps has.stands.maps has.stands.marks all mine value i beside changing);
       },
     )
 
@@ -270,8 +261,8 @@ module _ {ks : List Kept} (core : Core) (m : Meaning) (sound : IsSoundWith ks co
           low = has.stands.low;
           writes = has.stands.writes;
           place = has.stands.place;
-          maps = over_kept core.units core.maps d h.maps m m' sound.maps place sizes P moves has.stands.maps has.stands.marks on;
-          marks = over_marks core.units core.maps d h.maps m m' sound.maps place sizes P moves has.stands.maps has.stands.marks on;
+          maps = over_kept core.units core.maps d h.maps m m' sound.maps place sizes P moves has.stands.maps on;
+          marks = over_marks core.units core.maps d h.maps m m' sound.maps place sizes P moves has.stands.maps on;
         };
       }
 
@@ -283,7 +274,7 @@ module _ {ks : List Kept} (core : Core) (m : Meaning) (sound : IsSoundWith ks co
     mark_moves =
         wider (Run core.maps.map.unit core.maps.map.first (map_block_count core.maps.map)) (map_run core) (MapChanging core.maps.map mine value m) (StagedMarking core mine value m) m m' moves
         (λ u b run. record { there = run.there ∙ sound.maps.unit; first = omega arith; last = omega (arith, run.last, sound.maps.first) })
-        (λ i beside changing. record { each = λ xs h has. marking_found xs h has mine value i (as_run i beside) changing })
+        (λ i beside changing. record { each = λ xs h has all. marking_found xs h has all mine value i (as_run i beside) changing })
       where
         as_run : (i : Image) → Beside (Run core.maps.map.unit core.maps.map.first (map_block_count core.maps.map)) m.leaves i → Beside (map_run core) m.leaves i
         as_run i beside u b = ⊎_elim (λ was. inl was) (λ run. inr (record { there = run.there ∙ sound.maps.unit; first = omega arith; last = omega (arith, run.last, sound.maps.first) })) (beside u b)
@@ -308,16 +299,16 @@ module _ {ks : List Kept} (core : Core) (m : Meaning) (sound : IsSoundWith ks co
 
     mark_rests : (IsTrue m'.down → ⊥) → (MapOn core.maps.map m → MapOn d.map m') → StagedRemarks core (record core { maps = d }) m m'
     mark_rests up stands_on = record {
-      each = λ xs h has.
-          marked_staged xs h has d m' (StagedMarking core mine value m) mark_moves up place sizes (stands_on (maps_on core.units core.maps h.maps m sound.maps has.stands.maps has.stands.marks));
+      each = λ xs h has all.
+          marked_staged xs h has d m' (StagedMarking core mine value m) mark_moves up place sizes (stands_on (maps_on core.units core.maps h.maps m sound.maps has.stands.maps has.stands.marks all));
     }
 
 -- ---- where nothing is staged
 
 pub marking_alone : (core : Core) (mine : ℕ → Type 0) (value : Bool) (m : Meaning) (i : Image) → StagedMarking core mine value m i → Marking core mine value m i
 marking_alone core mine value m i marking = record {
-  each = λ h stands.
-      let got = marking.each [] h (none_staged core h m stands) in
+  each = λ h stands all.
+      let got = marking.each [] h (none_staged core h m stands) all in
       (got.0, got.1, alone got.2.count (with_blocks_of_maps got.0 h) got.2.found);
 }
   where
@@ -330,7 +321,7 @@ moves_alone core mine value m m' moves =
     wider (map_run core) (map_run core) (StagedMarking core mine value m) (Marking core mine value m) m m' moves (λ u b run. run) (λ i beside marking. marking_alone core mine value m i marking)
 
 pub remarks_alone : (core after : Core) (old new : Meaning) → StagedRemarks core after old new → Remarks core after old new
-remarks_alone core after old new remarks = record { each = λ h stands. none_left after (with_marks after.maps h) new (remarks.each [] h (none_staged core h old stands)) }
+remarks_alone core after old new remarks = record { each = λ h stands all. none_left after (with_marks after.maps h) new (remarks.each [] h (none_staged core h old stands) all) }
 
 -- ---- v is the group as the code has it
 

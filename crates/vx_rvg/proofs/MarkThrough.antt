@@ -2,7 +2,7 @@
 use Rattle.std.proofs.Common.{◌≡◌, ◌∙◌, ◌⊎◌, inl, inr, ℕ, suc, ◌+◌, ◌/◌, ◌<◌, Bool, true, false, List, [], ◌∷◌, length, get_or, refl, sym, ap, subst, arith}
 use Rattle.std.specs.Prelude.{if◌then◌else◌, ltb}
 use Rattle.std.proofs.lemmas.Bool.{ltb-true}
-use Rattle.std.proofs.lemmas.Option.{get_or_from_slice_get}
+use Rattle.std.proofs.lemmas.Option.{slice_get-get_or}
 use Rattle.vx_model.specs.Content.{block_of}
 use Rattle.vx_disk.specs.Moves.{Moves}
 use Rattle.vx_disk.specs.Shelf.{Meaning}
@@ -11,10 +11,11 @@ use Rattle.vx_bitmap.specs.Bits.{is_marked}
 use Rattle.vx_bitmap.specs.Maps.{SamePlace, map_block_count, regions_mapped}
 use Rattle.vx_dcm.specs.Places.{HasRegion, Maps, MapsBetween, SomeChanged, has_mark}
 use Rattle.vx_rvg.specs.Holdings.{Holding}
-use Rattle.vx_rvg.specs.Marks.{Marking, MarksBetween, Remarks, blocks_over, map_run, marked_in, with_blocks_of_maps, with_marks}
+use Rattle.vx_rvg.specs.Marks.{HasAllMaps, Marking, MarksBetween, Remarks, blocks_over, map_run, marked_in, with_blocks_of_maps, with_marks}
 use Rattle.vx_rvg.specs.Stands.{FoundAs, HasMarks, Stands}
 use Rattle.vx_rvg.specs.Views.{Core, IsSound}
 use Rattle.vx_rvg.proofs.MarkedStands.{over_between}
+use Rattle.vx_rvg.proofs.MarkStands.{over_long}
 
 -- ---- blocks of maps over others
 
@@ -46,7 +47,7 @@ marks_over d h marks =
     ap (λ (maps : List (List ℕ)). with_blocks_of_maps maps h)
     (over_same d.map.bytes (map_block_count d.map) 0 h.maps
     (λ j low lt. let e : 0 + j ≡ j = omega arith in
-    get_or_from_slice_get h.maps j (block_of d.map.bytes j) [] (marks.each j (omega (arith, lt))) ∙ ap (λ (n : ℕ). block_of d.map.bytes n) (sym e)))
+    marks.each j (get_or h.maps j []) (omega (arith, lt)) (slice_get-get_or h.maps j [] low) ∙ ap (λ (n : ℕ). block_of d.map.bytes n) (sym e)))
 
 -- ---- marks one after another
 
@@ -61,7 +62,7 @@ pub record MarkedThrough (core c' : Core) (slot : ℕ) (mine : ℕ → Type 0) (
   pub moves : Moves (map_run core) (Marking core mine true m) m m'
 
 pub remarks_none : (core : Core) (m : Meaning) → Remarks core core m m
-remarks_none core m = record { each = λ h stands. subst (λ (x : Holding). Stands core x m) (sym (marks_over core.maps h stands.marks)) stands }
+remarks_none core m = record { each = λ h stands all. subst (λ (x : Holding). Stands core x m) (sym (marks_over core.maps h stands.marks)) stands }
 
 pub through_none : (core : Core) (slot : ℕ) (mine : ℕ → Type 0) (m : Meaning) → MarkedThrough core core slot mine m m
 through_none core slot mine m = record {
@@ -76,6 +77,9 @@ through_none core slot mine m = record {
 
 module _ (core mid new : Core) (slot : ℕ) (mine own : ℕ → Type 0) (m m1 m2 : Meaning) (sound : IsSound core m) (sound1 : IsSound mid m1) (one : MarkedThrough core mid slot mine m m1)
     (within : (r : ℕ) → own r → mine r) where
+  mid_all : (h : Holding) → HasAllMaps core.maps h.maps → HasAllMaps mid.maps (with_marks mid.maps h).maps
+  mid_all h all = let long = over_long mid.maps.map.bytes (map_block_count mid.maps.map) 0 h.maps in omega (arith, all, long, one.place.long)
+
   bits_then : (x y z : Bool) (r : ℕ) → (y ≡ x) ⊎ (mine r × (y ≡ true)) → (z ≡ y) ⊎ (own r × (z ≡ true)) → (z ≡ x) ⊎ (mine r × (z ≡ true))
   bits_then x y z r (inl was) (inl same) = inl (same ∙ was)
   bits_then x y z r (inr set) (inl same) = inr (set.0, same ∙ set.1)
@@ -87,14 +91,14 @@ module _ (core mid new : Core) (slot : ℕ) (mine own : ℕ → Type 0) (m m1 m2
       goes_on (map_run core) (map_run mid) (Marking core mine true m) (Marking mid own true m1) m m1 m2 one.moves moves
       (λ u b run. record { there = run.there ∙ ap (λ (k : Core). k.units.maps) one.is; first = omega arith; last = omega (arith, run.last, one.place.long) })
       (λ i beside marking. record {
-        each = λ h stands.
-            let got = marking.each (with_marks mid.maps h) (one.remarks.each h stands) in
-            (got.0, between_then h stands got.0 got.1, subst (λ (k : Core). FoundAs k i (with_blocks_of_maps got.0 h)) one.is got.2);
+        each = λ h stands all.
+            let got = marking.each (with_marks mid.maps h) (one.remarks.each h stands all) (mid_all h all) in
+            (got.0, between_then h stands all got.0 got.1, subst (λ (k : Core). FoundAs k i (with_blocks_of_maps got.0 h)) one.is got.2);
       })
     where
-      between_then : (h : Holding) → Stands core h m → (maps : List (List ℕ)) → MarksBetween mid.maps own true (with_marks mid.maps h).maps maps → MarksBetween core.maps mine true h.maps maps
-      between_then h stands maps then_between =
-          let before = over_between core mid one.is mine m m1 sound sound1 one.remarks one.bits one.place.long h stands in
+      between_then : (h : Holding) → Stands core h m → HasAllMaps core.maps h.maps → (maps : List (List ℕ)) → MarksBetween mid.maps own true (with_marks mid.maps h).maps maps → MarksBetween core.maps mine true h.maps maps
+      between_then h stands all maps then_between =
+          let before = over_between core mid one.is mine m m1 sound sound1 one.remarks one.bits one.place.long h stands all in
           record {
             long = then_between.long ∙ before.long;
             rest = λ b high. then_between.rest b (omega (arith, high, one.place.long)) ∙ before.rest b high;
@@ -128,11 +132,11 @@ module _ (core mid new : Core) (slot : ℕ) (mine own : ℕ → Type 0) (m m1 m2
         each = λ r low. bits_then (is_marked core.maps.map.bytes r) (is_marked mid.maps.map.bytes r) (is_marked new.maps.map.bytes r) r (one.bits.each r low) (step.bits.each r (omega (arith, low, one.place.long)));
       };
       remarks = record {
-        each = λ h stands.
+        each = λ h stands all.
             subst (λ (x : Holding). Stands new x m2)
             (ap (λ (maps : List (List ℕ)). with_blocks_of_maps maps h)
             (over_over mid.maps.map.bytes new.maps.map.bytes (map_block_count mid.maps.map) (map_block_count new.maps.map) 0 h.maps (ap (λ (n : ℕ). n / 512) (sym step.place.long))))
-            (step.remarks.each (with_marks mid.maps h) (one.remarks.each h stands));
+            (step.remarks.each (with_marks mid.maps h) (one.remarks.each h stands all) (mid_all h all));
       };
       moves = next_moves step.moves;
     }

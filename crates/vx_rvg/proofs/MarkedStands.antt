@@ -25,7 +25,7 @@ use Rattle.vx_srl.specs.Views.{BodyFits, Log}
 use Rattle.vx_srl.specs.declared.kept.Kept.{Kept}
 use Rattle.vx_rvg.specs.Groups.{Ended, Writes}
 use Rattle.vx_rvg.specs.Holdings.{Holding, with_writes}
-use Rattle.vx_rvg.specs.Marks.{AllMarkedIn, BlamesMarkedWrite, ByMarks, MarkedWriting, Marking, Marks, MarksBetween, Remarks, blocks_over, write_last, map_run, marked_in, with_blocks_of_maps, with_marks}
+use Rattle.vx_rvg.specs.Marks.{AllMarkedIn, BlamesMarkedWrite, ByMarks, HasAllMaps, MarkedWriting, Marking, Marks, MarksBetween, Remarks, blocks_over, write_last, map_run, marked_in, with_blocks_of_maps, with_marks}
 use Rattle.vx_rvg.specs.Stands.{FoundAs, Stands, Writing}
 use Rattle.vx_rvg.specs.Views.{Core, IsSound, IsSoundWith, unit_of, volume_size}
 use Rattle.vx_rvg.proofs.MarkStands.{stays_up}
@@ -138,7 +138,7 @@ pub marks_first : (core : Core) (mine : ℕ → Type 0) (x : Write) (m mid : Mea
     → Moves (Union (map_run core) (Run core.units.srl 0 (core.log.ring + 2))) (MarkedWriting core mine x m) m mid
 marks_first core mine x m mid moves =
     wider (map_run core) (Union (map_run core) (Run core.units.srl 0 (core.log.ring + 2))) (Marking core mine true m) (MarkedWriting core mine x m) m mid moves (λ u b run. record { here = inl run })
-    (λ i beside marking. record { each = λ h stands. (let got = marking.each h stands in (got.0, got.1, inl got.2)) })
+    (λ i beside marking. record { each = λ h stands all. (let got = marking.each h stands all in (got.0, got.1, inl got.2)) })
 
 -- ---- the write behind the marks
 
@@ -170,37 +170,37 @@ module _ (core c1 : Core) (is : c1 ≡ record core { maps = c1.maps }) where
 
   module _ (mine : ℕ → Type 0) (m mid : Meaning) (sound : IsSound core m) (sound1 : IsSound c1 mid) (remarks : Remarks core c1 m mid)
       (bits : SomeChanged mine true (regions_mapped core.maps.map) (is_marked core.maps.map.bytes) (is_marked c1.maps.map.bytes)) (long : length c1.maps.map.bytes ≡ length core.maps.map.bytes) where
-    module _ (h : Holding) (stands : Stands core h m) where
+    module _ (h : Holding) (stands : Stands core h m) (known : HasAllMaps core.maps h.maps) where
       abbrev over : List (List ℕ)
       over = blocks_over c1.maps.map.bytes (map_block_count c1.maps.map) 0 h.maps
 
       stands1 : Stands c1 (with_marks c1.maps h) mid
-      stands1 = remarks.each h stands
+      stands1 = remarks.each h stands known
 
       now_as : (r : ℕ) → r < regions_mapped core.maps.map → marked_in over r ≡ is_marked c1.maps.map.bytes r
-      now_as r low = now_marked core c1 mine m mid sound.maps sound1.maps bits long h.maps stands.maps stands.marks stands1.maps stands1.marks r low
+      now_as r low = now_marked core c1 mine m mid sound.maps sound1.maps bits long h.maps stands.maps stands.marks known stands1.maps stands1.marks r low
 
       pub over_between : MarksBetween core.maps mine true h.maps over
-      over_between = marks_changed core c1 mine m mid sound.maps sound1.maps bits long h.maps stands.maps stands.marks stands1.maps stands1.marks
+      over_between = marks_changed core c1 mine m mid sound.maps sound1.maps bits long h.maps stands.maps stands.marks known stands1.maps stands1.marks
 
     -- ---- all of them are marked, and the write behind them is logged
 
     module _ (x : Write) (all : (r : ℕ) → r < regions_mapped core.maps.map → mine r → is_marked c1.maps.map.bytes r ≡ true) where
-      over_all : (h : Holding) (stands : Stands core h m) → AllMarkedIn core.maps mine (over h stands)
-      over_all h stands = record { each = λ r low own. now_as h stands r low ∙ all r low own }
+      over_all : (h : Holding) (stands : Stands core h m) (known : HasAllMaps core.maps h.maps) → AllMarkedIn core.maps mine (over h stands known)
+      over_all h stands known = record { each = λ r low own. now_as h stands known r low ∙ all r low own }
 
-      by_count : (h : Holding) (stands : Stands core h m) (i : Image) (k : ℕ) → FoundAs c1 i (with_writes (take k (x ∷ [])) (with_marks c1.maps h))
-          → FoundAs core i (with_blocks_of_maps (over h stands) h) ⊎ (AllMarkedIn core.maps mine (over h stands) × FoundAs core i (with_writes (x ∷ []) (with_blocks_of_maps (over h stands) h)))
-      by_count h stands i zero found =
-          inl (subst (λ (ws : List Write). FoundAs core i (record { low = h.low; writes = ws; place = h.place; content = h.content; maps = over h stands })) (append-nil h.writes) (found_here i (with_writes [] (with_marks c1.maps h)) found))
-      by_count h stands i (suc zero) found = inr (over_all h stands, found_here i (with_writes (x ∷ []) (with_marks c1.maps h)) found)
-      by_count h stands i (suc (suc k)) found = inr (over_all h stands, found_here i (with_writes (x ∷ []) (with_marks c1.maps h)) found)
+      by_count : (h : Holding) (stands : Stands core h m) (known : HasAllMaps core.maps h.maps) (i : Image) (k : ℕ) → FoundAs c1 i (with_writes (take k (x ∷ [])) (with_marks c1.maps h))
+          → FoundAs core i (with_blocks_of_maps (over h stands known) h) ⊎ (AllMarkedIn core.maps mine (over h stands known) × FoundAs core i (with_writes (x ∷ []) (with_blocks_of_maps (over h stands known) h)))
+      by_count h stands known i zero found =
+          inl (subst (λ (ws : List Write). FoundAs core i (record { low = h.low; writes = ws; place = h.place; content = h.content; maps = over h stands known })) (append-nil h.writes) (found_here i (with_writes [] (with_marks c1.maps h)) found))
+      by_count h stands known i (suc zero) found = inr (over_all h stands known, found_here i (with_writes (x ∷ []) (with_marks c1.maps h)) found)
+      by_count h stands known i (suc (suc k)) found = inr (over_all h stands known, found_here i (with_writes (x ∷ []) (with_marks c1.maps h)) found)
 
       marked_writing : (i : Image) → Writing c1 (x ∷ []) mid i → MarkedWriting core mine x m i
       marked_writing i writing = record {
-        each = λ h stands.
-            let got = writing.each (with_marks c1.maps h) (stands1 h stands) in
-            (over h stands, over_between h stands, by_count h stands i got.0 got.1);
+        each = λ h stands known.
+            let got = writing.each (with_marks c1.maps h) (stands1 h stands known) in
+            (over h stands known, over_between h stands known, by_count h stands known i got.0 got.1);
       }
 
       abbrev both : Blocks

@@ -54,7 +54,7 @@ rest_with staged core m m' goes up h stands = record {
   low = stands.low;
   place = stands.place;
   writes = stands.writes;
-  maps = record { size = stands.maps.size ∙ sym (goes.size core.units.maps); each = λ b bytes there. keeps_rest m m' goes core.units.maps b bytes (stands.maps.each b bytes there) };
+  maps = record { size = (let least = stands.maps.size in let same = goes.size core.units.maps in omega (arith, least, same)); each = λ b bytes there. keeps_rest m m' goes core.units.maps b bytes (stands.maps.each b bytes there) };
   marks = stands.marks;
   ready = record {
     ring = record { is_log = on.is_log; tracks = rest_tracks core.log.unit core.log.ring stands.log.unit m m' goes (λ down. both_ways m'.down up down) on.tracks; describes = on.describes };

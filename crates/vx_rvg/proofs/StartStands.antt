@@ -325,7 +325,7 @@ module _ (units : Units) (old mid : Meaning) (placed : UnitsPlaced units old) (m
 
         maps : KeepsMaps units h.maps new
         maps = record {
-          size = (kept_maps state session stamp h left).size ∙ sym (goes.size units.maps);
+          size = (let least = (kept_maps state session stamp h left).size in let same = goes.size units.maps in omega (arith, least, same));
           each = λ b bytes there. keeps_rest mid new goes units.maps b bytes ((kept_maps state session stamp h left).each b bytes there);
         }
 

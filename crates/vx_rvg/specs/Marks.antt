@@ -28,6 +28,10 @@ abbrev pub blocks_over : (bytes : List ℕ) (count : ℕ) → ℕ → List (List
 blocks_over bytes count k [] = []
 blocks_over bytes count k (x ∷ xs) = (if ltb k count then block_of bytes k else x) ∷ blocks_over bytes count (suc k) xs
 
+-- each block of these change maps is among those that are known
+abbrev pub HasAllMaps : Maps → List (List ℕ) → Type 0
+HasAllMaps d maps = map_block_count d.map ≤ length maps
+
 -- what a group holds, with other blocks of the map unit
 abbrev pub with_blocks_of_maps : List (List ℕ) → Holding → Holding
 with_blocks_of_maps maps h = record { low = h.low; writes = h.writes; place = h.place; content = h.content; maps = maps }
@@ -43,13 +47,13 @@ pub record MarksBetween (d : Maps) (mine : ℕ → Type 0) (value : Bool) (old n
   pub rest : (b : ℕ) → map_block_count d.map ≤ b → get_or new b [] ≡ get_or old b []
   pub marks : SomeChanged mine value (regions_mapped d.map) (marked_in old) (marked_in new)
 
--- Of whatever the group held: an image in the call has it, with some of the marks of these places changed.
+-- Of whatever the group held, with all of its maps: an image in the call has it, with some of the marks of these places changed.
 pub record Marking (core : Core) (mine : ℕ → Type 0) (value : Bool) (m : Meaning) (i : Image) : Type 0 where
-  pub each : (h : Holding) → Stands core h m → (maps : List (List ℕ)) × MarksBetween core.maps mine value h.maps maps × FoundAs core i (with_blocks_of_maps maps h)
+  pub each : (h : Holding) → Stands core h m → HasAllMaps core.maps h.maps → (maps : List (List ℕ)) × MarksBetween core.maps mine value h.maps maps × FoundAs core i (with_blocks_of_maps maps h)
 
--- behind the call the group holds what it held, with the marks that it has in memory
+-- behind the call the group holds what it held with all of its maps, with the marks that it has in memory
 pub record Remarks (core after : Core) (old new : Meaning) : Type 0 where
-  pub each : (h : Holding) → Stands core h old → Stands after (with_marks after.maps h) new
+  pub each : (h : Holding) → Stands core h old → HasAllMaps core.maps h.maps → Stands after (with_marks after.maps h) new
 
 -- the marks were changed, or a device call failed
 abbrev pub Marks : Core → Meaning → Meaning → Core → Result (Unit {0}) No → Type 0
@@ -86,10 +90,10 @@ WriteMarked c marks vol start count = SlotsMarked marks vol (write_first start) 
 pub record AllMarkedIn (d : Maps) (mine : ℕ → Type 0) (maps : List (List ℕ)) : Type 0 where
   pub each : (r : ℕ) → r < regions_mapped d.map → mine r → marked_in maps r ≡ true
 
--- Of whatever the group held: an image in the call has it with some of these places marked. It has the write behind the others only where
+-- Of whatever the group held, with all of its maps: an image in the call has it with some of these places marked. It has the write behind the others only where
 -- all of them are.
 pub record MarkedWriting (core : Core) (mine : ℕ → Type 0) (x : Write) (m : Meaning) (i : Image) : Type 0 where
-  pub each : (h : Holding) → Stands core h m
+  pub each : (h : Holding) → Stands core h m → HasAllMaps core.maps h.maps
       → (maps : List (List ℕ)) × MarksBetween core.maps mine true h.maps maps
       × (FoundAs core i (with_blocks_of_maps maps h) ⊎ (AllMarkedIn core.maps mine maps × FoundAs core i (with_writes (x ∷ []) (with_blocks_of_maps maps h))))
 

@@ -56,13 +56,13 @@ pub record IsCovered (core : Core) (c : Content) (rs : List Record) (m : Meaning
   pub waiting : core.pending.entries ≡ entries_of c.size (writes_of (drop (applied_count core) rs))
   pub settled : (v b : ℕ) → b < c.size v → newest core.pending.entries v b ≡ None → Keeps m (unit_of core.units.vols v) b (c.block v b)
 
--- the change maps in memory are the first ones of these blocks
+-- the change maps in memory are the first ones of these blocks, as far as these are known
 pub record HasMarks (d : Maps) (maps : List (List ℕ)) : Type 0 where
-  pub each : (k : ℕ) → k < map_block_count d.map → slice_get maps k ≡ Some (block_of d.map.bytes k)
+  pub each : (k : ℕ) (bytes : List ℕ) → k < map_block_count d.map → slice_get maps k ≡ Some bytes → bytes ≡ block_of d.map.bytes k
 
--- whatever a crash leaves, the map unit has these blocks
+-- whatever a crash leaves, the first blocks of the map unit are these: all of them, where it is known what it holds
 pub record KeepsMaps (units : Units) (maps : List (List ℕ)) (m : Meaning) : Type 0 where
-  pub size : length maps ≡ m.size units.maps
+  pub size : length maps ≤ m.size units.maps
   pub each : (b : ℕ) (bytes : List ℕ) → slice_get maps b ≡ Some bytes → Keeps m units.maps b bytes
 
 -- the same of one image

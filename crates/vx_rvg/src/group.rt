@@ -12,7 +12,7 @@ ghost use Rattle.vx_disk.specs.Spends.{MakesAtLeast, Spends};
 ghost use Rattle.vx_rvg.specs.Contents.{ShowsContent};
 ghost use Rattle.vx_rvg.specs.Groups.{has_numbers, write_refusal, read_refusal, WriteIs, ReadIs};
 ghost use Rattle.vx_rvg.specs.Holdings.{Holding, blocks_taken, with_writes};
-ghost use Rattle.vx_rvg.specs.Marks.{BlamesMarkedWrite, ByMarks, MarkedWriting, WriteMarked, write_first, write_last, map_run, with_marks, write_places};
+ghost use Rattle.vx_rvg.specs.Marks.{BlamesMarkedWrite, ByMarks, HasAllMaps, MarkedWriting, WriteMarked, write_first, write_last, map_run, with_marks, write_places};
 ghost use Rattle.vx_rvg.specs.Stands.{Stands, Writing};
 ghost use Rattle.vx_rvg.specs.Views.{IsSound, unit_of, last_of};
 ghost use Rattle.vx_srl.specs.Views.{BodyFits, free_of, blocks_needed, next_of, blocks_above};
@@ -60,7 +60,7 @@ impl<S: Shelf> Rvg<S> {
         ensures stands { ByMarks marks
             (OnOk result ((h : Holding) → Stands self.old.core h (S.meaning self.old.shelf)
             → Stands self.new.core (with_writes (record { volume = vol; start = start; bytes = bytes.now } ∷ []) h) (S.meaning self.new.shelf)))
-            (OnOk result ((h : Holding) → Stands self.old.core h (S.meaning self.old.shelf)
+            (OnOk result ((h : Holding) → Stands self.old.core h (S.meaning self.old.shelf) → HasAllMaps self.old.core.maps h.maps
             → Stands self.new.core (with_writes (record { volume = vol; start = start; bytes = bytes.now } ∷ []) (with_marks self.new.core.maps h)) (S.meaning self.new.shelf))) }
         ensures marked { OnOk result (WriteMarked self.new.core marks vol start (blocks_in bytes.now)) }
         ensures part { MapsBetween (IsOfSlots marks vol (write_first start) (write_last start (blocks_in bytes.now))) true self.old.core.maps self.new.core.maps }

@@ -8,6 +8,7 @@
 
 mod above;
 mod apply;
+mod asked;
 mod change;
 mod create;
 mod group;

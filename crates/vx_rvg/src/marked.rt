@@ -10,7 +10,7 @@ ghost use Rattle.vx_ringio.specs.Bodies.{IsBlocks};
 ghost use Rattle.vx_srl.specs.Views.{BodyFits, blocks_needed, free_of, most_number};
 ghost use Rattle.vx_rvg.specs.Groups.{WriteIs, Writes, write_refusal};
 ghost use Rattle.vx_rvg.specs.Holdings.{Holding, with_writes};
-ghost use Rattle.vx_rvg.specs.Marks.{BlamesMarkedWrite, MarkedWriting, WriteMarked, write_first, write_last, map_run, with_marks, write_places};
+ghost use Rattle.vx_rvg.specs.Marks.{BlamesMarkedWrite, HasAllMaps, MarkedWriting, WriteMarked, write_first, write_last, map_run, with_marks, write_places};
 ghost use Rattle.vx_rvg.specs.Stands.{Stands};
 ghost use Rattle.vx_rvg.specs.Views.{IsSound, last_of, unit_of, volume_size};
 
@@ -50,7 +50,7 @@ fn mark_and_commit<S: Shelf>(
     requires number { last_of core.old < most_number }
     ensures writes { Writes (record core.old { maps = core.new.maps }) vol start bytes.now (S.meaning shelf.old) (S.meaning shelf.new) core.new result }
     ensures sound { IsSound core.new (S.meaning shelf.new) }
-    ensures stands { OnOk result ((h : Holding) → Stands core.old h (S.meaning shelf.old)
+    ensures stands { OnOk result ((h : Holding) → Stands core.old h (S.meaning shelf.old) → HasAllMaps core.old.maps h.maps
         → Stands core.new (with_writes (record { volume = vol; start = start; bytes = bytes.now } ∷ []) (with_marks core.new.maps h)) (S.meaning shelf.new)) }
     ensures marked { OnOk result (WriteMarked core.new marks vol start (blocks_in bytes.now)) }
     ensures part { MapsBetween (IsOfSlots marks vol (write_first start) (write_last start (blocks_in bytes.now))) true core.old.maps core.new.maps }
@@ -88,7 +88,7 @@ pub(crate) fn write_marked<S: Shelf>(
         (record core.old { maps = core.new.maps }) vol start bytes.now (S.meaning shelf.old) (S.meaning shelf.new) core.new result }
     ensures unchanged { IsSome (write_refusal core.old ((S.meaning shelf.old).size (unit_of core.old.units.vols vol)) start (blocks_in bytes.now)) → shelf.new ≡ shelf.old }
     ensures sound { IsSound core.new (S.meaning shelf.new) }
-    ensures stands { OnOk result ((h : Holding) → Stands core.old h (S.meaning shelf.old)
+    ensures stands { OnOk result ((h : Holding) → Stands core.old h (S.meaning shelf.old) → HasAllMaps core.old.maps h.maps
         → Stands core.new (with_writes (record { volume = vol; start = start; bytes = bytes.now } ∷ []) (with_marks core.new.maps h)) (S.meaning shelf.new)) }
     ensures marked { OnOk result (WriteMarked core.new marks vol start (blocks_in bytes.now)) }
     ensures part { MapsBetween (IsOfSlots marks vol (write_first start) (write_last start (blocks_in bytes.now))) true core.old.maps core.new.maps }

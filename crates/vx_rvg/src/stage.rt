@@ -10,7 +10,7 @@ ghost use Rattle.vx_disk.specs.Spends.{MakesAtLeast, Spends};
 ghost use Rattle.vx_rvg.specs.Commits.{Committing, HasStaged, StageIs, number_refusal, stage_refusal};
 ghost use Rattle.vx_rvg.specs.Groups.{write_refusal};
 ghost use Rattle.vx_rvg.specs.Holdings.{Holding};
-ghost use Rattle.vx_rvg.specs.Marks.{BlamesMarkedWrite, ByMarks, WriteMarked, map_run, with_marks, write_first, write_last, write_places};
+ghost use Rattle.vx_rvg.specs.Marks.{BlamesMarkedWrite, ByMarks, HasAllMaps, WriteMarked, map_run, with_marks, write_first, write_last, write_places};
 ghost use Rattle.vx_rvg.specs.StagedMarks.{StagedMarking};
 ghost use Rattle.vx_rvg.specs.Views.{IsSoundWith, unit_of, volume_size};
 ghost use Rattle.vx_srl.specs.Views.{BodyFits, free_of, blocks_needed};
@@ -122,7 +122,7 @@ impl<S: Shelf> Staging<S> {
         ensures staged { ByMarks marks
             (OnOk result ((xs : List Write) (h : Holding) → HasStaged xs self.old.core h (S.meaning self.old.shelf)
             → HasStaged (xs ++ record { volume = vol; start = start; bytes = bytes.now } ∷ []) self.new.core h (S.meaning self.new.shelf)))
-            (OnOk result ((xs : List Write) (h : Holding) → HasStaged xs self.old.core h (S.meaning self.old.shelf)
+            (OnOk result ((xs : List Write) (h : Holding) → HasStaged xs self.old.core h (S.meaning self.old.shelf) → HasAllMaps self.old.core.maps h.maps
             → HasStaged (xs ++ record { volume = vol; start = start; bytes = bytes.now } ∷ []) self.new.core (with_marks self.new.core.maps h) (S.meaning self.new.shelf))) }
         ensures marked { OnOk result (WriteMarked self.new.core marks vol start (blocks_in bytes.now)) }
         ensures part { MapsBetween (IsOfSlots marks vol (write_first start) (write_last start (blocks_in bytes.now))) true self.old.core.maps self.new.core.maps }

@@ -10,7 +10,7 @@ ghost use Rattle.vx_ringio.specs.Bodies.{IsBlocks};
 ghost use Rattle.vx_rvg.specs.Commits.{HasStaged, StageIs, number_refusal, stage_refusal};
 ghost use Rattle.vx_rvg.specs.Groups.{write_refusal};
 ghost use Rattle.vx_rvg.specs.Holdings.{Holding};
-ghost use Rattle.vx_rvg.specs.Marks.{BlamesMarkedWrite, WriteMarked, map_run, with_marks, write_first, write_last, write_places};
+ghost use Rattle.vx_rvg.specs.Marks.{BlamesMarkedWrite, HasAllMaps, WriteMarked, map_run, with_marks, write_first, write_last, write_places};
 ghost use Rattle.vx_rvg.specs.StagedMarks.{StagedMarking};
 ghost use Rattle.vx_rvg.specs.Views.{IsSoundWith, unit_of, volume_size};
 ghost use Rattle.vx_srl.specs.Views.{BodyFits, blocks_needed, free_of};
@@ -41,7 +41,7 @@ fn mark_and_stage<S: Shelf>(
     ensures answers { StageIs (number_refusal core.old) (record core.old { maps = core.new.maps }) vol start bytes.now (S.meaning shelf.old) (S.meaning shelf.new) core.new result }
     ensures unchanged { IsSome (number_refusal core.old) → shelf.new ≡ shelf.old }
     ensures sound { IsSoundWith core.new.log.staged core.new (S.meaning shelf.new) }
-    ensures staged { OnOk result ((xs : List Write) (h : Holding) → HasStaged xs core.old h (S.meaning shelf.old)
+    ensures staged { OnOk result ((xs : List Write) (h : Holding) → HasStaged xs core.old h (S.meaning shelf.old) → HasAllMaps core.old.maps h.maps
         → HasStaged (xs ++ record { volume = vol; start = start; bytes = bytes.now } ∷ []) core.new (with_marks core.new.maps h) (S.meaning shelf.new)) }
     ensures marked { OnOk result (WriteMarked core.new marks vol start (blocks_in bytes.now)) }
     ensures part { MapsBetween (IsOfSlots marks vol (write_first start) (write_last start (blocks_in bytes.now))) true core.old.maps core.new.maps }
@@ -84,7 +84,7 @@ pub(crate) fn stage_marked<S: Shelf>(
         (record core.old { maps = core.new.maps }) vol start bytes.now (S.meaning shelf.old) (S.meaning shelf.new) core.new result }
     ensures unchanged { IsSome (stage_refusal core.old ((S.meaning shelf.old).size (unit_of core.old.units.vols vol)) start (blocks_in bytes.now)) → shelf.new ≡ shelf.old }
     ensures sound { IsSoundWith core.new.log.staged core.new (S.meaning shelf.new) }
-    ensures staged { OnOk result ((xs : List Write) (h : Holding) → HasStaged xs core.old h (S.meaning shelf.old)
+    ensures staged { OnOk result ((xs : List Write) (h : Holding) → HasStaged xs core.old h (S.meaning shelf.old) → HasAllMaps core.old.maps h.maps
         → HasStaged (xs ++ record { volume = vol; start = start; bytes = bytes.now } ∷ []) core.new (with_marks core.new.maps h) (S.meaning shelf.new)) }
     ensures marked { OnOk result (WriteMarked core.new marks vol start (blocks_in bytes.now)) }
     ensures part { MapsBetween (IsOfSlots marks vol (write_first start) (write_last start (blocks_in bytes.now))) true core.old.maps core.new.maps }

@@ -18,12 +18,12 @@ use Rattle.vx_history.specs.Stops.{IsFused}
 use Rattle.vx_history.specs.Steps.{burned, crash_left, crashed, stopped_by, worked_on}
 use Rattle.vx_history.specs.World.{Fuse, FuseLit, FuseSet, Gathering, History, Link, NoFuse, Node, Packet, Promise, World, no_link, updated, with_node}
 use Rattle.vx_history.specs.declared.event.Event.{Event}
-use Rattle.vx_history.specs.declared.event.Event.TheVariants.{Site, Raw, Group, Write as WriteAt, Read, Apply, Pump, Tick, Deliver, Connect, Cut, Pause, Resume, Wait, Link as LinkSites, Set, Attach, Detach, Crash, Deport, Recover, Fault}
+use Rattle.vx_history.specs.declared.event.Event.TheVariants.{Site, Raw, Group, Volumes, Write as WriteAt, Read, Apply, Pump, Tick, Deliver, Connect, Cut, Pause, Resume, Wait, Link as LinkSites, Set, Attach, Detach, Crash, Deport, Fall, Recover, Fault}
 use Rattle.vx_effects.specs.Settings.{SetsFail}
 use Rattle.vx_effects.proofs.Fitting.{fit_happened}
 use Rattle.vx_events.specs.LinkFinds.{pumped_with, target_with}
 use Rattle.vx_events.specs.LinksFit.{LinksFit}
-use Rattle.vx_world.proofs.LikeSteps.{step_like}
+use Rattle.vx_world.proofs.LikeSteps.{looks_same, step_like}
 use Rattle.vx_settling.specs.Burnt.{MayBurn, burnt_world, noted_as}
 use Rattle.vx_settling.specs.Kinds.{is_settling}
 use Rattle.vx_settling.proofs.Running.{event_stays, happens}
@@ -112,7 +112,7 @@ module _ (fuses : ℕ → Fuse) (d : Doubted) (fit : LinksFit (noted_as fuses d)
     V = (step (burnt_world fuses d.world) e).world
 
     like : IsLike U V
-    like = step_like d.world (burnt_world fuses d.world) e (like_burnt fuses d.world)
+    like = step_like d.world (burnt_world fuses d.world) e (like_burnt fuses d.world) (looks_same d.world (burnt_world fuses d.world) (λ i. refl) e)
 
     fit_U : LinksFit (record d { world = U })
     fit_U = subst LinksFit (happens d e false is) (fit_happened d e false (sets_none e is) (fit_pure fuses d fit))
@@ -146,6 +146,7 @@ module _ (fuses : ℕ → Fuse) (d : Doubted) (fit : LinksFit (noted_as fuses d)
   headers (Site name disks blocks) is i = absurd (cc)
   headers (Raw p) is i = absurd (cc)
   headers (Group p) is i = absurd (cc)
+  headers (Volumes p log xs) is i = absurd (cc)
   headers (WriteAt p volume start bytes fails) is i = absurd (cc)
   headers (Read p volume start count) is i = absurd (cc)
   headers (Cut p s) is i = absurd (cc)
@@ -158,6 +159,7 @@ module _ (fuses : ℕ → Fuse) (d : Doubted) (fit : LinksFit (noted_as fuses d)
   headers (Detach p s) is i = absurd (cc)
   headers (Crash s kept) is i = absurd (cc)
   headers (Deport s) is i = absurd (cc)
+  headers (Fall s) is i = absurd (cc)
   headers (Recover s fails) is i = absurd (cc)
   headers (Fault s disk) is i = absurd (cc)
 

@@ -14,3 +14,11 @@ pub mod Burning
 pub mod WithinOne
 pub mod WithinLines
 pub mod WithinApply
+pub mod RvgRooms
+pub mod RvgGained
+pub mod Brights
+pub mod BrightLines
+pub mod Shorts
+pub mod OtherNotes
+pub mod OtherLines
+pub mod OtherShorts

@@ -13,7 +13,7 @@ use Rattle.vx_history.specs.Step.{run, step}
 use Rattle.vx_history.specs.Stops.{IsFused, all_fails}
 use Rattle.vx_history.specs.World.{DataAck, Hello, Link, Message, NetAck, Node, Packet, Update, World}
 use Rattle.vx_history.specs.declared.event.Event.{Event}
-use Rattle.vx_history.specs.declared.event.Event.TheVariants.{Site, Raw, Group, Write, Read, Apply, Pump, Tick, Deliver, Connect, Cut, Pause, Resume, Wait, Link as LinkSites, Set, Attach, Detach, Crash, Deport, Recover, Fault}
+use Rattle.vx_history.specs.declared.event.Event.TheVariants.{Site, Raw, Group, Volumes, Write, Read, Apply, Pump, Tick, Deliver, Connect, Cut, Pause, Resume, Wait, Link as LinkSites, Set, Attach, Detach, Crash, Deport, Fall, Recover, Fault}
 use Rattle.vx_history.specs.declared.sender.SEvent.TheVariants.{Pump as PumpLink}
 use Rattle.vx_events.specs.Doubts.{run_as}
 use Rattle.vx_world.proofs.Lists.{each_append}
@@ -88,6 +88,7 @@ pub event_stays : (w : World) (e : Event) → is_settling e ≡ true → StaysAs
 event_stays w (Site name disks blocks) is = absurd (cc)
 event_stays w (Raw p) is = absurd (cc)
 event_stays w (Group p) is = absurd (cc)
+event_stays w (Volumes p log xs) is = absurd (cc)
 event_stays w (Write p volume start bytes fails) is = absurd (cc)
 event_stays w (Read p volume start count) is = absurd (cc)
 event_stays w (Apply s count reached) is = changed_stays Any 0 s 0 0 0 w _ (apply_changes Any 0 0 0 0 s w (λ k. each_any (packets_of s (w.nodes s).fed_by (w.nodes s).line (DataAck k))) count reached)
@@ -105,6 +106,7 @@ event_stays w (Attach p s) is = absurd (cc)
 event_stays w (Detach p s) is = absurd (cc)
 event_stays w (Crash s kept) is = absurd (cc)
 event_stays w (Deport s) is = absurd (cc)
+event_stays w (Fall s) is = absurd (cc)
 event_stays w (Recover s fails) is = absurd (cc)
 event_stays w (Fault s disk) is = absurd (cc)
 
@@ -223,6 +225,7 @@ no_fails (e ∷ es) (is, are) = one e is ∙ no_fails es are
     one (Site name disks blocks) is = absurd (cc)
     one (Raw p) is = absurd (cc)
     one (Group p) is = absurd (cc)
+    one (Volumes p log xs) is = absurd (cc)
     one (Write p volume start bytes fails) is = absurd (cc)
     one (Read p volume start count) is = absurd (cc)
     one (Apply s count reached) is = refl
@@ -240,6 +243,7 @@ no_fails (e ∷ es) (is, are) = one e is ∙ no_fails es are
     one (Detach p s) is = absurd (cc)
     one (Crash s kept) is = absurd (cc)
     one (Deport s) is = absurd (cc)
+    one (Fall s) is = absurd (cc)
     one (Recover s fails) is = absurd (cc)
     one (Fault s disk) is = absurd (cc)
 
@@ -248,6 +252,7 @@ pub happens : (d : Doubted) (e : Event) (taken : Bool) → is_settling e ≡ tru
 happens d (Site name disks blocks) taken is = absurd (cc)
 happens d (Raw p) taken is = absurd (cc)
 happens d (Group p) taken is = absurd (cc)
+happens d (Volumes p log xs) taken is = absurd (cc)
 happens d (Write p volume start bytes fails) taken is = absurd (cc)
 happens d (Read p volume start count) taken is = absurd (cc)
 happens d (Apply s count reached) taken is = refl
@@ -265,6 +270,7 @@ happens d (Attach p s) taken is = absurd (cc)
 happens d (Detach p s) taken is = absurd (cc)
 happens d (Crash s kept) taken is = absurd (cc)
 happens d (Deport s) taken is = absurd (cc)
+happens d (Fall s) taken is = absurd (cc)
 happens d (Recover s fails) taken is = absurd (cc)
 happens d (Fault s disk) taken is = absurd (cc)
 

@@ -4,3 +4,6 @@ pub mod Ending
 pub mod Between
 pub mod Works
 pub mod Burnt
+pub mod Gains
+pub mod Brights
+pub mod OtherNotes

@@ -10,7 +10,7 @@ use Rattle.vx_disk.specs.declared.shelf.Shelf.{Ghosts}
 use Rattle.vx_diskset.specs.Holds.{KeptBeside, beside_of}
 use Rattle.vx_diskset.specs.Stands.{IsGroupSet, SiteStands}
 use Rattle.vx_diskset.specs.declared.disk_set.DiskSet.{DiskSet}
-use Rattle.vx_diskset.specs.declared.disk_set.DiskSet.TheVariants.{Bare, Spoiled, Up, Receives, Down, OfGroup, Gone}
+use Rattle.vx_diskset.specs.declared.disk_set.DiskSet.TheVariants.{Bare, Spoiled, Up, Receives, Down, OfGroup, Over, Gone}
 use Rattle.vx_diskset.specs.declared.group_set.GroupSet.{GroupSet}
 use Rattle.vx_diskset.proofs.GroupStands.{over_group}
 use Rattle.vx_events.proofs.OverSeats.{fact_apart, over_reads}
@@ -26,6 +26,7 @@ use Rattle.vx_yard.specs.OfSites.{OfSite, ReadsBy, WritesBy}
 use Rattle.vx_yard.specs.Standing.{StandsFor}
 use Rattle.vx_yard.specs.declared.yard.Yard.{Yard}
 use Rattle.vx_yard.proofs.NamedSite.{SiteAt, fact_placed, place_at, site_at}
+use Rattle.vx_diskset.proofs.GroupFinding.{over_made}
 
 -- so is a node with the same group and volumes
 pub over_as : (n m : Node) → m.group ≡ n.group → m.volumes ≡ n.volumes → is_over_group n ≡ false → is_over_group m ≡ false
@@ -64,10 +65,11 @@ module _ {R : Type 0} {g : Ghosts R} where
   pub bare_apart : (beside : KeptBeside) (n : Node) (e : DiskSet R g) → SiteStands beside n e → n.state ≡ IsBare → is_over_group n ≡ false
   bare_apart beside n (Bare rack) h bare = ap is_over_group h.bare.is
   bare_apart beside n (Spoiled rack) h bare = ap is_over_group h.is
-  bare_apart beside n (Up rvg) h bare = absurd (let e : IsBare ≡ IsUp = sym bare ∙ h.state in cc)
-  bare_apart beside n (Receives s) h bare = absurd (let e : IsBare ≡ IsUp = sym bare ∙ h.state in cc)
+  bare_apart beside n (Up rvg) h bare = absurd (let e : IsBare ≡ IsUp = sym bare ∙ h.1.state in cc)
+  bare_apart beside n (Receives s) h bare = absurd (let e : IsBare ≡ IsUp = sym bare ∙ h.1.state in cc)
   bare_apart beside n (Down rack) h bare = absurd (let e : IsBare ≡ IsDown = sym bare ∙ h.state in cc)
   bare_apart beside n (OfGroup s) h bare = ap is_over_group (h.bare bare)
+  bare_apart beside n (Over s) h bare = absurd (over_made beside n s.site h.1 bare)
   bare_apart beside n Gone h bare = absurd h
 
   pub bare_over : (d : Doubted) (y : Yard R g) (s : ℕ) → StandsFor d y → s < d.world.sites → (d.world.nodes s).state ≡ IsBare → is_over_group (d.world.nodes s) ≡ false

@@ -15,7 +15,7 @@ use Rattle.vx_events.specs.Failing.{is_failing, made_fail}
 use Rattle.vx_events.specs.StepsOver.{over_group_at}
 use Rattle.vx_yard.proofs.CrashLine.{rose_still}
 use Rattle.vx_yard.proofs.FailsStay.{failing_fact}
-use Rattle.vx_diskset.proofs.FailGroup.{stands_failing}
+use Rattle.vx_diskset.proofs.FailSets.{stands_failing}
 use Rattle.vx_diskset.specs.Asked.{SetsDisk, disks_told, units_in}
 use Rattle.vx_diskset.specs.Holds.{KeptBeside, beside_of}
 use Rattle.vx_diskset.specs.Stands.{KeepsRole, SiteStands}
@@ -39,6 +39,7 @@ use Rattle.vx_grouped.specs.GroupSites.{GroupSiteStands, site_disks}
 use Rattle.vx_grouped.specs.declared.group_site.GroupSite.{GroupSite}
 use Rattle.vx_grouped.specs.declared.group_site.GroupSite.TheVariants.{Up as GroupUp, Deported as GroupDeported, Down as GroupDown, Marked, Gone as GroupGone}
 use Rattle.vx_site_lines.proofs.Apart.{fact_stays, over_is}
+use Rattle.vx_diskset.proofs.Laying.{raw_in}
 
 module _ {R : Type 0} {g : Ghosts R} where
   -- those of a group have as many
@@ -52,8 +53,8 @@ module _ {R : Type 0} {g : Ghosts R} where
   units_at : (beside : KeptBeside) (n : Node) (e : DiskSet R g) → SiteStands beside n e → units_in e ≡ n.disks
   units_at beside n (Bare rack) h = h.bare.fitted.units
   units_at beside n (Spoiled rack) h = h.fitted.units
-  units_at beside n (Up rvg) h = h.lies.units
-  units_at beside n (Receives site) h = h.lies.units
+  units_at beside n (Up rvg) h = (raw_in n (g.meaning rvg.shelf) h.0.0 h.1.lies).units
+  units_at beside n (Receives site) h = (raw_in n (g.meaning site.rvg.shelf) h.0.0 h.1.lies).units
   units_at beside n (Down rack) h = h.lies.units
   units_at beside n (OfGroup s) h = group_units n s.site h.stands
   units_at beside n Gone h = absurd h

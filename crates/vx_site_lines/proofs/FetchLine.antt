@@ -1,6 +1,6 @@
 -- A line that reads blocks of a site that may keep links.
 use Rattle.std.proofs.Common.{◌≡◌, ◌∙◌, ◌+◌, ◌*◌, ◌<◌, ◌≤◌, ℕ, false, List, [], ◌∷◌, length, ap, sym, subst, refl, arith, inl, inr}
-use Rattle.std.specs.Prelude.{Option, Some, Ok, Err, map, slice_get, unwrap_or}
+use Rattle.std.specs.Prelude.{None, Option, Some, Ok, Err, map, slice_get, unwrap_or}
 use Rattle.std.proofs.lemmas.Option.{slice_get_within}
 use Rattle.vx_history.specs.Doubts.{Doubted}
 use Rattle.vx_history.specs.Refusals.{Outcome}
@@ -24,9 +24,11 @@ use Rattle.vx_diskset.specs.DiskSets.{CanRead}
 use Rattle.vx_diskset.specs.Fetching.{GaveAt}
 use Rattle.vx_diskset.specs.Fuses.{LeftAs}
 use Rattle.vx_diskset.specs.Holds.{KeptBeside, beside_of}
-use Rattle.vx_diskset.specs.Stands.{IsToldAt, KeepsRole, SiteStands}
+use Rattle.vx_diskset.specs.Stands.{IsToldAt, KeepsRole, SiteStands, OverStands}
 use Rattle.vx_diskset.specs.declared.disk_set.DiskSet.{DiskSet}
-use Rattle.vx_diskset.specs.declared.disk_set.DiskSet.TheVariants.{Bare, Spoiled, Up, Receives, Down, OfGroup, Gone}
+use Rattle.vx_diskset.specs.declared.disk_set.DiskSet.TheVariants.{Bare, Spoiled, Up, Receives, Down, OfGroup, Over, Gone}
+use Rattle.vx_diskset.specs.declared.over_set.OverSite.{OverSite}
+use Rattle.vx_diskset.specs.declared.over_set.OverSite.TheVariants.{Origin as OriginSite, Receiver as ReceiverSite, Deported as OverAway, Down as OverFell, Gone as NoOver}
 use Rattle.vx_events.proofs.Blocks.{shown_are}
 use Rattle.vx_events.proofs.Keeping.{read_stays}
 use Rattle.vx_events.proofs.Places.{some_same}
@@ -40,13 +42,13 @@ use Rattle.vx_rvg.specs.Contents.{ShowsContent}
 use Rattle.vx_events.specs.Facts.{group_by, group_fact, place_of, seat_of, site_number, volume_fact, volume_number}
 use Rattle.vx_events.specs.GroupLines.{is_over_group}
 use Rattle.vx_events.specs.LinkedFacts.{linked_fact}
-use Rattle.vx_events.specs.StepsOver.{over_group_at}
 use Rattle.vx_events.specs.Lines.{IsDone}
 use Rattle.vx_events.specs.LinksFit.{LinksFit}
 use Rattle.vx_events.specs.Lists.{Choice, events_of}
 use Rattle.vx_events.specs.declared.said.Said.{Said}
 use Rattle.vx_events.specs.declared.said.Said.TheVariants.{Got, Refused}
 use Rattle.vx_site_lines.specs.Fetching.{IsReadLine}
+use Rattle.vx_yard.specs.Working.{IsUngroupedAt}
 use Rattle.vx_yard.specs.Stands.{RoseAll}
 use Rattle.vx_yard.specs.Standing.{Leads, StandsFor}
 use Rattle.vx_yard.specs.Yards.{IsTold, count_of}
@@ -61,7 +63,10 @@ use Rattle.vx_yard.proofs.NamedSite.{SiteAt, apart_at, fact_named, site_at}
 use Rattle.vx_yard.proofs.NoteSite.{comes_same, one_left, only_left}
 use Rattle.vx_yard.proofs.OneSite.{Changed, Comes, beside_same, role_kept, rose_at, stands_still, told_by}
 use Rattle.vx_site_lines.proofs.Apart.{never_up}
+use Rattle.vx_yard.proofs.RawSites.{raw_site, raw_told, ungrouped_over, ungrouped_site}
 use Rattle.vx_yard.proofs.SiteEvents.{first_choice}
+use Rattle.vx_diskset.proofs.Laying.{laid_in}
+use Rattle.vx_ground.specs.Lifted.{laid_volumes}
 
 -- ---- the event
 
@@ -122,28 +127,37 @@ record Whole (n : Node) : Type 0 where
   named : (v : ℕ) (x : Volume) → slice_get n.volumes v ≡ Some x → n.base.size v ≡ x.blocks
 
 module _ {R : Type 0} {g : Ghosts R} where
+  over_whole : (beside : KeptBeside) (n : Node) (s : OverSite R g) → OverStands beside n s → Whole n
+  over_whole beside n (OriginSite f) h = let laid = laid_in n (laid_volumes f.laid) h.lies in record { few = laid.few; named = laid.named }
+  over_whole beside n (ReceiverSite f) h = let laid = laid_in n (laid_volumes f.laid) h.lies in record { few = laid.few; named = laid.named }
+  over_whole beside n (OverAway idle) h = record { few = h.1.lies.few; named = h.1.lies.named }
+  over_whole beside n (OverFell idle) h = record { few = h.2.lies.few; named = h.2.lies.named }
+  over_whole beside n NoOver h = absurd h
+
   whole_at : (beside : KeptBeside) (n : Node) (e : DiskSet R g) → is_over_group n ≡ false → n.state ≡ IsUp → SiteStands beside n e → Whole n
   whole_at beside n (Bare rack) apart up h = absurd (let e : IsBare ≡ IsUp = sym (ap (λ (k : Node). k.state) h.bare.is) ∙ up in cc)
   whole_at beside n (Spoiled rack) apart up h = absurd (let e : IsBare ≡ IsUp = sym (ap (λ (k : Node). k.state) h.is) ∙ up in cc)
-  whole_at beside n (Up rvg) apart up h = record { few = h.lies.laid.few; named = h.lies.laid.named }
-  whole_at beside n (Receives site) apart up h = record { few = h.lies.laid.few; named = h.lies.laid.named }
+  whole_at beside n (Up rvg) apart up h = let laid = laid_in n (g.meaning rvg.shelf) h.1.lies in record { few = laid.few; named = laid.named }
+  whole_at beside n (Receives site) apart up h = let laid = laid_in n (g.meaning site.rvg.shelf) h.1.lies in record { few = laid.few; named = laid.named }
   whole_at beside n (Down rack) apart up h = record { few = h.lies.laid.few; named = h.lies.laid.named }
   whole_at beside n (OfGroup s) apart up h = never_up beside n s h apart up
+  whole_at beside n (Over s) apart up h = over_whole beside n s.site h.1
   whole_at beside n Gone apart up h = absurd h
 
   -- a run of blocks, by the numbers of its site and its volume
   pub record Fetching (d : Doubted) (y : Yard R g) (name volume : List ℕ) (start count s place : ℕ) : Type 0 where
     pub seat : SiteAt d y name s
     pub apart : is_over_group (d.world.nodes s) ≡ false
+    pub none : (d.world.nodes s).group ≡ None
     pub volume_is : volume_number (d.world.nodes s) volume ≡ place
     pub some : 1 ≤ count
     pub few : count ≤ 16
     pub can : CanRead (d.world.nodes s) place start count
 
-  pub fetching : (d : Doubted) (y : Yard R g) (name volume : List ℕ) (start count s place : ℕ) (e : DiskSet R g) → StandsFor d y → over_group_at d.world name ≡ false → CallMay y.facts.items name volume start count → seat_of y.facts.items name ≡ Some s
+  pub fetching : (d : Doubted) (y : Yard R g) (name volume : List ℕ) (start count s place : ℕ) (e : DiskSet R g) → StandsFor d y → IsUngroupedAt d.world name → CallMay y.facts.items name volume start count → seat_of y.facts.items name ≡ Some s
       → slice_get y.disk_sets.items s ≡ Some e → ((f : SiteFacts) → slice_get y.facts.items s ≡ Some f → place_of f.volumes volume ≡ Some place) → Fetching d y name volume start count s place
   fetching d y name volume start count s place e stands apart may at there place_is =
-      let over = apart_at d y name s stands apart at in
+      let over = apart_at d y name s stands (ungrouped_over d.world name apart) at in
       let here = site_at d y name s stands over at in
       let n : Node = d.world.nodes s in
       let fact = fact_named d y name s here at may.site in
@@ -156,6 +170,7 @@ module _ {R : Type 0} {g : Ghosts R} where
       record {
         seat = here;
         apart = over;
+        none = ungrouped_site d.world name s here.number apart;
         volume_is = ap (λ (o : Option ℕ). unwrap_or o 0) found;
         some = may.some;
         few = may.few;
@@ -219,7 +234,7 @@ module _ {R : Type 0} {g : Ghosts R} where
         done = done_by (IsTold new) d line name volume start count [] (Got bytes) (behind_read d k v start count) is
             (λ l list still. got_ends (IsTold new) d l k v start count bytes list still gave.size
             (λ told. record { site = omega (arith, read.seat.below, read.seat.number); up = can.up; running = can.running; primary = led; known = can.volume_exists; some = read.some; few = read.few; within = can.within })
-            (λ told. shows (told.each s after there)));
+            (λ told. shows (raw_told after (raw_site (beside_of d s) (d.world.nodes s) after read.none gave.stands) (told.each s after there))));
         carries = λ was. read_world d k v start count (λ (e : Doubted). Carries e new)
             (carries_on d (recounted d d.world) old new was load refl (λ i. refl) (λ i. feeds_same (d.world.nodes i) (d.world.nodes i) refl) (told_by old new s before after changed));
         stands = read_for d old new s before after stands read.seat.below changed alone keeps gave.stands facts k v start count;

@@ -31,7 +31,7 @@ use Rattle.vx_diskset.specs.Holds.{KeptBeside, KeptSite, site_alone, beside_of, 
 use Rattle.vx_diskset.specs.Layouts.{CanBeRaw}
 use Rattle.vx_diskset.specs.Stands.{RoleIs, StandsAlone, SiteStands, bare_with}
 use Rattle.vx_diskset.specs.declared.disk_set.DiskSet.{DiskSet}
-use Rattle.vx_diskset.specs.declared.disk_set.DiskSet.TheVariants.{Bare, Spoiled, Up, Receives, Down, OfGroup, Gone}
+use Rattle.vx_diskset.specs.declared.disk_set.DiskSet.TheVariants.{Bare, Spoiled, Up, Receives, Down, OfGroup, Over, Gone}
 use Rattle.vx_effects.proofs.Fitting.{fit_happened}
 use Rattle.vx_events.proofs.LinkTesting.{nothing_shown}
 use Rattle.vx_events.proofs.Places.{never_some, some_same}
@@ -66,6 +66,7 @@ use Rattle.vx_site_lines.proofs.Apart.{bare_seat, fact_at, over_is, state_placed
 use Rattle.vx_site_lines.proofs.RawLine.{raw_fact_of}
 use Rattle.vx_yard.proofs.Rows.{fact_from, fact_same}
 use Rattle.vx_yard.proofs.SiteEvents.{first_choice}
+use Rattle.vx_diskset.proofs.GroupFinding.{over_made}
 
 no_more : (n : ℕ) → n + 0 ≡ n
 no_more n = omega arith
@@ -135,12 +136,13 @@ module _ {R : Type 0} {g : Ghosts R} where
   pub bare_at : (beside : KeptBeside) (n : Node) (e : DiskSet R g) → SiteStands beside n e → n.state ≡ IsBare → (n.parent ≡ no_line) × (n.low ≡ 1) × (n.fuse ≡ NoFuse) × (n.group ≡ None)
   bare_at beside n (Bare rack) stands is = (ap (λ (k : Node). k.parent) stands.bare.is, ap (λ (k : Node). k.low) stands.bare.is, ap (λ (k : Node). k.fuse) stands.bare.is, ap (λ (k : Node). k.group) stands.bare.is)
   bare_at beside n (Spoiled rack) stands is = (ap (λ (k : Node). k.parent) stands.is, ap (λ (k : Node). k.low) stands.is, ap (λ (k : Node). k.fuse) stands.is, ap (λ (k : Node). k.group) stands.is)
-  bare_at beside n (Up rvg) stands is = absurd (let e : IsBare ≡ IsUp = sym is ∙ stands.state in cc)
-  bare_at beside n (Receives site) stands is = absurd (let e : IsBare ≡ IsUp = sym is ∙ stands.state in cc)
+  bare_at beside n (Up rvg) stands is = absurd (let e : IsBare ≡ IsUp = sym is ∙ stands.1.state in cc)
+  bare_at beside n (Receives site) stands is = absurd (let e : IsBare ≡ IsUp = sym is ∙ stands.1.state in cc)
   bare_at beside n (Down rack) stands is = absurd (let e : IsBare ≡ IsDown = sym is ∙ stands.state in cc)
   bare_at beside n (OfGroup s) stands is =
       let same : n ≡ bare_with n = stands.bare is in
       (ap (λ (k : Node). k.parent) same, ap (λ (k : Node). k.low) same, ap (λ (k : Node). k.fuse) same, ap (λ (k : Node). k.group) same)
+  bare_at beside n (Over s) stands is = absurd (over_made beside n s.site stands.1 is)
   bare_at beside n Gone stands is = absurd stands
 
   -- what the tests of the line found

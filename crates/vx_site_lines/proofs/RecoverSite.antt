@@ -11,10 +11,8 @@ use Rattle.vx_events.proofs.OverSeats.{over_reads}
 use Rattle.vx_events.proofs.Places.{never_some, some_same}
 use Rattle.vx_events.proofs.Refused.{Named, named, passes}
 use Rattle.vx_events.specs.Facts.{seat_of, site_number}
-use Rattle.vx_events.specs.GroupLines.{is_over_group}
 use Rattle.vx_events.specs.LinksFit.{LinksFit}
 use Rattle.vx_events.specs.Lists.{Choice}
-use Rattle.vx_events.specs.StepsOver.{over_group_at}
 use Rattle.vx_events.specs.declared.said.Said.{Said}
 use Rattle.vx_model.specs.declared.no.No.TheVariants.{Role as WrongRole}
 use Rattle.vx_order.specs.Grouping.{is_deported, recover_role}
@@ -25,14 +23,14 @@ use Rattle.vx_order.specs.Tests.{when}
 use Rattle.vx_order.specs.declared.facts.SiteFacts.{SiteFacts}
 use Rattle.vx_script.specs.declared.line.ScriptLine.TheVariants.{Recover}
 use Rattle.vx_site_lines.specs.Rises.{LeadsFrom, RisesFrom, WasDown, WasUp, own_disks}
-use Rattle.vx_yard.specs.Standing.{Falls, Leads, LeadsIs, StandsFor, crash_of}
+use Rattle.vx_yard.specs.Standing.{Falls, Leads, LeadsIs, StandsFor}
 use Rattle.vx_yard.specs.Yards.{count_of}
 use Rattle.vx_yard.specs.declared.yard.Yard.{Yard}
-use Rattle.vx_yard.proofs.NamedSite.{apart_at, place_at, site_at}
+use Rattle.vx_yard.proofs.NamedSite.{place_at, site_at}
 use Rattle.vx_yard.proofs.RecoverLine.{rose_then}
-use Rattle.vx_site_lines.proofs.Apart.{over_as}
 use Rattle.vx_site_lines.proofs.RiseWorlds.{own_sites}
 use Rattle.vx_yard.proofs.SiteEvents.{first_choice, keeps_k}
+use Rattle.vx_diskset.proofs.GroupStands.{none_apart}
 
 -- the site of such a line is not deported
 pub never_deported : (sites : List SiteFacts) (files : Bool) (name : List ℕ) (f : SiteFacts) → line_refusal sites files (Recover name) ≡ None → ((n : Named sites name) → n.facts ≡ f) → f.state ≡ Deported → ⊥
@@ -49,26 +47,28 @@ module _ {R : Type 0} {g : Ghosts R} where
   abbrev pub Rising : (s blocks : ℕ) → Said → Yard R g → Yard R g → Type 0
   Rising s blocks said old new =
       (d h : Doubted) (c : Choice) (taken : Bool) (name : List ℕ) → site_number d.world name ≡ s → RisesFrom d s c taken h → LinksFit d → StandsFor (own_disks taken s d.world h) old
-      → s < h.world.sites → ((own_disks taken s d.world h).world.nodes s).state ≡ IsDown → is_over_group ((own_disks taken s d.world h).world.nodes s) ≡ false → blocks ≡ ((own_disks taken s d.world h).world.nodes s).blocks
+      → s < h.world.sites → ((own_disks taken s d.world h).world.nodes s).state ≡ IsDown → ((own_disks taken s d.world h).world.nodes s).group ≡ None → blocks ≡ ((own_disks taken s d.world h).world.nodes s).blocks
       → LeadsFrom (own_disks taken s d.world h) d (Recover name) said old new
 
   -- a site that was down
-  pub recover_from_down : (d : Doubted) (old new : Yard R g) (name : List ℕ) (s blocks : ℕ) (said : Said) (f : SiteFacts) → StandsFor d old → over_group_at d.world name ≡ false → seat_of old.facts.items name ≡ Some s
+  pub recover_from_down : (d : Doubted) (old new : Yard R g) (name : List ℕ) (s blocks : ℕ) (said : Said) (f : SiteFacts) → StandsFor d old → (d.world.nodes (site_number d.world name)).group ≡ None → seat_of old.facts.items name ≡ Some s
       → slice_get old.facts.items s ≡ Some f → f.state ≡ IsDown → blocks ≡ f.blocks → Rising s blocks said old new → Leads d (Recover name) said old new
   recover_from_down d old new name s blocks said f stands apart seat at down blocks_is rises =
-      let over = apart_at d old name s stands apart seat in
+      let none = subst (λ (i : ℕ). (d.world.nodes i).group ≡ None) (place_at d old name s stands seat).number apart in
+      let over = none_apart (d.world.nodes s) none in
       let here = site_at d old name s stands over seat in
       let same = some_same (sym at ∙ here.fact) in
       let state : (d.world.nodes s).state ≡ IsDown = sym (ap (λ (x : SiteFacts). x.state) same) ∙ down in
-      let lead = rises d d first_choice false name here.number (WasDown state refl refl) stands.links stands here.below state over (blocks_is ∙ ap (λ (x : SiteFacts). x.blocks) same) in
+      let lead = rises d d first_choice false name here.number (WasDown state refl refl) stands.links stands here.below state none (blocks_is ∙ ap (λ (x : SiteFacts). x.blocks) same) in
       record { next = lead.next; fails = lead.fails; done = lead.done; stands = lead.stands; carries = lead.carries; rose = lead.rose }
 
   -- a site that was up crashes first
-  pub recover_from_up : (d : Doubted) (old mid new : Yard R g) (name : List ℕ) (s blocks : ℕ) (said : Said) (f : SiteFacts) → StandsFor d old → over_group_at d.world name ≡ false → seat_of old.facts.items name ≡ Some s
+  pub recover_from_up : (d : Doubted) (old mid new : Yard R g) (name : List ℕ) (s blocks : ℕ) (said : Said) (f : SiteFacts) → StandsFor d old → (d.world.nodes (site_number d.world name)).group ≡ None → seat_of old.facts.items name ≡ Some s
       → slice_get old.facts.items s ≡ Some f → f.state ≡ IsUp → blocks ≡ f.blocks → ((d : Doubted) → StandsFor d old → s < d.world.sites → (d.world.nodes s).state ≡ IsUp → Falls d s old mid)
       → Rising s blocks said mid new → Leads d (Recover name) said old new
   recover_from_up d old mid new name s blocks said f stands apart seat at up blocks_is falls rises =
-      let over = apart_at d old name s stands apart seat in
+      let none = subst (λ (i : ℕ). (d.world.nodes i).group ≡ None) (place_at d old name s stands seat).number apart in
+      let over = none_apart (d.world.nodes s) none in
       let here = site_at d old name s stands over seat in
       let same = some_same (sym at ∙ here.fact) in
       let state : (d.world.nodes s).state ≡ IsUp = sym (ap (λ (x : SiteFacts). x.state) same) ∙ up in
@@ -76,7 +76,7 @@ module _ {R : Type 0} {g : Ghosts R} where
       let h : Doubted = happened d (CrashAt s fell.count) fell.taken in
       let lead = rises d h (keeps_k fell.count) fell.taken name here.number (WasUp state (ap (λ (k : ℕ). happened d (CrashAt s k) fell.taken) (sym fell.keeps))) stands.links fell.stands
       (omega (arith, here.below, fell.sites, own_sites s d.world h fell.taken)) fell.down
-      (over_as (d.world.nodes s) ((crash_of d s fell.count fell.taken).world.nodes s) fell.group fell.volumes over) (blocks_is ∙ ap (λ (x : SiteFacts). x.blocks) same ∙ sym fell.blocks) in
+      (fell.group ∙ none) (blocks_is ∙ ap (λ (x : SiteFacts). x.blocks) same ∙ sym fell.blocks) in
       record {
         next = lead.next;
         fails = lead.fails;

@@ -57,20 +57,22 @@ use Rattle.vx_yard.specs.declared.yard.Yard.{Yard}
 use Rattle.vx_yard.proofs.Carrying.{SameLoad, carries_on, carries_same, feeds_same}
 use Rattle.vx_yard.proofs.CrashLine.{rose_still}
 use Rattle.vx_yard.proofs.FailsStay.{fails_then}
-use Rattle.vx_site_lines.proofs.Apart.{bare_over, over_as, over_is}
+use Rattle.vx_site_lines.proofs.Apart.{bare_over, over_is}
 use Rattle.vx_site_lines.proofs.FetchLine.{no_more, recounted, recounted_fits}
 use Rattle.vx_yard.proofs.FuseStays.{fused_none}
 use Rattle.vx_yard.proofs.Lists.{get-set_same, set_twice}
 use Rattle.vx_yard.proofs.NamedSite.{fact_of}
 use Rattle.vx_yard.proofs.NoteSite.{comes_same, one_left}
 use Rattle.vx_yard.proofs.OneSite.{Changed, Comes, beside_same, role_off, rose_at, stands_still, told_by}
-use Rattle.vx_site_lines.proofs.RawSite.{bare_at, bare_sure, raw_apart}
+use Rattle.vx_site_lines.proofs.RawSite.{bare_at, bare_sure}
 use Rattle.vx_site_lines.proofs.RiseLeads.{Replaced, never_told}
+use Rattle.vx_yard.proofs.RawSites.{bare_set, raw_site}
 use Rattle.vx_yard.proofs.RecoverLine.{bare_events, recover_done}
 use Rattle.vx_site_lines.proofs.RiseLine.{effect_as, plain_of, quiet_is, row_starts, shape_at}
 use Rattle.vx_site_lines.proofs.RiseSite.{ComesUp, IsWhole, SeesDisks, up_carries, up_stands}
 use Rattle.vx_site_lines.proofs.RiseWorlds.{found_effect}
 use Rattle.vx_yard.proofs.SiteEvents.{first_choice}
+use Rattle.vx_diskset.proofs.GroupStands.{none_apart}
 
 module _ {R : Type 0} {g : Ghosts R} where
   -- a site of which a refused event counts no header
@@ -151,7 +153,7 @@ module _ {R : Type 0} {g : Ghosts R} where
       pub untold_none : (why : No) → IsNoDevice why → (IsToldAt after → ⊥) → Leads d (Recover name) (Refused why) old new
       untold_none why other untold =
           bare_leads [] (Refused why)
-          (FindsNone (never_told old.disk_sets.items new.disk_sets.items s before after there replaced.disk_sets untold) first_choice false name d (raw_set s n) why refl (FromBare bare refl refl) other refl refl
+          (FindsNone (never_told old.disk_sets.items new.disk_sets.items s before after there replaced.disk_sets (bare_set (beside_of d s) n after at bare) untold) first_choice false name d (raw_set s n) why refl (FromBare bare refl refl) other refl refl
           (record { world = refl; after = λ i. refl })) rose_here
 
     pub stays_bare : (new : Yard R g) → Replaced old new s after → (why : No) → BareUpIs n before after (Err why) → Leads d (Recover name) (Refused why) old new
@@ -202,11 +204,14 @@ module _ {R : Type 0} {g : Ghosts R} where
       abbrev beside_now : KeptBeside
       beside_now = record { links = row_links row d.world.sites; headers = d.world.headers s; doubt = None }
 
+      none : k.group ≡ None
+      none = found.same.group ∙ (bare_at (beside_of d s) n before stood bare).3
+
       apart : is_over_group k ≡ false
-      apart = over_as (raw_set 0 n) k found.same.group found.same.volumes (raw_apart 0 n (bare_at (beside_of d s) n before stood bare).3)
+      apart = none_apart k none
 
       stands_now : SiteStands beside_now k after
-      stands_now = any_links lawful beside_now beside_now found.node found.node.other after found.untold refl found.same.up apart (found.stands beside_now refl)
+      stands_now = any_links lawful beside_now beside_now found.node found.node.other after found.untold refl found.same.up none (found.stands beside_now refl)
 
       fact_is : site ≡ linked_fact d.world s
       fact_is = some_same (sym site_at ∙ fact_of d old s stands below) ∙ fact_apart d.world s (bare_over d old s stands below bare)
@@ -216,7 +221,7 @@ module _ {R : Type 0} {g : Ghosts R} where
 
       whole_now : IsWhole k ring
       whole_now =
-          let shape = shape_at beside_now k after stands_now apart (λ is. let e : IsUp ≡ IsBare = sym found.same.up ∙ is in cc) in
+          let shape = shape_at beside_now k after stands_now none (λ is. let e : IsUp ≡ IsBare = sym found.same.up ∙ is in cc) in
           record {
             up = found.same.up;
             running = found.same.running;
@@ -300,7 +305,7 @@ module _ {R : Type 0} {g : Ghosts R} where
         next = next;
         fails = [];
         done = recover_done (IsTold new) d next s name [] said number
-            (FindsLinks (never_told old.disk_sets.items new.disk_sets.items s before after there changed_up.disk_sets found.untold) first_choice false name d (raw_set s n) k row refl (FromBare bare refl refl) comes_as tt
+            (FindsLinks (never_told old.disk_sets.items new.disk_sets.items s before after there changed_up.disk_sets (raw_site beside_now k after none stands_now) found.untold) first_choice false name d (raw_set s n) k row refl (FromBare bare refl refl) comes_as tt
             (rises.says ∙ ap (λ (v : SiteView). Recovered rises.last v) (rises.shows next stands_next below (over_is k (next.world.nodes s) effect_now.is.node apart)) ∙ ap (λ (x : ℕ). Recovered x (linked_view next.world s)) last_is)
             (record { world = refl; after = λ i. refl }));
         stands = stands_next;

@@ -19,10 +19,10 @@ use Rattle.vx_diskset.specs.Layouts.{CanBeRaw, IsRoomOf}
 use Rattle.vx_diskset.specs.Stands.{IsToldAt, SiteStands}
 use Rattle.vx_diskset.specs.Withdrawn.{IsBareOf}
 use Rattle.vx_diskset.specs.declared.disk_set.DiskSet.{DiskSet}
-use Rattle.vx_diskset.specs.declared.disk_set.DiskSet.TheVariants.{Bare, Spoiled, Up, Receives, Down, OfGroup, Gone}
+use Rattle.vx_diskset.specs.declared.disk_set.DiskSet.TheVariants.{Bare, Spoiled, Up, Receives, Down, OfGroup, Over, Gone}
 use Rattle.vx_diskset.proofs.KeepsFailing.{failing_same, failing_then}
 use Rattle.vx_history.specs.Doubts.{Doubted}
-use Rattle.vx_history.specs.Steps.{raw_set, raw_volumes}
+use Rattle.vx_history.specs.Steps.{raw_volumes}
 use Rattle.vx_history.specs.World.{Node}
 use Rattle.vx_events.proofs.OverSeats.{fact_apart}
 use Rattle.vx_events.proofs.Places.{some_same}
@@ -43,12 +43,14 @@ use Rattle.vx_yard.specs.declared.yard.Yard.{Yard}
 use Rattle.vx_yard.proofs.Kept.{many_sites}
 use Rattle.vx_yard.proofs.Lists.{set_same}
 use Rattle.vx_yard.proofs.NamedSite.{fact_of}
-use Rattle.vx_site_lines.proofs.Apart.{bare_over, over_as}
-use Rattle.vx_site_lines.proofs.RawSite.{bare_at, raw_apart}
+use Rattle.vx_site_lines.proofs.Apart.{bare_over}
+use Rattle.vx_site_lines.proofs.RawSite.{bare_at}
 use Rattle.vx_site_lines.proofs.RiseBare.{none_leads, stands_up_bare, stays_bare, untold_none}
 use Rattle.vx_site_lines.proofs.RiseLeads.{Replaced, stays_down, stood_up, withdrawn}
 use Rattle.vx_site_lines.proofs.RiseLine.{shape_at, sure, told_may, told_origin}
 use Rattle.vx_site_lines.proofs.RiseWorlds.{own_sites}
+use Rattle.vx_diskset.proofs.GroupFinding.{over_made}
+use Rattle.vx_diskset.proofs.GroupStands.{none_apart}
 
 module _ {R : Type 0} {g : Ghosts R} where
   pub later_then : (a b c : DiskSet R g) → Later a b → Later b c → Later a c
@@ -61,9 +63,9 @@ module _ {R : Type 0} {g : Ghosts R} where
 
   module _ (lawful : (r : R) → Lawful (g.meaning r)) (d h : Doubted) (old : Yard R g) (s ring : ℕ) (c : Choice) (taken : Bool) (name : List ℕ) (number : site_number d.world name ≡ s)
       (from : RisesFrom d s c taken h) (fit_d : LinksFit d) (stands : StandsFor (own_disks taken s d.world h) old) (below : s < h.world.sites)
-      (down : ((own_disks taken s d.world h).world.nodes s).state ≡ IsDown) (apart : is_over_group ((own_disks taken s d.world h).world.nodes s) ≡ false) (ring_is : ring ≡ ring_of ((own_disks taken s d.world h).world.nodes s).blocks) (room : Room) (room_is : IsRoomOf ((own_disks taken s d.world h).world.nodes s).blocks ring room)
+      (down : ((own_disks taken s d.world h).world.nodes s).state ≡ IsDown) (apart : ((own_disks taken s d.world h).world.nodes s).group ≡ None) (ring_is : ring ≡ ring_of ((own_disks taken s d.world h).world.nodes s).blocks) (room : Room) (room_is : IsRoomOf ((own_disks taken s d.world h).world.nodes s).blocks ring room)
       (before up : DiskSet R g) (there : slice_get old.disk_sets.items s ≡ Some before) (later : Later before up) (same : SameFailing before up) (r : Result (Unit {0}) No)
-      (recovered : (beside : KeptBeside) (n : Node) → SiteStands beside n before → n.state ≡ IsDown → is_over_group n ≡ false → IsRoomOf n.blocks n.ring room → CameUpByIs beside n before up r) where
+      (recovered : (beside : KeptBeside) (n : Node) → SiteStands beside n before → n.state ≡ IsDown → n.group ≡ None → IsRoomOf n.blocks n.ring room → CameUpByIs beside n before up r) where
     abbrev mid : Doubted
     mid = own_disks taken s d.world h
 
@@ -96,10 +98,10 @@ module _ {R : Type 0} {g : Ghosts R} where
       came = by.came
 
       by_apart : is_over_group by.came.node ≡ false
-      by_apart = over_as m by.came.node by.came.same.group by.came.same.volumes apart
+      by_apart = none_apart by.came.node (by.came.same.group ∙ apart)
 
       came_apart : is_over_group came.node ≡ false
-      came_apart = over_as m came.node came.same.group came.same.volumes apart
+      came_apart = none_apart came.node (came.same.group ∙ apart)
 
       sites_mid : sites ≡ mid.world.sites
       sites_mid = sites_is ∙ many_sites mid old stands
@@ -139,10 +141,11 @@ module _ {R : Type 0} {g : Ghosts R} where
   bare_of : (beside : KeptBeside) (n k : Node) (e : DiskSet R g) → SiteStands beside n e → n.state ≡ IsBare → k.disks ≡ n.disks → k.blocks ≡ n.blocks → IsBareOf n k
   bare_of beside n k (Bare rack) h bare disks blocks = record { is = h.bare.is; few = h.bare.few; some = h.bare.some; disks = disks; blocks = blocks }
   bare_of beside n k (Spoiled rack) h bare disks blocks = record { is = h.is; few = h.few; some = h.some; disks = disks; blocks = blocks }
-  bare_of beside n k (Up rvg) h bare disks blocks = absurd (let e : IsBare ≡ IsUp = sym bare ∙ h.state in cc)
-  bare_of beside n k (Receives s) h bare disks blocks = absurd (let e : IsBare ≡ IsUp = sym bare ∙ h.state in cc)
+  bare_of beside n k (Up rvg) h bare disks blocks = absurd (let e : IsBare ≡ IsUp = sym bare ∙ h.1.state in cc)
+  bare_of beside n k (Receives s) h bare disks blocks = absurd (let e : IsBare ≡ IsUp = sym bare ∙ h.1.state in cc)
   bare_of beside n k (Down rack) h bare disks blocks = absurd (let e : IsBare ≡ IsDown = sym bare ∙ h.state in cc)
   bare_of beside n k (OfGroup s) h bare disks blocks = record { is = h.bare bare; few = h.few; some = h.some; disks = disks; blocks = blocks }
+  bare_of beside n k (Over s) h bare disks blocks = absurd (over_made beside n s.site h.1 bare)
   bare_of beside n k Gone h bare disks blocks = absurd h
 
   module _ (d : Doubted) (old : Yard R g) (s : ℕ) (name : List ℕ) (number : site_number d.world name ≡ s) (stands : StandsFor d old) (below : s < d.world.sites)
@@ -190,10 +193,10 @@ module _ {R : Type 0} {g : Ghosts R} where
         rose = rose_by.came
 
         rose_by_apart : is_over_group rose_by.came.node ≡ false
-        rose_by_apart = over_as (raw_set 0 n) rose_by.came.node rose_by.came.same.group rose_by.came.same.volumes (raw_apart 0 n (bare_at (beside_of d s) n before stood_bare bare).3)
+        rose_by_apart = none_apart rose_by.came.node (rose_by.came.same.group ∙ (bare_at (beside_of d s) n before stood_bare bare).3)
 
-        rose_apart : is_over_group rose.node ≡ false
-        rose_apart = over_as (raw_set 0 n) rose.node rose.same.group rose.same.volumes (raw_apart 0 n (bare_at (beside_of d s) n before stood_bare bare).3)
+        rose_none : rose.node.group ≡ None
+        rose_none = rose.same.group ∙ (bare_at (beside_of d s) n before stood_bare bare).3
 
         -- a site came up of them, and stands up
         pub bare_up : (lawful : (r : R) → Lawful (g.meaning r)) (y new : Yard R g) (three : SiteFacts) (volumes : List VolumeFacts) (ring sites : ℕ) (state : State) (used : List ℕ) (said : Said)
@@ -211,10 +214,10 @@ module _ {R : Type 0} {g : Ghosts R} where
 
         -- and is bare again, as it may not stand up with what its log keeps
         pub bare_again : (after : DiskSet R g) (new : Yard R g)
-            → ((beside : KeptBeside) (n k : Node) → SiteStands beside k up → k.state ≡ IsUp → is_over_group k ≡ false → IsBareOf n k → (IsToldAt after → ⊥) → (other : KeptBeside) → SiteStands other n after) → Later up after
+            → ((beside : KeptBeside) (n k : Node) → SiteStands beside k up → k.state ≡ IsUp → k.group ≡ None → IsBareOf n k → (IsToldAt after → ⊥) → (other : KeptBeside) → SiteStands other n after) → Later up after
             → SameFailing up after → Replaced old new s after → Leads d (Recover name) (Refused NoConfig) old new
         bare_again after new withdraws fell fails replaced =
             untold_none d old s name number stands below bare before after there (later_then before up after later fell) (failing_then before up after same fails) new replaced
-            (withdraws site_alone n rose.node (rose.stands site_alone refl) rose.same.up rose_apart (bare_of (beside_of d s) n rose.node before stood_bare bare rose.same.disks rose.same.blocks)
+            (withdraws site_alone n rose.node (rose.stands site_alone refl) rose.same.up rose_none (bare_of (beside_of d s) n rose.node before stood_bare bare rose.same.disks rose.same.blocks)
             (λ told. rose.untold (fell.told told)) (beside_of d s))
             NoConfig tt (λ told. rose.untold (fell.told told))

@@ -1,5 +1,5 @@
 -- What a line leads to that starts the group of a site: it stands up with its links, or stays down.
-use Rattle.std.proofs.Common.{◌≡◌, ◌∙◌, ◌<◌, ◌≤◌, ◌++◌, ◌+◌, ◌⊎◌, ℕ, Bool, true, false, List, [], ◌∷◌, length, ap, sym, subst, refl, arith, ⊎_elim}
+use Rattle.std.proofs.Common.{◌≡◌, ◌∙◌, ◌<◌, ◌≤◌, ◌++◌, ◌+◌, ◌⊎◌, ℕ, Bool, true, List, [], ◌∷◌, length, ap, sym, subst, refl, arith, ⊎_elim}
 use Rattle.std.specs.Prelude.{Some, None, Err, map, slice_get, slice_set}
 use Rattle.std.proofs.lemmas.Option.{slice_get_within}
 use Rattle.vx_model.specs.Sizes.{ring_of}
@@ -12,15 +12,14 @@ use Rattle.vx_model.specs.declared.state.State.{State}
 use Rattle.vx_disk.specs.Shelf.{Lawful}
 use Rattle.vx_disk.specs.declared.shelf.Shelf.{Ghosts}
 use Rattle.vx_courier.specs.UnderWay.{FlightStands}
-use Rattle.vx_diskset.specs.Asked.{FailsAs, FusedAs, SameFailing}
-use Rattle.vx_diskset.specs.DiskSets.{CameUp, CameUpIs, CrashedAt, Later, RoseAt, no_number}
+use Rattle.vx_diskset.specs.Asked.{IsRawSet, FailsAs, FusedAs, SameFailing}
+use Rattle.vx_diskset.specs.DiskSets.{CameUp, CameUpIs, CrashedAt, Later, RoseAt, no_number, fell_to}
 use Rattle.vx_diskset.specs.Holds.{KeptBeside, KeptSite, beside_of, itself, row_links, state_with, sure_of}
 use Rattle.vx_diskset.specs.Stands.{IsToldAt, RoleIs, SiteStands}
 use Rattle.vx_diskset.specs.declared.disk_set.DiskSet.{DiskSet}
 use Rattle.vx_diskset.proofs.TakenBack.{any_down}
 use Rattle.vx_history.specs.Doubts.{Doubted, happened}
 use Rattle.vx_history.specs.Events.{come_back, restarted_link}
-use Rattle.vx_history.specs.Steps.{crashed}
 use Rattle.vx_history.specs.World.{Link, Node, Packet}
 use Rattle.vx_history.specs.declared.event.Event.TheVariants.{Recover as RecoverAt}
 use Rattle.vx_effects.proofs.Fitting.{fit_happened}
@@ -35,7 +34,6 @@ use Rattle.vx_events.specs.Facts.{site_number, volume_fact}
 use Rattle.vx_events.specs.Fails.{Fails}
 use Rattle.vx_events.specs.Found.{SameDisks}
 use Rattle.vx_events.specs.LinkViews.{linked_view}
-use Rattle.vx_events.specs.GroupLines.{is_over_group}
 use Rattle.vx_events.specs.LinkedFacts.{linked_fact}
 use Rattle.vx_events.specs.Lists.{Choice}
 use Rattle.vx_events.specs.LinksFit.{LinksFit}
@@ -59,13 +57,15 @@ use Rattle.vx_yard.proofs.Lists.{get-set_same}
 use Rattle.vx_yard.proofs.NamedSite.{fact_of}
 use Rattle.vx_yard.proofs.NoteSite.{comes_same}
 use Rattle.vx_yard.proofs.OneSite.{Changed, Comes, beside_same, role_off, rose_at, stands_still, told_by}
+use Rattle.vx_yard.proofs.RawSites.{raw_site, raw_told}
 use Rattle.vx_yard.proofs.RecoverLine.{recover_done, session_fact, told_or}
-use Rattle.vx_site_lines.proofs.Apart.{fact_stays, over_as, over_is}
+use Rattle.vx_site_lines.proofs.Apart.{fact_stays, over_is}
 use Rattle.vx_site_lines.proofs.RiseEnds.{begun_ends, found_ends, none_ends, refused_ends, rose_ends, unread_ends}
 use Rattle.vx_site_lines.proofs.RiseLine.{down_h, effect_as, fit_h, found_as, free_h, own_at, own_safe, sure, told_comes, told_kept, told_last, unfused_down, untold_comes, untold_kept}
 use Rattle.vx_site_lines.proofs.RiseSite.{ComesUp, SeesDisks, up_carries, up_stands}
 use Rattle.vx_site_lines.proofs.RiseWorlds.{behind_disks, own_gathering, own_headers, own_is, own_links, own_node, own_packets, own_session, own_sites, own_view}
 use Rattle.vx_yard.proofs.Rows.{fact_like, fact_same}
+use Rattle.vx_diskset.proofs.GroupStands.{none_apart}
 
 module _ {R : Type 0} {g : Ghosts R} where
   -- the disk set of a site is another, and the rest of the yard is as it was
@@ -78,13 +78,13 @@ module _ {R : Type 0} {g : Ghosts R} where
     pub feeders : y.feeders ≡ old.feeders
 
   -- where not all of this disk set is told, not all are
-  pub never_told : (es fs : List (DiskSet R g)) (s : ℕ) (before after : DiskSet R g) → slice_get es s ≡ Some before → fs ≡ slice_set es s after → (IsToldAt after → ⊥) → AreTold fs → ⊥
-  never_told es fs s before after there is untold told =
-      untold (told.each s after (ap (λ xs. slice_get xs s) is ∙ get-set_same es s after (slice_get_within es s before there)))
+  pub never_told : (es fs : List (DiskSet R g)) (s : ℕ) (before after : DiskSet R g) → slice_get es s ≡ Some before → fs ≡ slice_set es s after → IsRawSet after → (IsToldAt after → ⊥) → AreTold fs → ⊥
+  never_told es fs s before after there is raw untold told =
+      untold (raw_told after raw (told.each s after (ap (λ xs. slice_get xs s) is ∙ get-set_same es s after (slice_get_within es s before there))))
 
   module _ (lawful : (r : R) → Lawful (g.meaning r)) (d h : Doubted) (old : Yard R g) (s ring : ℕ) (c : Choice) (taken : Bool) (name : List ℕ) (number : site_number d.world name ≡ s)
       (from : RisesFrom d s c taken h) (fit_d : LinksFit d)
-      (stands : StandsFor (own_disks taken s d.world h) old) (below : s < h.world.sites) (down : ((own_disks taken s d.world h).world.nodes s).state ≡ IsDown) (apart : is_over_group ((own_disks taken s d.world h).world.nodes s) ≡ false)
+      (stands : StandsFor (own_disks taken s d.world h) old) (below : s < h.world.sites) (down : ((own_disks taken s d.world h).world.nodes s).state ≡ IsDown) (apart : ((own_disks taken s d.world h).world.nodes s).group ≡ None)
       (ring_is : ring ≡ ring_of ((own_disks taken s d.world h).world.nodes s).blocks) (before after : DiskSet R g) (there : slice_get old.disk_sets.items s ≡ Some before) (later : Later before after)
       (same : SameFailing before after) where
     abbrev mid : Doubted
@@ -105,7 +105,7 @@ module _ {R : Type 0} {g : Ghosts R} where
       f = linked_fact mid.world s
 
       at_y : slice_get y.facts.items s ≡ Some f
-      at_y = ap (λ fs. slice_get fs.items s) replaced.facts ∙ fact_of mid old s stands below_mid ∙ ap (λ (x : SiteFacts). Some x) (fact_apart mid.world s apart)
+      at_y = ap (λ fs. slice_get fs.items s) replaced.facts ∙ fact_of mid old s stands below_mid ∙ ap (λ (x : SiteFacts). Some x) (fact_apart mid.world s (none_apart (mid.world.nodes s) apart))
 
       changed : Changed old new s before after
       changed = record { there = there; later = later; disk_sets = ap (λ es. es.items) rises.disk_sets ∙ replaced.disk_sets; racks = rises.racks ∙ replaced.racks }
@@ -117,7 +117,7 @@ module _ {R : Type 0} {g : Ghosts R} where
       last_is = rises.last_is.each (beside_of mid s) came.node after here came.stands came.same.up came.same.running
 
       session_is : rises.session ≡ came.node.session
-      session_is = rises.session_is.each (beside_of mid s) came.node after here came.stands came.same.up (over_as m came.node came.same.group came.same.volumes apart)
+      session_is = rises.session_is.each (beside_of mid s) came.node after here came.stands came.same.up (none_apart came.node (came.same.group ∙ apart))
 
       facts_are : new.facts.items ≡ slice_set old.facts.items s (risen_facts state came.node.safe ring used f)
       facts_are =
@@ -232,7 +232,7 @@ module _ {R : Type 0} {g : Ghosts R} where
           next = found_next;
           fails = [];
           done = recover_done (IsTold new) d found_next s name [] said number
-              (found_ends (IsTold new) d h s c taken name number from (never_told old.disk_sets.items new.disk_sets.items s before after there changed.disk_sets untold) noted_node found_row said
+              (found_ends (IsTold new) d h s c taken name number from (never_told old.disk_sets.items new.disk_sets.items s before after there changed.disk_sets (raw_site (beside_of mid s) came.node after (came.same.group ∙ apart) came.stands) untold) noted_node found_row said
               (found_as lawful d h old s ring c taken from fit_d stands below down apart ring_is before after there same came untold state may risen.kept)
               (rises.says ∙ ap (λ (v : SiteView). Recovered rises.last v) found_view ∙ ap (λ (k : ℕ). Recovered k (linked_view found_last.world s)) last_is));
           stands = found_stands;
@@ -352,7 +352,7 @@ module _ {R : Type 0} {g : Ghosts R} where
           next = begun_next;
           fails = (s, disk) ∷ [];
           done = recover_done (IsTold new) d begun_next s name ((s, disk) ∷ []) (Refused (Device disk)) number (begun_ends (IsTold new) d h s c taken name number from disk);
-          stands = stands_still mid begun_next old new s before after stands below_mid changed_down begun_comes (fact_stays mid.world begun_next.world s apart (over_is begun (begun_next.world.nodes s) eff.is.node apart) begun_fact) facts_still;
+          stands = stands_still mid begun_next old new s before after stands below_mid changed_down begun_comes (fact_stays mid.world begun_next.world s (none_apart (mid.world.nodes s) apart) (over_is begun (begun_next.world.nodes s) eff.is.node (none_apart begun apart)) begun_fact) facts_still;
           carries = carries_node s mid begun_next begun old new load eff.site eff.sent eff.gathering eff.is.node refl refl refl told_was;
           rose = rose_at old new s disk before after changed_down rose;
         }
@@ -366,7 +366,8 @@ module _ {R : Type 0} {g : Ghosts R} where
           subst (λ (why : No). LeadsFrom mid d (Recover name) (Refused why) old new) (sym x.0)
           (down_leads [] (Refused no_number)
           (none_ends (IsTold new) d h s c taken name number from
-          (λ told. let far = x.1 (told.each s after (ap (λ es. slice_get es s) replaced.disk_sets ∙ get-set_same old.disk_sets.items s after (slice_get_within old.disk_sets.items s before there))) in
+          (λ told. let far = x.1 (raw_told after (raw_site (beside_of mid s) m after apart x.2)
+          (told.each s after (ap (λ es. slice_get es s) replaced.disk_sets ∙ get-set_same old.disk_sets.items s after (slice_get_within old.disk_sets.items s before there)))) in
           stamp_h far)) x.2 rose_none_here)
         where
           stamp_h : MOST_NUMBER ≤ most_stamp_at mid.world s + 2 → MOST_NUMBER ≤ most_stamp_at h.world s + 2
@@ -376,17 +377,17 @@ module _ {R : Type 0} {g : Ghosts R} where
               let headers = own_headers s d.world h taken in
               omega (arith, far, session, safe, headers)
       stays_down other x =
-          down_leads [] (Refused other) (refused_ends (IsTold new) d h s c taken name number from (never_told old.disk_sets.items new.disk_sets.items s before after there replaced.disk_sets x.0) other tt) x.1
+          down_leads [] (Refused other) (refused_ends (IsTold new) d h s c taken name number from (never_told old.disk_sets.items new.disk_sets.items s before after there replaced.disk_sets (raw_site (beside_of mid s) m after apart x.1) x.0) other tt) x.1
           rose_none_here
 
       -- what came up went down again, as no site of these can have what its log keeps
       pub withdrawn : (up : DiskSet R g) (b : KeptBeside) (k : Node) → (IsToldAt after → ⊥) → SameDisks m k → b.doubt ≡ None → CrashedAt b k after → LeadsFrom mid d (Recover name) (Refused NoConfig) old new
       withdrawn up b k untold disks sure fell =
-          down_leads [] (Refused NoConfig) (refused_ends (IsTold new) d h s c taken name number from (never_told old.disk_sets.items new.disk_sets.items s before after there replaced.disk_sets untold) NoConfig tt)
+          down_leads [] (Refused NoConfig) (refused_ends (IsTold new) d h s c taken name number from (never_told old.disk_sets.items new.disk_sets.items s before after there replaced.disk_sets (raw_site (sure_of fell.kept) (fell_to k fell.kept.node fell.count) after (disks.group ∙ apart) fell.stands) untold) NoConfig tt)
           (⊎_elim
           (λ (own : fell.kept ≡ itself b k).
-          any_down (sure_of fell.kept) (beside_of mid s) m (crashed fell.kept.node fell.count) before after untold down refl
+          any_down (sure_of fell.kept) (beside_of mid s) m (fell_to k fell.kept.node fell.count) before after untold down refl
           (ap (λ (x : KeptSite). x.node.disks) own ∙ disks.disks) (ap (λ (x : KeptSite). x.node.blocks) own ∙ disks.blocks) apart
-          (over_as k fell.kept.node (ap (λ (x : KeptSite). x.node.group) own) (ap (λ (x : KeptSite). x.node.volumes) own) (over_as m k disks.group disks.volumes apart)) stood_down fell.stands)
+          (disks.group ∙ apart) stood_down fell.stands)
           (λ other. absurd (never_some (sym sure ∙ other))) fell.is)
           rose_none_here

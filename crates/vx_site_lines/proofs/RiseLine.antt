@@ -17,7 +17,7 @@ use Rattle.vx_diskset.specs.DiskSets.{CameUp}
 use Rattle.vx_diskset.specs.Holds.{KeptBeside, beside_of, header_links, row_links, state_with}
 use Rattle.vx_diskset.specs.Stands.{IsToldAt, RoleIs, SiteStands}
 use Rattle.vx_diskset.specs.declared.disk_set.DiskSet.{DiskSet}
-use Rattle.vx_diskset.specs.declared.disk_set.DiskSet.TheVariants.{Bare, Spoiled, Up, Receives, Down, OfGroup, Gone}
+use Rattle.vx_diskset.specs.declared.disk_set.DiskSet.TheVariants.{Bare, Spoiled, Up, Receives, Down, OfGroup, Over, Gone}
 use Rattle.vx_diskset.proofs.TakenBack.{any_links}
 use Rattle.vx_history.proofs.Updates.{and_left, and_right}
 use Rattle.vx_history.specs.Groups.{GroupNode}
@@ -49,10 +49,12 @@ use Rattle.vx_yard.specs.declared.yard.Yard.{Yard}
 use Rattle.vx_yard.proofs.CrashSite.{beside_sure}
 use Rattle.vx_yard.proofs.FailsStay.{fails_then}
 use Rattle.vx_yard.proofs.FuseStays.{fused_none}
-use Rattle.vx_site_lines.proofs.Apart.{never_apart, never_down, over_as}
+use Rattle.vx_site_lines.proofs.Apart.{never_apart, never_down}
 use Rattle.vx_site_lines.proofs.RiseSite.{AllPlain, ComesUp, IsWhole}
 use Rattle.vx_site_lines.proofs.RiseWorlds.{behind_disks, come_quiet, found_effect, own_gathering, own_greeting, own_headers, own_is, own_links, own_node, own_packets, own_recovered, own_sites}
 use Rattle.vx_yard.proofs.Rows.{row_links_same}
+use Rattle.vx_diskset.proofs.GroupStands.{none_apart}
+use Rattle.vx_diskset.proofs.Laying.{raw_in}
 
 -- ---- nodes
 
@@ -156,27 +158,29 @@ plain_of s e row fits is k linked =
 
 module _ {R : Type 0} {g : Ghosts R} where
   -- a site with a group has a log as large as its disks
-  pub shape_at : (beside : KeptBeside) (n : Node) (e : DiskSet R g) → SiteStands beside n e → is_over_group n ≡ false → (n.state ≡ IsBare → ⊥) → (n.low ≡ 1) × (n.ring ≡ ring_of n.blocks)
+  pub shape_at : (beside : KeptBeside) (n : Node) (e : DiskSet R g) → SiteStands beside n e → n.group ≡ None → (n.state ≡ IsBare → ⊥) → (n.low ≡ 1) × (n.ring ≡ ring_of n.blocks)
   shape_at beside n (Bare rack) h apart some = absurd (some (ap (λ (x : Node). x.state) h.bare.is))
   shape_at beside n (Spoiled rack) h apart some = absurd (some (ap (λ (x : Node). x.state) h.is))
-  shape_at beside n (Up rvg) h apart some = (h.low, h.lies.laid.ring_is ∙ ap ring_of (h.lies.size 0 (omega (arith, h.lies.can.some))))
-  shape_at beside n (Receives s) h apart some = (h.low, h.lies.laid.ring_is ∙ ap ring_of (h.lies.size 0 (omega (arith, h.lies.can.some))))
+  shape_at beside n (Up rvg) h apart some = let lies = raw_in n (g.meaning rvg.shelf) apart h.1.lies in (h.1.low, lies.laid.ring_is ∙ ap ring_of (lies.size 0 (omega (arith, lies.can.some))))
+  shape_at beside n (Receives s) h apart some = let lies = raw_in n (g.meaning s.rvg.shelf) apart h.1.lies in (h.1.low, lies.laid.ring_is ∙ ap ring_of (lies.size 0 (omega (arith, lies.can.some))))
   shape_at beside n (Down rack) h apart some = (h.low, h.lies.laid.ring_is ∙ ap ring_of (h.lies.size 0 (omega (arith, h.lies.can.some))))
-  shape_at beside n (OfGroup s) h apart some = never_apart beside n s h apart some
+  shape_at beside n (OfGroup s) h apart some = never_apart beside n s h (none_apart n apart) some
+  shape_at beside n (Over s) h apart some = absurd (h.0.0 apart)
   shape_at beside n Gone h apart some = absurd h
 
-  pub unfused_down : (beside : KeptBeside) (n : Node) (e : DiskSet R g) → SiteStands beside n e → is_over_group n ≡ false → n.state ≡ IsDown → n.fuse ≡ NoFuse
+  pub unfused_down : (beside : KeptBeside) (n : Node) (e : DiskSet R g) → SiteStands beside n e → n.group ≡ None → n.state ≡ IsDown → n.fuse ≡ NoFuse
   unfused_down beside n (Bare rack) h apart down = let e : IsBare ≡ IsDown = sym (ap (λ (x : Node). x.state) h.bare.is) ∙ down in absurd (cc)
   unfused_down beside n (Spoiled rack) h apart down = let e : IsBare ≡ IsDown = sym (ap (λ (x : Node). x.state) h.is) ∙ down in absurd (cc)
-  unfused_down beside n (Up rvg) h apart down = let e : IsUp ≡ IsDown = sym h.state ∙ down in absurd (cc)
-  unfused_down beside n (Receives s) h apart down = let e : IsUp ≡ IsDown = sym h.state ∙ down in absurd (cc)
+  unfused_down beside n (Up rvg) h apart down = let e : IsUp ≡ IsDown = sym h.1.state ∙ down in absurd (cc)
+  unfused_down beside n (Receives s) h apart down = let e : IsUp ≡ IsDown = sym h.1.state ∙ down in absurd (cc)
   unfused_down beside n (Down rack) h apart down = h.unfused
-  unfused_down beside n (OfGroup s) h apart down = never_down beside n s h apart down
+  unfused_down beside n (OfGroup s) h apart down = never_down beside n s h (none_apart n apart) down
+  unfused_down beside n (Over s) h apart down = absurd (h.0.0 apart)
   unfused_down beside n Gone h apart down = absurd h
 
   -- the site, from the world behind the crash with which its line began, where it did
   module _ (lawful : (r : R) → Lawful (g.meaning r)) (d h : Doubted) (old : Yard R g) (s ring : ℕ) (c : Choice) (taken : Bool) (from : RisesFrom d s c taken h) (fit_d : LinksFit d)
-      (stands : StandsFor (own_disks taken s d.world h) old) (below : s < h.world.sites) (down : ((own_disks taken s d.world h).world.nodes s).state ≡ IsDown) (apart : is_over_group ((own_disks taken s d.world h).world.nodes s) ≡ false)
+      (stands : StandsFor (own_disks taken s d.world h) old) (below : s < h.world.sites) (down : ((own_disks taken s d.world h).world.nodes s).state ≡ IsDown) (apart : ((own_disks taken s d.world h).world.nodes s).group ≡ None)
       (ring_is : ring ≡ ring_of ((own_disks taken s d.world h).world.nodes s).blocks) (before after : DiskSet R g) (there : slice_get old.disk_sets.items s ≡ Some before) (same : SameFailing before after) where
     abbrev mid : Doubted
     mid = own_disks taken s d.world h
@@ -218,13 +222,16 @@ module _ {R : Type 0} {g : Ghosts R} where
     beside_is row links = beside_sure mid s (row_links row mid.world.sites) (mid.world.headers s) (sym links) refl sure
 
     -- what came up is over no group either
+    none_of : (k : Node) → SameDisks m k → k.group ≡ None
+    none_of k disks = disks.group ∙ apart
+
     apart_of : (k : Node) → SameDisks m k → is_over_group k ≡ false
-    apart_of k disks = over_as m k disks.group disks.volumes apart
+    apart_of k disks = none_apart k (none_of k disks)
 
     -- what came up has a log as large
     whole_of : (b : KeptBeside) (k : Node) → SameDisks m k → length k.log ≡ k.safe → SiteStands b k after → IsWhole k ring
     whole_of b k disks whole at =
-        let up_shape = shape_at b k after at (apart_of k disks) (λ bare. let e : IsUp ≡ IsBare = sym disks.up ∙ bare in cc) in
+        let up_shape = shape_at b k after at (none_of k disks) (λ bare. let e : IsUp ≡ IsBare = sym disks.up ∙ bare in cc) in
         record {
           up = disks.up;
           running = disks.running;
@@ -392,4 +399,4 @@ module _ {R : Type 0} {g : Ghosts R} where
       }
         where
           stands_now : SiteStands (beside_now row_found) k_found after
-          stands_now = any_links lawful (beside_of mid s) (beside_now row_found) came.node came.node.other after untold refl came.same.up (apart_of came.node came.same) came.stands
+          stands_now = any_links lawful (beside_of mid s) (beside_now row_found) came.node came.node.other after untold refl came.same.up (none_of came.node came.same) came.stands

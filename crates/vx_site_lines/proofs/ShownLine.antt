@@ -42,6 +42,7 @@ use Rattle.vx_yard.proofs.CrashLine.{rose_still}
 use Rattle.vx_site_lines.proofs.FetchLine.{Fetching, fetch_leads, fetch_stops, stays_for}
 use Rattle.vx_yard.proofs.Lists.{get-set_same}
 use Rattle.vx_yard.proofs.NamedSite.{fact_named}
+use Rattle.vx_yard.proofs.RawSites.{raw_site, raw_told}
 use Rattle.vx_yard.proofs.OneSite.{Changed, told_by}
 use Rattle.vx_site_lines.proofs.WriteCalls.{whole_log}
 
@@ -105,7 +106,7 @@ module _ {R : Type 0} {g : Ghosts R} where
                   bytes = bytes;
                   got = refl;
                   size = gave.size;
-                  is = λ told. ap (λ bs. HasGot bs) (shown_are (received_content (d.world.nodes k)) v start count bytes gave.size (λ j inside. (shows (told.each s after there)).each j inside));
+                  is = λ told. ap (λ bs. HasGot bs) (shown_are (received_content (d.world.nodes k)) v start count bytes gave.size (λ j inside. (shows (raw_told after (raw_site (beside_of d s) (d.world.nodes s) after read.none gave.stands) (told.each s after there))).each j inside));
                 })
                 tt (record { world = refl; after = λ i. refl });
             counts = tt;

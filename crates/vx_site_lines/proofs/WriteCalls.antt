@@ -22,9 +22,11 @@ use Rattle.vx_diskset.proofs.GroupStands.{up_has_none}
 use Rattle.vx_diskset.specs.Asked.{FailsAs, FusedAs, LeavesFuse, disks_told, size_in}
 use Rattle.vx_diskset.specs.Burning.{Burnt, IsLogged}
 use Rattle.vx_diskset.specs.Holds.{KeptBeside}
-use Rattle.vx_diskset.specs.Stands.{SiteStands}
+use Rattle.vx_diskset.specs.Stands.{SiteStands, OverStands}
 use Rattle.vx_diskset.specs.declared.disk_set.DiskSet.{DiskSet}
-use Rattle.vx_diskset.specs.declared.disk_set.DiskSet.TheVariants.{Bare, Spoiled, Up, Receives, Down, OfGroup, Gone}
+use Rattle.vx_diskset.specs.declared.disk_set.DiskSet.TheVariants.{Bare, Spoiled, Up, Receives, Down, OfGroup, Over, Gone}
+use Rattle.vx_diskset.specs.declared.over_set.OverSite.{OverSite}
+use Rattle.vx_diskset.specs.declared.over_set.OverSite.TheVariants.{Origin as OriginSite, Receiver as ReceiverSite, Deported as OverAway, Down as OverFell, Gone as NoOver}
 use Rattle.vx_events.specs.Fuses.{MayPass}
 use Rattle.vx_events.specs.GroupLines.{is_over_group}
 use Rattle.vx_events.specs.LinkedFacts.{link_facts, linked_fact, links_by}
@@ -38,6 +40,8 @@ use Rattle.vx_yard.proofs.ApplySite.{calls_keep}
 use Rattle.vx_yard.proofs.FailsStay.{fails_then, told_disks, works_by, written_burnt}
 use Rattle.vx_yard.proofs.FuseStays.{fused_on, left_passed, left_spent, may_on}
 use Rattle.vx_site_lines.proofs.Apart.{never_up}
+use Rattle.vx_diskset.proofs.Laying.{laid_in}
+use Rattle.vx_ground.specs.Lifted.{laid_volumes}
 
 -- ---- the links of the site
 
@@ -67,24 +71,40 @@ links_count w s x cs fit up goes few ring =
 -- ---- its calls
 
 module _ {R : Type 0} {g : Ghosts R} where
+  over_log : (beside : KeptBeside) (n : Node) (s : OverSite R g) → OverStands beside n s → n.halted ≡ None → is_origin n.role ≡ true → length n.log ≡ n.safe
+  over_log beside n (OriginSite f) h runs origin = omega (arith, h.logged, h.durable runs)
+  over_log beside n (ReceiverSite f) h runs origin = absurd (let e : true ≡ false = sym origin ∙ h.role in cc)
+  over_log beside n (OverAway idle) h runs origin = h.1.logged
+  over_log beside n (OverFell idle) h runs origin = h.2.logged
+  over_log beside n NoOver h runs origin = absurd h
+
+  over_ring : (beside : KeptBeside) (n : Node) (s : OverSite R g) → OverStands beside n s → n.ring ≤ 2 ^ 32
+  over_ring beside n (OriginSite f) h = omega (arith, (laid_in n (laid_volumes f.laid) h.lies).ring_is)
+  over_ring beside n (ReceiverSite f) h = omega (arith, (laid_in n (laid_volumes f.laid) h.lies).ring_is)
+  over_ring beside n (OverAway idle) h = omega (arith, h.1.lies.ring_is)
+  over_ring beside n (OverFell idle) h = omega (arith, h.2.lies.ring_is)
+  over_ring beside n NoOver h = absurd h
+
   -- the log of a running site that takes writes holds those that are durable
   pub whole_log : (beside : KeptBeside) (n : Node) (e : DiskSet R g) → SiteStands beside n e → n.state ≡ IsUp → n.halted ≡ None → is_origin n.role ≡ true → length n.log ≡ n.safe
   whole_log beside n (Bare rack) h up runs origin = absurd (let e : IsBare ≡ IsUp = sym (ap (λ (k : Node). k.state) h.bare.is) ∙ up in cc)
   whole_log beside n (Spoiled rack) h up runs origin = absurd (let e : IsBare ≡ IsUp = sym (ap (λ (k : Node). k.state) h.is) ∙ up in cc)
-  whole_log beside n (Up rvg) h up runs origin = omega (arith, h.logged, h.durable runs)
-  whole_log beside n (Receives site) h up runs origin = absurd (let e : true ≡ false = sym origin ∙ h.role in cc)
+  whole_log beside n (Up rvg) h up runs origin = omega (arith, h.1.logged, h.1.durable runs)
+  whole_log beside n (Receives site) h up runs origin = absurd (let e : true ≡ false = sym origin ∙ h.1.role in cc)
   whole_log beside n (Down rack) h up runs origin = absurd (let e : IsDown ≡ IsUp = sym h.state ∙ up in cc)
   whole_log beside n (OfGroup s) h up runs origin = let none = up_has_none beside n s h up in ap (λ (us : List Write). length us) none.log ∙ sym none.safe
+  whole_log beside n (Over s) h up runs origin = over_log beside n s.site h.1 runs origin
   whole_log beside n Gone h up runs origin = absurd h
 
   -- no ring is greater than a log may be
   pub small_ring : (beside : KeptBeside) (n : Node) (e : DiskSet R g) → SiteStands beside n e → is_over_group n ≡ false → n.state ≡ IsUp → n.ring ≤ 2 ^ 32
   small_ring beside n (Bare rack) h apart up = absurd (let e : IsBare ≡ IsUp = sym (ap (λ (k : Node). k.state) h.bare.is) ∙ up in cc)
   small_ring beside n (Spoiled rack) h apart up = absurd (let e : IsBare ≡ IsUp = sym (ap (λ (k : Node). k.state) h.is) ∙ up in cc)
-  small_ring beside n (Up rvg) h apart up = omega (arith, h.lies.laid.ring_is)
-  small_ring beside n (Receives site) h apart up = omega (arith, h.lies.laid.ring_is)
+  small_ring beside n (Up rvg) h apart up = omega (arith, (laid_in n (g.meaning rvg.shelf) h.1.lies).ring_is)
+  small_ring beside n (Receives site) h apart up = omega (arith, (laid_in n (g.meaning site.rvg.shelf) h.1.lies).ring_is)
   small_ring beside n (Down rack) h apart up = absurd (let e : IsDown ≡ IsUp = sym h.state ∙ up in cc)
   small_ring beside n (OfGroup s) h apart up = never_up beside n s h apart up
+  small_ring beside n (Over s) h apart up = omega (arith, over_ring beside n s.site h.1)
   small_ring beside n Gone h apart up = absurd h
 
   module _ (beside : KeptBeside) (n : Node) (before after : DiskSet R g) (stood : SiteStands beside n before) (said : Said) (burns : LeavesFuse IsLogged said before after) where

@@ -27,10 +27,10 @@ use Rattle.vx_disk.specs.Disks.{Disks}
 use Rattle.vx_disk.specs.Spends.{Passed}
 use Rattle.vx_events.specs.Fails.{IsSiteDisk, Fails}
 use Rattle.vx_diskset.specs.Blames.{BlamesSite}
-use Rattle.vx_diskset.specs.Asked.{FailsAs, FusedAs, LeavesFuse, WritesUnder, disks_told, size_in}
+use Rattle.vx_diskset.specs.Asked.{FailsAs, FusedAs, LeavesFuse, WritesUnder, disks_told, size_in, IsRawSet}
 use Rattle.vx_diskset.specs.Burning.{Burnt, IsLogged}
-use Rattle.vx_diskset.specs.DiskSets.{WroteAt, halted_with}
-use Rattle.vx_diskset.specs.Holds.{KeptSite, beside_of, itself, sure_of}
+use Rattle.vx_diskset.specs.DiskSets.{WroteAt, halted_with, fell_to}
+use Rattle.vx_diskset.specs.Holds.{KeptSite, beside_of, itself, sure_of, KeptBeside}
 use Rattle.vx_diskset.specs.Needs.{HasRoom}
 use Rattle.vx_diskset.specs.Stands.{IsToldAt, KeepsRole, RoleIs, SiteStands}
 use Rattle.vx_diskset.specs.declared.disk_set.DiskSet.{DiskSet}
@@ -68,6 +68,7 @@ use Rattle.vx_yard.proofs.LinkLines.{listed}
 use Rattle.vx_yard.proofs.Lists.{get-set_same}
 use Rattle.vx_yard.proofs.NoteSite.{changes_one, comes_one, with_one}
 use Rattle.vx_yard.proofs.OneSite.{Changed, role_kept, rose_at, stands_at, told_by}
+use Rattle.vx_yard.proofs.RawSites.{raw_site, raw_told}
 use Rattle.vx_yard.proofs.Rows.{fact_like, fact_same}
 use Rattle.vx_yard.proofs.SiteEvents.{first_choice, keeps_k}
 use Rattle.vx_site_lines.proofs.Apart.{fact_at, over_is}
@@ -203,8 +204,11 @@ module _ {R : Type 0} {g : Ghosts R} where
     lets : n.safe < MOST_NUMBER → IsLetIn d.world s x
     lets free = let_in d.world s x to.changes to.seat.below to.can to.primary to.some to.few free to.goes
 
-    told_after : IsTold new → IsToldAt after
-    told_after told = told.each s after (ap (λ es. slice_get es s) changed.disk_sets ∙ get-set_same old.disk_sets.items s after (slice_get_within old.disk_sets.items s before changed.there))
+    raw_after : (b : KeptBeside) (k : Node) → k.group ≡ n.group → SiteStands b k after → IsRawSet after
+    raw_after b k same here = raw_site b k after (same ∙ to.none) here
+
+    told_after : IsRawSet after → IsTold new → IsToldAt after
+    told_after raw told = raw_told after raw (told.each s after (ap (λ es. slice_get es s) changed.disk_sets ∙ get-set_same old.disk_sets.items s after (slice_get_within old.disk_sets.items s before changed.there)))
 
     fits : FailsAs n before
     fits = stands.failing s before to.seat.below changed.there
@@ -247,7 +251,7 @@ module _ {R : Type 0} {g : Ghosts R} where
         subst (λ (r : Said). Leads d line r old new) (sym so) (leads_by [] (answer_by waited (n.safe + 1)) e
         (record {
           ends = λ l events notes. done_ends (IsTold new) d l s x first_choice (events first_choice) notes (stands.links.rows s) can;
-          counts = record { done = λ told calls exact w. wrote.3 calls (told_after told) exact; off = λ told calls exact off. absurd (never_off waited (n.safe + 1) off) };
+          counts = record { done = λ told calls exact w. wrote.3 calls (told_after (raw_after (beside_of d s) (logged n x) refl wrote.2) told) exact; off = λ told calls exact off. absurd (never_off waited (n.safe + 1) off) };
           works = λ w. log_works (beside_of d s) n before after stood (answer_by waited number) burns racks fits written;
           calls = λ w. calls_pass (beside_of d s) n before after stood (answer_by waited number) burns racks lit written;
         })
@@ -298,7 +302,7 @@ module _ {R : Type 0} {g : Ghosts R} where
         let burns : LeavesFuse IsLogged (Refused (Limit Number MOST_NUMBER)) before after = subst (λ (no : No). LeavesFuse IsLogged (Refused no) before after) wrote.0 under.burns in
         subst (λ (no : No). Leads d line (Refused no) old new) (sym wrote.0) (leads_by [] (Refused (Limit Number MOST_NUMBER)) e
         (record {
-          ends = λ l events notes. none_ends (IsTold new) d l s x first_choice (events first_choice) notes (λ told. wrote.1 (told_after told));
+          ends = λ l events notes. none_ends (IsTold new) d l s x first_choice (events first_choice) notes (λ told. wrote.1 (told_after (raw_after (beside_of d s) (worked n) refl wrote.2) told));
           counts = record { done = λ told calls exact w. absurd (never_written (Limit Number MOST_NUMBER) w); off = λ told calls exact off. absurd (limit_off off) };
           works = λ w. absurd (never_written (Limit Number MOST_NUMBER) w);
           calls = λ w. absurd (never_written (Limit Number MOST_NUMBER) w);
@@ -323,16 +327,16 @@ module _ {R : Type 0} {g : Ghosts R} where
         sure : (beside_of d s).doubt ≡ None
         sure = running_sure (beside_of d s) n before stood to.can.up to.can.running
 
-        by_own : (k : KeptSite) → k ≡ itself (beside_of d s) (half_begun n x) → (count : ℕ) → k.node.safe ≤ count → count ≤ length k.node.log → SiteStands (sure_of k) (crashed k.node count) after → Leads d line (Refused Off) old new
+        by_own : (k : KeptSite) → k ≡ itself (beside_of d s) (half_begun n x) → (count : ℕ) → k.node.safe ≤ count → count ≤ length k.node.log → SiteStands (sure_of k) (fell_to (half_begun n x) k.node count) after → Leads d line (Refused Off) old new
         by_own k own =
-            subst (λ (q : KeptSite). (count : ℕ) → q.node.safe ≤ count → count ≤ length q.node.log → SiteStands (sure_of q) (crashed q.node count) after → Leads d line (Refused Off) old new) (sym own)
+            subst (λ (q : KeptSite). (count : ℕ) → q.node.safe ≤ count → count ≤ length q.node.log → SiteStands (sure_of q) (fell_to (half_begun n x) q.node count) after → Leads d line (Refused Off) old new) (sym own)
             (λ count least most stays.
             let e : Doubted = cut_for d s x count in
             let eff = worked_effect s d (cut_events d s x count) (crashed (half_begun n x) count) (line_cut d s x (stands.links.rows s) can count least most) in
             leads_by [] (Refused Off) e
             (record {
               ends = λ l events notes. cut_ends (IsTold new) d l s x (keeps_k count) (events (keeps_k count)) notes wrote.0;
-              counts = record { done = λ told calls exact w. absurd (never_written Off w); off = λ told calls exact off. wrote.2 calls (told_after told) exact };
+              counts = record { done = λ told calls exact w. absurd (never_written Off w); off = λ told calls exact off. wrote.2 calls (told_after (raw_after (sure_of (itself (beside_of d s) (half_begun n x))) (fell_to (half_begun n x) (half_begun n x) count) refl stays) told) exact };
               works = λ w. absurd (never_written Off w);
               calls = λ w. absurd (never_written Off w);
             })

@@ -35,12 +35,13 @@ use Rattle.vx_events.proofs.Refused.{Named, passes}
 use Rattle.vx_events.proofs.RefusedCalls.{WriteMay, put_may, write_may}
 use Rattle.vx_events.proofs.Testing.{primary_at, volume_kind}
 use Rattle.vx_yard.specs.Standing.{StandsFor}
-use Rattle.vx_yard.specs.Working.{IsFree}
+use Rattle.vx_yard.specs.Working.{IsFree, IsUngroupedAt}
 use Rattle.vx_yard.specs.Writes.{IsWriteLine}
 use Rattle.vx_yard.specs.Writes.IsWriteLine.{OfPut, OfWrite}
 use Rattle.vx_yard.specs.Yards.{in_files}
 use Rattle.vx_yard.specs.declared.yard.Yard.{Yard}
 use Rattle.vx_site_lines.proofs.FetchLine.{Fetching, fetching}
+use Rattle.vx_yard.proofs.RawSites.{ungrouped_over}
 use Rattle.vx_yard.proofs.NamedSite.{SiteAt, fact_named}
 
 -- ---- the two lines
@@ -112,6 +113,7 @@ module _ {R : Type 0} {g : Ghosts R} where
   pub record Writing (d : Doubted) (y : Yard R g) (name volume : List ℕ) (start : ℕ) (bytes : List ℕ) (s v : ℕ) : Type 0 where
     pub seat : SiteAt d y name s
     pub apart : is_over_group (d.world.nodes s) ≡ false
+    pub none : (d.world.nodes s).group ≡ None
     pub place : volume_number (d.world.nodes s) volume ≡ v
     pub can : CanWrite (d.world.nodes s) v start (blocks_in bytes)
     pub primary : (d.world.nodes s).role ≡ Primary
@@ -120,7 +122,7 @@ module _ {R : Type 0} {g : Ghosts R} where
     pub changes : List Change
     pub goes : admitted d.world s (the_write v start bytes) ≡ Goes changes
 
-  pub writing : (d : Doubted) (y : Yard R g) (line : ScriptLine) (name volume : List ℕ) (start : ℕ) (bytes : List ℕ) (s v : ℕ) (e : DiskSet R g) → StandsFor d y → over_group_at d.world name ≡ false → IsWriteLine line name volume start bytes → IsFree y line
+  pub writing : (d : Doubted) (y : Yard R g) (line : ScriptLine) (name volume : List ℕ) (start : ℕ) (bytes : List ℕ) (s v : ℕ) (e : DiskSet R g) → StandsFor d y → IsUngroupedAt d.world name → IsWriteLine line name volume start bytes → IsFree y line
       → seat_of y.facts.items name ≡ Some s → slice_get y.disk_sets.items s ≡ Some e → ((f : SiteFacts) → slice_get y.facts.items s ≡ Some f → place_of f.volumes volume ≡ Some v) → Writing d y name volume start bytes s v
   writing d y line name volume start bytes s v e stands apart is free at there place_is =
       let may = may_write y line name volume start bytes is free in
@@ -133,10 +135,11 @@ module _ {R : Type 0} {g : Ghosts R} where
       let kind = volume_kind n.volumes v may.call.found
       (ap (λ (f : SiteFacts). slice_get f.volumes v) (sym fact) ∙ ap (λ (i : ℕ). slice_get may.call.site.facts.volumes i) (sym place) ∙ may.call.at.there) in
       let primary = primary_by d y line name volume start bytes s may.call.site is free fact read.can.up in
-      let goes = let_in_by d y line name volume start bytes s v stands apart is free read.seat.number read.volume_is in
+      let goes = let_in_by d y line name volume start bytes s v stands (ungrouped_over d.world name apart) is free read.seat.number read.volume_is in
       record {
         seat = read.seat;
         apart = read.apart;
+        none = read.none;
         place = read.volume_is;
         can = record {
           origin = ap is_origin primary;

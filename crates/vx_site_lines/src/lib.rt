@@ -21,5 +21,5 @@ pub use fuse::fuse_line;
 pub use make::{make_raw, make_site};
 pub use read::{read_line, show_line};
 pub use recover::recover_line;
-pub use status::status_line;
+pub use status::{rvg_view, status_line};
 pub use write::{put_line, write_line};

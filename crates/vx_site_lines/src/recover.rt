@@ -1,5 +1,5 @@
 // The line that recovers a site, with the links that the header of its log keeps, and the greeting of one that receives.
-ghost use Rattle.std.specs.Prelude.{◌≡◌, ◌++◌, ◌<◌, ◌≤◌, ℕ, Bool, IfErr, List, Some, [], false, length, slice_get, slice_set};
+ghost use Rattle.std.specs.Prelude.{◌≡◌, ◌++◌, ◌<◌, ◌≤◌, ℕ, Bool, IfErr, List, None, Some, [], false, length, slice_get, slice_set};
 ghost use Rattle.vx_courier.specs.UnderWay.{FlightStands};
 ghost use Rattle.vx_history.specs.Doubts.{Doubted};
 ghost use Rattle.vx_history.specs.World.{Packet};
@@ -146,7 +146,7 @@ fn rise<R: Rack>(
     requires links { room.links ≡ [] }
     requires views { room.views ≡ [] }
     ensures rises { (d h : Doubted) (c : Choice) (taken : Bool) (name : List ℕ) → site_number d.world name ≡ site → RisesFrom d site c taken h → LinksFit d
-        → StandsFor (own_disks taken site d.world h) yard.old → site < h.world.sites → ((own_disks taken site d.world h).world.nodes site).state ≡ DownState → is_over_group ((own_disks taken site d.world h).world.nodes site) ≡ false
+        → StandsFor (own_disks taken site d.world h) yard.old → site < h.world.sites → ((own_disks taken site d.world h).world.nodes site).state ≡ DownState → ((own_disks taken site d.world h).world.nodes site).group ≡ None
         → blocks ≡ ((own_disks taken site d.world h).world.nodes site).blocks → IsRoomOf blocks (ring_of blocks) room.start
         → LeadsFrom (own_disks taken site d.world h) d (Recover name) result yard.old yard.new }
     ensures failing { OfSite SameFailing site yard.old yard.new }
@@ -252,7 +252,7 @@ pub fn recover_line<R: Rack>(
 ) -> Result<Said, OutOfMemory>
     requires kept { IsYardKept yard.old }
     requires free { IsFree yard.old (Recover name.now) }
-    ensures leads { (d : Doubted) → StandsFor d yard.old → is_for_group d.world (Recover name.now) ≡ false → LeadsIs d (Recover name.now) yard.old yard.new result }
+    ensures leads { (d : Doubted) → StandsFor d yard.old → (d.world.nodes (site_number d.world name.now)).group ≡ None → LeadsIs d (Recover name.now) yard.old yard.new result }
     ensures asked { (d : Doubted) → StandsFor d yard.old → is_for_group d.world (Recover name.now) ≡ false → AsAsked d.world (Recover name.now) yard.old yard.new }
     // For want of memory nothing is done.
     ensures short { IfErr result (λ e. yard.new.disk_sets ≡ yard.old.disk_sets) }

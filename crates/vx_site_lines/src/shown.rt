@@ -1,11 +1,10 @@
 // Blocks that a site which receives shows.
 ghost use Rattle.std.specs.Prelude.{◌≡◌, ◌≤◌, ◌<◌, ◌*◌, ℕ, Some, false, length};
-ghost use Rattle.vx_diskset.specs.Asked.{LeavesAlone};
+ghost use Rattle.vx_diskset.specs.Asked.{IsRawSet, LeavesAlone};
 ghost use Rattle.vx_diskset.specs.DiskSets.{CanRead, Later};
 ghost use Rattle.vx_diskset.specs.Holds.{KeptBeside};
 ghost use Rattle.vx_diskset.specs.Stands.{KeepsRole, SiteStands};
 ghost use Rattle.vx_events.specs.Facts.{seat_of, site_number};
-ghost use Rattle.vx_events.specs.StepsOver.{over_group_at};
 ghost use Rattle.vx_history.specs.Doubts.{Doubted};
 ghost use Rattle.vx_history.specs.World.{Node};
 ghost use Rattle.vx_model.specs.Sites.{is_origin};
@@ -14,7 +13,7 @@ ghost use Rattle.vx_site_lines.specs.Fetching.{IsBlockRoom};
 ghost use Rattle.vx_yard.specs.OfSites.{OfSite};
 ghost use Rattle.vx_site_lines.specs.Shown.{GaveShownAt};
 ghost use Rattle.vx_yard.specs.Standing.{Leads, StandsFor};
-ghost use Rattle.vx_yard.specs.Working.{IsFree};
+ghost use Rattle.vx_yard.specs.Working.{IsFree, IsUngroupedAt};
 ghost use Rattle.vx_yard.specs.Yards.{IsYardKept, IsTold, in_files};
 
 use vx_disk::Rack;
@@ -37,7 +36,7 @@ fn shown_of<R: Rack>(
     requires room { length room.items ≡ BLOCK * count }
     ensures shows { (beside : KeptBeside) (n : Node) → SiteStands beside n disk_set.old → CanRead n volume start count → GaveShownAt beside n volume start count disk_set.old disk_set.new result }
     ensures role { KeepsRole disk_set.old disk_set.new }
-    ensures still { LeavesAlone disk_set.old disk_set.new }
+    ensures still { IsRawSet disk_set.old → LeavesAlone disk_set.old disk_set.new }
     ensures later { Later disk_set.old disk_set.new }
 {
     disk_set.show(volume, start, &mut room)?;
@@ -56,14 +55,14 @@ pub(crate) fn show_received<R: Rack>(
     requires room { IsBlockRoom count room.items }
     requires kept { IsYardKept yard.old }
     requires free { IsFree yard.old (ShowLine name.now volume.now start count) }
-    ensures leads { (d : Doubted) (s : ℕ) → StandsFor d yard.old → over_group_at d.world name.now ≡ false → seat_of yard.old.facts.items name.now ≡ Some s → is_origin (d.world.nodes s).role ≡ false → Leads d (ShowLine name.now volume.now start count) result yard.old yard.new }
-    ensures asked { (d : Doubted) → StandsFor d yard.old → over_group_at d.world name.now ≡ false → OfSite LeavesAlone (site_number d.world name.now) yard.old yard.new }
+    ensures leads { (d : Doubted) (s : ℕ) → StandsFor d yard.old → IsUngroupedAt d.world name.now → seat_of yard.old.facts.items name.now ≡ Some s → is_origin (d.world.nodes s).role ≡ false → Leads d (ShowLine name.now volume.now start count) result yard.old yard.new }
+    ensures asked { (d : Doubted) → StandsFor d yard.old → IsUngroupedAt d.world name.now → OfSite LeavesAlone (site_number d.world name.now) yard.old yard.new }
     ensures flight { yard.new.flight ≡ yard.old.flight }
     ensures told { IsTold yard.new → IsTold yard.old }
     ensures files { in_files yard.new ≡ in_files yard.old }
 {
     let site = yard.site_of(name);
-    let place = yard.volume_of(site, volume);
+    let place = yard.data_of(site, volume);
     if count == 0 || count > MOST_CALL_BLOCKS {
         unreachable!();
     }

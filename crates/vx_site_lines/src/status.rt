@@ -33,8 +33,8 @@ fn group(sites: &[SiteFacts], session: u64, rvg: &RvgFacts) -> RvgView
     }
 }
 
-// The group of a site that is up.
-fn shown(sites: &[SiteFacts], session: u64, site: &SiteFacts) -> Option<RvgView>
+/// The replicated volume group of a site that is up.
+pub fn rvg_view(sites: &[SiteFacts], session: u64, site: &SiteFacts) -> Option<RvgView>
     ensures { result ≡ group_at site.now.state sites.now session site.now.rvg }
 {
     match site.state {
@@ -92,7 +92,7 @@ fn view(
         state: site.state,
         disks: DiskViews::new(alloc),
         volumes: VolumeViews::new(alloc),
-        rvg: shown(sites, session, site),
+        rvg: rvg_view(sites, session, site),
         links,
     }
 }

@@ -4,10 +4,11 @@ ghost use Rattle.vx_history.specs.Doubts.{Doubted};
 ghost use Rattle.vx_script.specs.declared.line.ScriptLine.{ScriptLine};
 ghost use Rattle.vx_script.specs.declared.line.ScriptLine.TheVariants.{Write as WriteLine, Put as PutLine};
 ghost use Rattle.vx_events.specs.Facts.{site_number};
-ghost use Rattle.vx_events.specs.StepsOver.{is_for_group, over_group_at};
+ghost use Rattle.vx_events.specs.RvgSteps.{is_for_rvg};
+ghost use Rattle.vx_events.specs.StepsOver.{is_for_group};
 ghost use Rattle.vx_yard.specs.OfSites.{AsAsked, HasCalled, OfSite};
 ghost use Rattle.vx_diskset.specs.Asked.{WritesUnder};
-ghost use Rattle.vx_yard.specs.Working.{IsFree};
+ghost use Rattle.vx_yard.specs.Working.{IsFree, IsUngroupedAt};
 ghost use Rattle.vx_yard.specs.Standing.{Leads, StandsFor};
 ghost use Rattle.vx_yard.specs.Writes.{IsWriteFree, IsWriteLine};
 ghost use Rattle.vx_yard.specs.Yards.{IsYardKept, IsTold, in_files};
@@ -36,13 +37,13 @@ fn write_blocks<R: Rack>(
     requires whole { length bytes.now % BLOCK ≡ 0 }
     requires kept { IsYardKept yard.old }
     requires free { IsWriteFree yard.old name.now volume.now start bytes.now }
-    ensures leads { (d : Doubted) (line : ScriptLine) → StandsFor d yard.old → over_group_at d.world name.now ≡ false → IsWriteLine line name.now volume.now start bytes.now → IsFree yard.old line → Leads d line result yard.old yard.new }
-    ensures called { (d : Doubted) → StandsFor d yard.old → over_group_at d.world name.now ≡ false → OfSite (WritesUnder bytes.now result) (site_number d.world name.now) yard.old yard.new }
+    ensures leads { (d : Doubted) (line : ScriptLine) → StandsFor d yard.old → IsUngroupedAt d.world name.now → IsWriteLine line name.now volume.now start bytes.now → IsFree yard.old line → Leads d line result yard.old yard.new }
+    ensures called { (d : Doubted) → StandsFor d yard.old → IsUngroupedAt d.world name.now → OfSite (WritesUnder bytes.now result) (site_number d.world name.now) yard.old yard.new }
     ensures told { IsTold yard.new → IsTold yard.old }
     ensures files { in_files yard.new ≡ in_files yard.old }
 {
     let site = yard.site_of(name);
-    let place = yard.volume_of(site, volume);
+    let place = yard.data_of(site, volume);
     let count = (bytes.len() / BLOCK) as u64;
     let next = yard.disk_sets[site].last().saturating_add(1);
     let hold = hold_of_site(&yard.facts[site]);
@@ -69,9 +70,9 @@ pub fn write_line<R: Rack>(
     requires bytes { bytes.now ≡ replicate (BLOCK * min count MOST_CALL_BLOCKS) fill }
     requires kept { IsYardKept yard.old }
     requires free { IsFree yard.old (WriteLine name.now volume.now start count fill) }
-    ensures leads { (d : Doubted) → StandsFor d yard.old → is_for_group d.world (WriteLine name.now volume.now start count fill) ≡ false → Leads d (WriteLine name.now volume.now start count fill) result yard.old yard.new }
-    ensures asked { (d : Doubted) → StandsFor d yard.old → is_for_group d.world (WriteLine name.now volume.now start count fill) ≡ false → AsAsked d.world (WriteLine name.now volume.now start count fill) yard.old yard.new }
-    ensures called { (d : Doubted) → StandsFor d yard.old → is_for_group d.world (WriteLine name.now volume.now start count fill) ≡ false → HasCalled d.world (WriteLine name.now volume.now start count fill) result yard.old yard.new }
+    ensures leads { (d : Doubted) → StandsFor d yard.old → is_for_group d.world (WriteLine name.now volume.now start count fill) ≡ false → is_for_rvg d.world (WriteLine name.now volume.now start count fill) ≡ false → Leads d (WriteLine name.now volume.now start count fill) result yard.old yard.new }
+    ensures asked { (d : Doubted) → StandsFor d yard.old → is_for_group d.world (WriteLine name.now volume.now start count fill) ≡ false → is_for_rvg d.world (WriteLine name.now volume.now start count fill) ≡ false → AsAsked d.world (WriteLine name.now volume.now start count fill) yard.old yard.new }
+    ensures called { (d : Doubted) → StandsFor d yard.old → is_for_group d.world (WriteLine name.now volume.now start count fill) ≡ false → is_for_rvg d.world (WriteLine name.now volume.now start count fill) ≡ false → HasCalled d.world (WriteLine name.now volume.now start count fill) result yard.old yard.new }
     ensures told { IsTold yard.new → IsTold yard.old }
     ensures files { in_files yard.new ≡ in_files yard.old }
 {
@@ -92,9 +93,9 @@ pub fn put_line<R: Rack>(
 ) -> Said
     requires kept { IsYardKept yard.old }
     requires free { IsFree yard.old (PutLine name.now volume.now start bytes.now) }
-    ensures leads { (d : Doubted) → StandsFor d yard.old → is_for_group d.world (PutLine name.now volume.now start bytes.now) ≡ false → Leads d (PutLine name.now volume.now start bytes.now) result yard.old yard.new }
-    ensures asked { (d : Doubted) → StandsFor d yard.old → is_for_group d.world (PutLine name.now volume.now start bytes.now) ≡ false → AsAsked d.world (PutLine name.now volume.now start bytes.now) yard.old yard.new }
-    ensures called { (d : Doubted) → StandsFor d yard.old → is_for_group d.world (PutLine name.now volume.now start bytes.now) ≡ false → HasCalled d.world (PutLine name.now volume.now start bytes.now) result yard.old yard.new }
+    ensures leads { (d : Doubted) → StandsFor d yard.old → is_for_group d.world (PutLine name.now volume.now start bytes.now) ≡ false → is_for_rvg d.world (PutLine name.now volume.now start bytes.now) ≡ false → Leads d (PutLine name.now volume.now start bytes.now) result yard.old yard.new }
+    ensures asked { (d : Doubted) → StandsFor d yard.old → is_for_group d.world (PutLine name.now volume.now start bytes.now) ≡ false → is_for_rvg d.world (PutLine name.now volume.now start bytes.now) ≡ false → AsAsked d.world (PutLine name.now volume.now start bytes.now) yard.old yard.new }
+    ensures called { (d : Doubted) → StandsFor d yard.old → is_for_group d.world (PutLine name.now volume.now start bytes.now) ≡ false → is_for_rvg d.world (PutLine name.now volume.now start bytes.now) ≡ false → HasCalled d.world (PutLine name.now volume.now start bytes.now) result yard.old yard.new }
     ensures told { IsTold yard.new → IsTold yard.old }
     ensures files { in_files yard.new ≡ in_files yard.old }
 {

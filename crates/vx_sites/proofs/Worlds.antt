@@ -1,10 +1,10 @@
 -- A world in memory with one part in place of another.
-use Rattle.std.proofs.Common.{◌≡◌, ℕ, ◌+◌, ◌-◌, ◌<◌, ◌≤◌, max, List, [], ◌∷◌, ◌++◌, length, get_or, take, drop, replicate, refl, sym, ap, ◌∙◌, zero, suc}
-use Rattle.std.specs.Prelude.{None, eqb, if◌then◌else◌}
+use Rattle.std.proofs.Common.{◌≡◌, ℕ, ◌+◌, ◌-◌, ◌<◌, ◌≤◌, max, List, [], ◌∷◌, ◌++◌, length, map, get_or, take, drop, replicate, refl, sym, ap, ◌∙◌, zero, suc}
+use Rattle.std.specs.Prelude.{Option, None, eqb, if◌then◌else◌}
 use Rattle.std.proofs.Math.ListN.{set}
 use Rattle.std.proofs.lemmas.List.{length-set, length-append}
 use Rattle.vx_model.specs.Content.{Write, Content, put, fold_writes, zeros}
-use Rattle.vx_history.specs.World.{Node as PlainNode, Link as PlainLink, History as PlainHistory, World as PlainWorld, NoFuse, Regions, bare_site, no_volumes, no_link, no_history, updated, line_updated, with_node}
+use Rattle.vx_history.specs.World.{Node as PlainNode, Link as PlainLink, History as PlainHistory, World as PlainWorld, NoFuse, Regions, bare_site, no_volumes, no_link, no_history, updated, line_updated, with_node, with_history}
 use Rattle.vx_history.proofs.Updates.{at_place, by_test, eqb_equal}
 use Rattle.vx_history.specs.Sends.{with_links}
 use Rattle.vx_history.specs.Steps.{burned, logged, spent, write_calls, told_of, written, crashed, raw_content, raw_set, raw_made, group_set, group_made}
@@ -20,8 +20,11 @@ use Rattle.vx_model.specs.declared.site.SiteState.TheVariants.{Up, Down}
 use Rattle.vx_sites.specs.declared.node.Node.{Node}
 use Rattle.vx_sites.specs.declared.link.Row.{Row}
 use Rattle.vx_sites.specs.declared.maps.MapEntry.{MapEntry}
-use Rattle.vx_sites.proofs.Volumes.{named_raw, sizes_raw}
-use Rattle.vx_sites.specs.Shapes.{sizes, named_volumes, node_of, nodes_of, row_of, links_of, link_maps, mapped_links, with_map}
+use Rattle.vx_history.specs.Groups.{GroupNode}
+use Rattle.vx_history.specs.Volumes.{data_content, starting_with, volumes_made, volumes_set}
+use Rattle.vx_history.specs.declared.volumes.DataVolume.{DataVolume}
+use Rattle.vx_sites.proofs.Volumes.{called_data, called_none, data_of_none, named_raw, sizes_raw}
+use Rattle.vx_sites.specs.Shapes.{called_volumes, sizes, node_of, nodes_of, row_of, links_of, link_maps, mapped_links, with_map}
 use Rattle.vx_sites.proofs.Tables.{at_each, seen-at, seen-beyond, seen-push, seen-changed}
 
 -- a site changes
@@ -111,12 +114,12 @@ written_is w i x v lines is told =
     ap (λ (f : Line → PlainHistory). with_node (record w { lines = f }) i (logged (w.nodes i) x)) (told ∙ ap (λ (n : PlainNode). line_updated w.lines n.line (told_of (w.lines n.line) x)) (sym is))
 
 -- a raw set, and what is recorded of its line
-pub raw_is : (n : PlainNode) (site ring : ℕ) (blocks : List ℕ) (stood : List Line) (start base : Content) (log : List Write) → ring ≡ ring_of n.blocks
-    → blocks ≡ replicate (n.disks - 2) n.blocks → stood ≡ n.stood ++ first_line site ∷ []
+pub raw_is : (n : PlainNode) (site ring : ℕ) (blocks : List ℕ) (names : List (List ℕ)) (stood : List Line) (start base : Content) (log : List Write) → ring ≡ ring_of n.blocks
+    → blocks ≡ replicate (n.disks - 2) n.blocks → names ≡ [] → stood ≡ n.stood ++ first_line site ∷ []
     → start ≡ zeros (sizes blocks) → base ≡ zeros (sizes blocks) → log ≡ []
-    → (let m : PlainNode = record n { state = Up; ring = ring; volumes = named_volumes 1 blocks; role = Primary; mark = Consistent; line = first_line site; top = 1; stood = stood; session = 1; start = start; base = base; log = log; safe = 0; halted = None } in m) ≡ raw_set site n
-raw_is n site ring blocks stood start base log r v o s b l =
-    rw (r, o, s, b, l, v, named_raw 1 (n.disks - 2) n.blocks, sizes_raw (n.disks - 2) n.blocks) refl
+    → (let m : PlainNode = record n { state = Up; ring = ring; volumes = called_volumes names 1 blocks; role = Primary; mark = Consistent; line = first_line site; top = 1; stood = stood; session = 1; start = start; base = base; log = log; safe = 0; halted = None } in m) ≡ raw_set site n
+raw_is n site ring blocks names stood start base log r v a o s b l =
+    rw (r, o, s, b, l, a, v, called_none 1 (replicate (n.disks - 2) n.blocks), named_raw 1 (n.disks - 2) n.blocks, sizes_raw (n.disks - 2) n.blocks) refl
 
 pub raw_made_is : (w : PlainWorld) (i : ℕ) (v : PlainNode) (lines : Line → PlainHistory) (start : Content) (blocks : List ℕ) → w.nodes i ≡ v
     → blocks ≡ replicate (v.disks - 2) v.blocks
@@ -130,10 +133,10 @@ raw_made_is w i v lines start blocks is many made told =
     (told ∙ ap (λ (c : Content). line_updated w.lines (first_line i) (record no_history { start = c })) content)
 
 -- a group of disks, and what is recorded of its line
-pub group_is : (n : PlainNode) (site : ℕ) (blocks : List ℕ) (stood : List Line) (start base : Content) (log : List Write) → blocks ≡ []
+pub group_is : (n : PlainNode) (site : ℕ) (blocks : List ℕ) (names : List (List ℕ)) (stood : List Line) (start base : Content) (log : List Write) → blocks ≡ []
     → stood ≡ n.stood ++ first_line site ∷ [] → start ≡ no_volumes → base ≡ no_volumes → log ≡ []
-    → (let m : PlainNode = record n { state = Up; ring = 0; volumes = named_volumes 1 blocks; role = Primary; mark = Consistent; line = first_line site; top = 1; stood = stood; session = 1; start = start; base = base; log = log; safe = 0; halted = None } in m) ≡ group_set site n
-group_is n site blocks stood start base log v o s b l = rw (o, s, b, l, v) refl
+    → (let m : PlainNode = record n { state = Up; ring = 0; volumes = called_volumes names 1 blocks; role = Primary; mark = Consistent; line = first_line site; top = 1; stood = stood; session = 1; start = start; base = base; log = log; safe = 0; halted = None } in m) ≡ group_set site n
+group_is n site blocks names stood start base log v o s b l = rw (o, s, b, l, v) refl
 
 pub group_made_is : (w : PlainWorld) (i : ℕ) (lines : Line → PlainHistory) (start : Content) → start ≡ no_volumes
     → lines ≡ line_updated w.lines (first_line i) (record no_history { start = start })
@@ -141,6 +144,26 @@ pub group_made_is : (w : PlainWorld) (i : ℕ) (lines : Line → PlainHistory) (
 group_made_is w i lines start made told =
     ap (λ (f : Line → PlainHistory). with_node (record w { lines = f }) i (group_set i (w.nodes i)))
     (told ∙ ap (λ (c : Content). line_updated w.lines (first_line i) (record no_history { start = c })) made)
+
+-- a group of disks with its replicated volume group, and what is recorded of its line
+pub volumes_is : (n : PlainNode) (log ring : ℕ) (xs : List DataVolume) (names : List (List ℕ)) (blocks : List ℕ) (start base : Content) → ring ≡ ring_of log
+    → names ≡ map (λ (x : DataVolume). x.name) xs → blocks ≡ map (λ (x : DataVolume). x.blocks) xs → start ≡ zeros (sizes blocks) → base ≡ zeros (sizes blocks)
+    → (let m : PlainNode = record n { ring = ring; volumes = called_volumes names 1 blocks; start = start; base = base; group = None } in m) ≡ volumes_set log xs (record n { group = None })
+volumes_is n log ring xs names blocks start base r a v s b = rw (r, s, b, a, v, called_data 1 xs, data_of_none xs) refl
+
+pub volumes_made_is : (w : PlainWorld) (i log : ℕ) (xs : List DataVolume) (v : PlainNode) (lines : Line → PlainHistory) (start : Content) (blocks : List ℕ)
+    → w.nodes i ≡ v → v.group ≡ None → blocks ≡ map (λ (x : DataVolume). x.blocks) xs → start ≡ zeros (sizes blocks)
+    → lines ≡ line_updated w.lines v.line (starting_with start (w.lines v.line))
+    → with_node (record w { lines = lines }) i (volumes_set log xs (record (w.nodes i) { group = None })) ≡ volumes_made w i log xs
+volumes_made_is w i log xs v lines start blocks is none many made told =
+    let n : PlainNode = w.nodes i in
+    let group : n.group ≡ None = ap (λ (m : PlainNode). m.group) is ∙ none in
+    let holds : start ≡ data_content n.group xs = made ∙ ap (λ (bs : List ℕ). zeros (sizes bs)) many ∙ data_of_none xs
+    ∙ ap (λ (g : Option GroupNode). data_content g xs) (sym group) in
+    ap (λ (f : Line → PlainHistory). with_node (record w { lines = f }) i (volumes_set log xs (record n { group = None })))
+    (told ∙ ap (λ (c : Content). line_updated w.lines v.line (starting_with c (w.lines v.line))) holds
+    ∙ ap (λ (m : PlainNode). line_updated w.lines m.line (starting_with (data_content n.group xs) (w.lines m.line))) (sym is))
+    ∙ ap (λ (g : Option GroupNode). with_history w i (volumes_set log xs (record n { group = g })) (starting_with (data_content n.group xs) (w.lines n.line))) (sym group)
 
 -- no site of a world in memory has a fuse
 pub no_fuses : (nodes : List Node) (i : ℕ) → (nodes_of nodes i).fuse ≡ NoFuse

@@ -38,6 +38,12 @@ abbrev pub named_volumes : ℕ → List ℕ → List Volume
 named_volumes k [] = []
 named_volumes k (b ∷ bs) = record { name = codes "d" ++ decimal k; blocks = b } ∷ named_volumes (k + 1) bs
 
+-- they have these names, and those behind are named by their numbers
+abbrev pub called_volumes : List (List ℕ) → ℕ → List ℕ → List Volume
+called_volumes names k [] = []
+called_volumes [] k (b ∷ bs) = record { name = codes "d" ++ decimal k; blocks = b } ∷ called_volumes [] (k + 1) bs
+called_volumes (name ∷ names) k (b ∷ bs) = record { name = name; blocks = b } ∷ called_volumes names (k + 1) bs
+
 abbrev pub content_of : Content → PlainContent
 content_of c = fold_writes (zeros (sizes c.sizes.items)) c.writes.items
 
@@ -51,7 +57,7 @@ node_of n = record {
   disks = n.disks;
   blocks = n.blocks;
   ring = n.ring;
-  volumes = named_volumes 1 n.volumes.items;
+  volumes = called_volumes n.names.items 1 n.volumes.items;
   role = n.role;
   line = n.line;
   parent = no_line;

@@ -3,7 +3,7 @@ ghost use Rattle.std.specs.Prelude.{◌≡◌, ◌+◌, ◌<◌, ◌^◌, not, �
 ghost use Rattle.vx_history.specs.World.{World as PlainWorld};
 ghost use Rattle.vx_model.specs.Answer.{is_past};
 ghost use Rattle.vx_history.specs.Sends.{is_linked};
-ghost use Rattle.vx_history.specs.Refusals.{unless, unless_at_most, at_site, at_work, is_primary as primary, some_below, may_be_site, is_fresh as fresh, may_link as can_link, may_join, agree, rings_fit as fit, count_links_of, follows as following};
+ghost use Rattle.vx_history.specs.Refusals.{unless, unless_at_most, at_site, at_work, is_primary as primary, some_below, may_be_site, is_fresh as fresh, may_link as can_link, may_join, agree, sizes_meet, rings_fit as fit, count_links_of, follows as following};
 ghost use Rattle.vx_model.specs.Sites.{is_bare as bare};
 ghost use Rattle.vx_model.specs.Sizes.{is_raw_shape as raw_shape};
 ghost use Rattle.vx_model.specs.declared.no.No.TheVariants.{Unknown, Exists, Role as WrongRole, Size as WrongSize, Range as OutOfRange};
@@ -168,7 +168,7 @@ pub fn refuse_join(world: &World, from: u32, to: u32) -> Option<No>
     }
     let here = world.node(from);
     let there = world.node(to);
-    if has_same_volumes(here, there) && rings_fit(here, there) {
+    if do_sizes_meet(here, there) && rings_fit(here, there) {
         None
     } else {
         Some(No::Size)
@@ -234,10 +234,10 @@ pub fn count_links(world: &World, site: u32) -> usize
     count
 }
 
-fn has_same_volumes(here: &Node, there: &Node) -> bool
-    ensures { result ≡ agree (node_of here.now).volumes (node_of there.now).volumes }
+fn do_sizes_meet(here: &Node, there: &Node) -> bool
+    ensures { result ≡ sizes_meet (node_of here.now).volumes (node_of there.now).volumes }
 {
-    are_same(&here.volumes, &there.volumes)
+    !here.volumes.is_empty() && are_same(&here.volumes, &there.volumes)
 }
 
 // Whether the sizes are as many and the same.

@@ -39,6 +39,7 @@ impl World {
         node.start = Content::new(self.alloc, &volumes)?;
         node.base = Content::new(self.alloc, &volumes)?;
         node.volumes = volumes;
+        node.names.clear();
         node.log.clear();
         node.safe = 0;
         node.halted = None;
@@ -191,7 +192,7 @@ pub fn newly_kept(log: &[Write], safe: u64, kept: u64) -> &[Write]
 }
 
 // The blocks that hold records of a log unit of so many blocks.
-fn ring_of(blocks: u64) -> u32
+pub(crate) fn ring_of(blocks: u64) -> u32
     ensures { result ≡ ring_blocks blocks }
 {
     blocks.min(MOST_LOG_BLOCKS).saturating_sub(LOG_HEADERS) as u32

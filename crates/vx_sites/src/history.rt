@@ -114,3 +114,17 @@ pub fn begin_line(
     };
     Ok(())
 }
+
+/// The line begins with volumes that hold this, and what is recorded of it beside stays.
+pub fn start_line(
+    alloc: Global,
+    lines: &mut Vec<Entry>,
+    line: &Line,
+    start: Content,
+) -> Result<(), OutOfMemory>
+    ensures { OnOk result (lines_of lines.new.items ≡ line_updated (lines_of lines.old.items) line.now (record (lines_of lines.old.items line.now) { start = content_of start })) }
+{
+    let at = find_line(alloc, lines, line)?;
+    lines[at].history.start = start;
+    Ok(())
+}

@@ -19,6 +19,8 @@ pub struct Node {
     pub ring: u32,
     /// The blocks of each data volume of its replicated volume group.
     pub volumes: Vec<u64>,
+    /// Their names, where they are not d1, d2 and so on.
+    pub names: Vec<Name>,
     pub role: Role,
     pub line: Line,
     /// The greatest generation that it ever stood on.
@@ -57,6 +59,7 @@ impl Node {
             blocks,
             ring: 0,
             volumes: Vec::new(alloc),
+            names: Vec::new(alloc),
             role: Role::Primary,
             line: Line {
                 generation: 0,

@@ -7,7 +7,7 @@ use Rattle.vx_history.proofs.Updates.{at_place, by_test}
 use Rattle.vx_model.specs.Content.{Write}
 use Rattle.vx_history.specs.Events.{delivered, gathers, gathered_if, is_taken, handed, heard, link_heard, packet_at, said_of_link, receiver_facts, joined, new_link}
 use Rattle.vx_history.specs.LinkForms.{plain_link, with_plain}
-use Rattle.vx_history.specs.Refusals.{Outcome, says, unless, unless_halted, at_site, both_at_work, on_link_if, may_link, follows, count_links_of, agree, rings_fit, is_primary, is_running, keeps_links}
+use Rattle.vx_history.specs.Refusals.{Outcome, says, unless, unless_halted, at_site, both_at_work, on_link_if, may_link, follows, count_links_of, sizes_meet, rings_fit, is_primary, is_running, keeps_links}
 use Rattle.vx_history.specs.Sending.{Sent, sent_step}
 use Rattle.vx_history.specs.Sends.{is_linked, with_link}
 use Rattle.vx_history.specs.Step.{outcome_of, step, done, link_part}
@@ -123,13 +123,13 @@ module _ (w : World) (s : ℕ) (up : (w.nodes s).state ≡ Up) where
   pub joins_alone : (p : ℕ) (sync : SyncMode) (prot : Prot) → IsAlone s w (outcome_of w (LinkAt p s sync prot Joins)).world
   joins_alone p sync prot =
       let o : Outcome = done (emptied (with_node w s (joined (w.nodes p) p (w.nodes s))) s) in
-      let sized : Outcome = unless (not (agree (w.nodes p).volumes (w.nodes s).volumes && rings_fit (w.nodes p) (w.nodes s))) Size w o in
+      let sized : Outcome = unless (not (sizes_meet (w.nodes p).volumes (w.nodes s).volumes && rings_fit (w.nodes p) (w.nodes s))) Size w o in
       let few : Outcome = unless (leb MOST_LINKS (count_links_of w p)) (Limit Links MOST_LINKS) w sized in
       let new : Outcome = unless (is_linked (w.links p s)) (Exists (w.nodes s).name) w few in
       both_up p s (unless (not (may_link w p s)) WrongRole w new)
       (tested (not (may_link w p s)) WrongRole new
       (tested (is_linked (w.links p s)) (Exists (w.nodes s).name) few (tested (leb MOST_LINKS (count_links_of w p)) (Limit Links MOST_LINKS) sized
-      (tested (not (agree (w.nodes p).volumes (w.nodes s).volumes && rings_fit (w.nodes p) (w.nodes s))) Size o
+      (tested (not (sizes_meet (w.nodes p).volumes (w.nodes s).volumes && rings_fit (w.nodes p) (w.nodes s))) Size o
       (other_gathering (with_node w s (joined (w.nodes p) p (w.nodes s))) _ (one_node (joined (w.nodes p) p (w.nodes s)) refl up)
       (λ i apart. aside w.gathering s None i apart))))))
 

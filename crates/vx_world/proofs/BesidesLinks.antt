@@ -5,14 +5,17 @@ use Rattle.vx_model.specs.declared.limits.TheConstants.{MOST_DISKS, MOST_LINKS, 
 use Rattle.std.proofs.Common.{◌≡◌, ◌∙◌, inl, inr, ℕ, ◌+◌, List, ap, sym, subst, refl, arith, Bool, true, false}
 use Rattle.std.specs.Prelude.{Option, Some, None, not, ◌&&◌, ◌||◌, eqb, ltb, leb, bytes_eq}
 use Rattle.std.proofs.lemmas.Bool.{cases_eq}
-use Rattle.vx_history.specs.Events.{group_again, group_from, is_plain_group, joined, new_link, opened}
+use Rattle.vx_history.specs.Events.{fall_from, group_again, group_from, is_plain_group, joined, new_link, opened}
 use Rattle.vx_history.specs.Receiving.{phase_takes}
-use Rattle.vx_history.specs.Refusals.{Outcome, unless, unless_halted, at_site, both_at_work, may_link, follows, count_links_of, is_fresh, is_running, is_primary, is_consistent, is_stale_mode, is_empty, agree, rings_fit, some_below, how_many_below}
+use Rattle.vx_history.specs.Refusals.{Outcome, unless, unless_halted, at_site, at_work, both_at_work, may_link, follows, count_links_of, is_fresh, is_running, is_primary, is_consistent, is_stale_mode, is_empty, sizes_meet, rings_fit, some_below, how_many_below}
 use Rattle.vx_history.specs.Sends.{is_linked, with_link}
 use Rattle.vx_history.specs.Step.{outcome_of, done, link_part}
-use Rattle.vx_history.specs.Steps.{site_made, raw_made, raw_set, raw_history, group_back, group_set, group_up, begun_line}
-use Rattle.vx_history.specs.World.{Node, Link, World, bare_site, no_volumes, updated, with_node}
-use Rattle.vx_history.specs.declared.event.Event.TheVariants.{Site, Raw, Group, Link as LinkAt}
+use Rattle.vx_history.specs.Steps.{site_made, raw_made, raw_set, raw_history, fallen_site, group_back, group_set, group_up, begun_line}
+use Rattle.vx_history.specs.Volumes.{data_content, starting_with, volumes_made, volumes_set}
+use Rattle.vx_history.specs.declared.volumes.DataVolume.{DataVolume}
+use Rattle.vx_model.specs.declared.history.Line.{Line}
+use Rattle.vx_history.specs.World.{History, Node, Link, World, bare_site, no_volumes, updated, with_node}
+use Rattle.vx_history.specs.declared.event.Event.TheVariants.{Site, Raw, Group, Volumes, Fall, Link as LinkAt}
 use Rattle.vx_history.specs.declared.event.LinkPart.{LinkPart}
 use Rattle.vx_history.specs.declared.event.LinkPart.TheVariants.{Joins, Made, Marked, Opened}
 use Rattle.vx_model.specs.declared.link.Prot.{Prot}
@@ -24,7 +27,7 @@ use Rattle.vx_model.specs.declared.site.SiteState.{SiteState}
 use Rattle.vx_model.specs.declared.site.SiteState.TheVariants.{Bare, Up, Deported, Down}
 use Rattle.vx_history.specs.Gatherings.{emptied}
 use Rattle.vx_world.specs.Twins.{Twin}
-use Rattle.vx_world.proofs.TwinTests.{not_both, both, there, stuck}
+use Rattle.vx_world.proofs.TwinTests.{not_both, both, there, stuck, works}
 use Rattle.vx_world.proofs.TwinChanges.{twin_link, twin_node, elsewhere, place}
 use Rattle.vx_world.proofs.Besides.{some_same, twin_history, twin_empty, bare_both}
 
@@ -77,6 +80,42 @@ module _ (s : ℕ) (w v : World) (twin : Twin s w v) where
             subst (λ (t : SiteState). Twin s (group_from (w.nodes p).state w p).world (group_from t v p).world)
             (sym (ap (λ (n : Node). n.state) (twin.nodes p apart))) (groups_both (w.nodes p).state p apart)
       ])
+
+  falls_both : (t : SiteState) (p : ℕ) → (p ≡ s → ⊥) → Twin s (fall_from t w p).world (fall_from t v p).world
+  falls_both Bare p apart = twin
+  falls_both Up p apart = twin
+  falls_both Deported p apart = twin_node s w v twin p (fallen_site (w.nodes p)) (fallen_site (v.nodes p)) apart (ap fallen_site (twin.nodes p apart))
+  falls_both Down p apart = twin
+
+  pub twin_fall : (p : ℕ) → Twin s (outcome_of w (Fall p)).world (outcome_of v (Fall p)).world
+  twin_fall p =
+      there s w v p (fall_from (w.nodes p).state w p) (fall_from (v.nodes p).state v p) twin
+      (elim (cases_eq p s) [
+        | inl same ↦
+            let up : (w.nodes p).state ≡ Up = subst (λ (i : ℕ). (w.nodes i).state ≡ Up) (sym same) twin.up in
+            let up_too : (v.nodes p).state ≡ Up = subst (λ (i : ℕ). (v.nodes i).state ≡ Up) (sym same) twin.up_too in
+            subst (λ (t : SiteState). Twin s (fall_from t w p).world (fall_from (v.nodes p).state v p).world) (sym up)
+            (subst (λ (t : SiteState). Twin s w (fall_from t v p).world) (sym up_too) twin)
+        | inr apart ↦
+            subst (λ (t : SiteState). Twin s (fall_from (w.nodes p).state w p).world (fall_from t v p).world)
+            (sym (ap (λ (n : Node). n.state) (twin.nodes p apart))) (falls_both (w.nodes p).state p apart)
+      ])
+
+  pub twin_volumes : (p log : ℕ) (xs : List DataVolume) → Twin s (outcome_of w (Volumes p log xs)).world (outcome_of v (Volumes p log xs)).world
+  twin_volumes p log xs =
+      let o : Outcome = done (volumes_made w p log xs) in
+      let r : Outcome = done (volumes_made v p log xs) in
+      let tested_w : Outcome = unless (not (is_plain_group (w.nodes p))) WrongRole w o in
+      let tested_v : Outcome = unless (not (is_plain_group (v.nodes p))) WrongRole v r in
+      there s w v p (at_work w p tested_w) (at_work v p tested_v) twin
+      (works s w v p tested_w tested_v twin
+      (λ apart. both s (not (is_plain_group (w.nodes p))) (not (is_plain_group (v.nodes p))) WrongRole WrongRole w v o r
+      (ap (λ (n : Node). not (is_plain_group n)) (twin.nodes p apart)) twin
+      (λ _. twin_history s w v twin p (volumes_set log xs (w.nodes p)) (volumes_set log xs (v.nodes p))
+      (starting_with (data_content (w.nodes p).group xs) (w.lines (w.nodes p).line)) (starting_with (data_content (v.nodes p).group xs) (v.lines (v.nodes p).line)) apart
+      (ap (λ (n : Node). volumes_set log xs n) (twin.nodes p apart))
+      (ap (λ (n : Node). starting_with (data_content n.group xs) (v.lines n.line)) (twin.nodes p apart)
+      ∙ ap (λ (f : Line → History). starting_with (data_content (w.nodes p).group xs) (f (w.nodes p).line)) twin.lines))))
 
   pub made_both : (name : List ℕ) (disks blocks : ℕ) → Twin s (site_made w name disks blocks) (site_made v name disks blocks)
   made_both name disks blocks =
@@ -205,8 +244,8 @@ module _ (s : ℕ) (w v : World) (twin : Twin s w v) where
     part_both sync prot Joins =
         let o : Outcome = done (emptied (with_node w q (joined (w.nodes p) p (w.nodes q))) q) in
         let r : Outcome = done (emptied (with_node v q (joined (v.nodes p) p (v.nodes q))) q) in
-        let fit_w : Outcome = unless (not (agree (w.nodes p).volumes (w.nodes q).volumes && rings_fit (w.nodes p) (w.nodes q))) Size w o in
-        let fit_v : Outcome = unless (not (agree (v.nodes p).volumes (v.nodes q).volumes && rings_fit (v.nodes p) (v.nodes q))) Size v r in
+        let fit_w : Outcome = unless (not (sizes_meet (w.nodes p).volumes (w.nodes q).volumes && rings_fit (w.nodes p) (w.nodes q))) Size w o in
+        let fit_v : Outcome = unless (not (sizes_meet (v.nodes p).volumes (v.nodes q).volumes && rings_fit (v.nodes p) (v.nodes q))) Size v r in
         let few_w : Outcome = unless (leb MOST_LINKS (count_links_of w p)) (Limit Links MOST_LINKS) w fit_w in
         let few_v : Outcome = unless (leb MOST_LINKS (count_links_of v p)) (Limit Links MOST_LINKS) v fit_v in
         both s (not (may_link w p q)) (not (may_link v p q)) WrongRole WrongRole w v (unless (is_linked (w.links p q)) (Exists (w.nodes q).name) w few_w)
@@ -214,10 +253,10 @@ module _ (s : ℕ) (w v : World) (twin : Twin s w v) where
         (λ _. both s (is_linked (w.links p q)) (is_linked (v.links p q)) (Exists (w.nodes q).name) (Exists (v.nodes q).name) w v few_w few_v same_linked twin
         (λ _. both s (leb MOST_LINKS (count_links_of w p)) (leb MOST_LINKS (count_links_of v p)) (Limit Links MOST_LINKS) (Limit Links MOST_LINKS) w v fit_w fit_v
         (ap (λ (n : ℕ). leb MOST_LINKS n) same_links) twin
-        (λ _. both s (not (agree (w.nodes p).volumes (w.nodes q).volumes && rings_fit (w.nodes p) (w.nodes q)))
-        (not (agree (v.nodes p).volumes (v.nodes q).volumes && rings_fit (v.nodes p) (v.nodes q))) Size Size w v o r
-        (ap (λ (n : Node). not (agree n.volumes (v.nodes q).volumes && rings_fit n (v.nodes q))) here_is ∙ ap
-        (λ (n : Node). not (agree (w.nodes p).volumes n.volumes && rings_fit (w.nodes p) n)) there_is) twin
+        (λ _. both s (not (sizes_meet (w.nodes p).volumes (w.nodes q).volumes && rings_fit (w.nodes p) (w.nodes q)))
+        (not (sizes_meet (v.nodes p).volumes (v.nodes q).volumes && rings_fit (v.nodes p) (v.nodes q))) Size Size w v o r
+        (ap (λ (n : Node). not (sizes_meet n.volumes (v.nodes q).volumes && rings_fit n (v.nodes q))) here_is ∙ ap
+        (λ (n : Node). not (sizes_meet (w.nodes p).volumes n.volumes && rings_fit (w.nodes p) n)) there_is) twin
         (λ _. twin_empty s (with_node w q (joined (w.nodes p) p (w.nodes q))) (with_node v q (joined (v.nodes p) p (v.nodes q))) q
         (twin_node s w v twin q (joined (w.nodes p) p (w.nodes q)) (joined (v.nodes p) p (v.nodes q)) other
         (ap (λ (n : Node). joined n p (v.nodes q)) here_is ∙ ap (λ (n : Node). joined (w.nodes p) p n) there_is))))))

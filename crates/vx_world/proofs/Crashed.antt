@@ -23,7 +23,7 @@ crash_is w s kept here up = rw (not_past w.sites s here) (rw up refl)
 uncounted : (w : World) (h : ℕ → ℕ) → GoodWorld (record w { headers = h }) → GoodWorld w
 uncounted w h g = record {
   sound = sound_headers (record w { headers = h }) w.headers g.sound;
-  fits = record { sized = g.fits.sized; logs = g.fits.logs; held = g.fits.held; alike = g.fits.alike };
+  fits = record { sized = g.fits.sized; logs = g.fits.logs; held = g.fits.held; alike = g.fits.alike; alone = g.fits.alone };
   gathers = record { parts = g.gathers.parts; each = g.gathers.each };
   places = g.places;
 }

@@ -6,9 +6,9 @@ use Rattle.std.proofs.Math.Path.{fun_ext}
 use Rattle.std.specs.List.{AllByRecursion}
 use Rattle.std.proofs.lemmas.List.{length-take, take-append-drop, take-take}
 use Rattle.vx_model.specs.Content.{IsPrefixOf, Write}
-use Rattle.vx_history.specs.World.{World, Fuse, History, Link, Node, updated, with_node}
+use Rattle.vx_history.specs.World.{World, Fuse, History, Link, NoFuse, Node, updated, with_node}
 use Rattle.vx_model.specs.Sites.{is_origin}
-use Rattle.vx_history.specs.Steps.{burned, crashed, crash_left, deported_site, deported_world, group_back, group_up, stopped_by}
+use Rattle.vx_history.specs.Steps.{burned, crashed, crash_left, deported_site, deported_world, fallen_site, fallen_world, group_back, group_up, stopped_by}
 use Rattle.vx_history.specs.Good.{IsMade}
 use Rattle.vx_model.specs.declared.site.Mark.{Mark}
 use Rattle.vx_model.specs.declared.site.Mark.TheVariants.{Consistent}
@@ -17,7 +17,7 @@ use Rattle.vx_model.specs.declared.site.SiteState.{SiteState}
 use Rattle.vx_model.specs.declared.site.SiteState.TheVariants.{Bare, Up, Deported, Down}
 use Rattle.vx_history.proofs.Updates.{by_test, at_place}
 use Rattle.vx_history.proofs.GoodLemmas.{up_is_made}
-use Rattle.vx_history.proofs.CrashLemmas.{good_crashed, good_back, good_deported, good_session_begun, good_stopped, kept_length, crash_state}
+use Rattle.vx_history.proofs.CrashLemmas.{good_crashed, good_back, good_deported, good_fallen, good_session_begun, good_stopped, kept_length, crash_state}
 use Rattle.vx_history.specs.Sends.{with_links, sending, greeting}
 use Rattle.vx_history.proofs.GroupLemmas.{group_facts}
 use Rattle.vx_history.specs.Events
@@ -142,6 +142,30 @@ deported_keeps w q fuse s down =
     (λ _. s.stands q made)
     (λ _. Nodes.fed_still (w.lines n.line) q n Deported n.log n.session n.mark n.halted fuse n.fed_by (λ m. m))
     (λ _ r g. s.known q made r g)
+
+-- one that gave them up is down
+fallen_keeps : (w : World) (q : ℕ) → Sound w → (w.nodes q).state ≡ Deported → Sound (fallen_world w q)
+fallen_keeps w q s away =
+    let n : Node = w.nodes q in
+    let rest : is_at_rest n.state ≡ true = ap is_at_rest away in
+    let made : IsMade n = rest_bare n.state rest in
+    sound_with_node w q (fallen_site n) s
+    (good_fallen w q s.good made (s.whole q rest))
+    (Nodes.later_fallen n)
+    (λ _. s.whole q rest)
+    (s.fed q)
+    (s.takes q)
+    (λ up. absurd (let e : Down ≡ Up = up in cc))
+    (s.newest q)
+    (λ _. s.stands q made)
+    (λ _. Nodes.fed_still (w.lines n.line) q n Down n.log n.session n.mark n.halted NoFuse n.other (λ m. m))
+    (λ _ r g. s.known q made r g)
+
+pub fall_keeps : (w : World) (q : ℕ) (state : SiteState) → Sound w → (w.nodes q).state ≡ state → Sound (Events.fall_from state w q).world
+fall_keeps w q Bare s e = s
+fall_keeps w q Up s e = s
+fall_keeps w q Deported s e = fallen_keeps w q s e
+fall_keeps w q Down s e = s
 
 pub deport_keeps : (w : World) (q : ℕ) → Sound w → (w.nodes q).state ≡ Up → Sound (Events.deport_at w q)
 deport_keeps w q s up =

@@ -19,7 +19,7 @@ use Rattle.vx_history.specs.Steps.{stopped_by}
 use Rattle.vx_history.specs.Stops.{IsLikeDoubted}
 use Rattle.vx_history.specs.World.{World, Node, Link as LinkState, updated}
 use Rattle.vx_history.specs.declared.event.Event.{Event}
-use Rattle.vx_history.specs.declared.event.Event.TheVariants.{Site, Raw, Group, Write, Read, Apply, Pump, Tick, Deliver, Connect, Cut, Pause, Resume, Wait, Link, Set, Attach, Detach, Crash, Deport, Recover, Fault}
+use Rattle.vx_history.specs.declared.event.Event.TheVariants.{Site, Raw, Group, Volumes, Write, Read, Apply, Pump, Tick, Deliver, Connect, Cut, Pause, Resume, Wait, Link, Set, Attach, Detach, Crash, Deport, Fall, Recover, Fault}
 use Rattle.vx_world.specs.Lines.{NoDoubts, IsDoubt, GoodDoubted, node_as, row_as, resolved_as}
 use Rattle.vx_world.specs.Twins.{Twin, GoodTwin, IsElsewhere}
 use Rattle.vx_world.proofs.Halted.{like_counted}
@@ -256,6 +256,7 @@ pub step_good_as : (d : Doubted) (e : Event) → GoodDoubted d → ((s : ℕ) (a
 step_good_as d (Site name disks blocks) g calm = calm_good d (Site name disks blocks) g (λ _ _ _. tt)
 step_good_as d (Raw p) g calm = calm_good d (Raw p) g (λ _ _ _. tt)
 step_good_as d (Group p) g calm = calm_good d (Group p) g (λ _ _ _. tt)
+step_good_as d (Volumes p log xs) g calm = calm_good d (Volumes p log xs) g (λ _ _ _. tt)
 step_good_as d (Write p volume start bytes fails) g calm = calm_good d (Write p volume start bytes fails) g (λ _ _ _. tt)
 step_good_as d (Read p volume start count) g calm = calm_good d (Read p volume start count) g (λ _ _ _. tt)
 step_good_as d (Apply p count reached) g calm = calm_good d (Apply p count reached) g (λ _ _ _. tt)
@@ -273,6 +274,7 @@ step_good_as d (Attach p q) g calm = calm_good d (Attach p q) g (λ _ _ _. tt)
 step_good_as d (Detach p q) g calm = calm_good d (Detach p q) g (λ _ _ _. tt)
 step_good_as d (Crash p kept) g calm = calm_good d (Crash p kept) g (λ s a is here. calm s a is (ap (λ (i : ℕ). Some i) here))
 step_good_as d (Deport p) g calm = calm_good d (Deport p) g (λ _ _ _. tt)
+step_good_as d (Fall p) g calm = calm_good d (Fall p) g (λ _ _ _. tt)
 step_good_as d (Recover p fails) g calm = by_doubt (d.after p) refl
   where
     by_doubt : (o : Option After) → d.after p ≡ o → GoodDoubted (record { world = (step d.world (Recover p fails)).world; after = d.after })

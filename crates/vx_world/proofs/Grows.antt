@@ -10,7 +10,7 @@ use Rattle.vx_history.specs.Receiving.{Received, received_step}
 use Rattle.vx_history.specs.LinkForms.{plain_receiver, with_plain}
 use Rattle.vx_history.specs.World.{World, Node, Volume, Link as LinkRecord, History, Gathering, Packet, Promise, Message, Hello, Update, NetAck, DataAck, with_node, with_history, bare_site, no_volumes}
 use Rattle.vx_model.specs.Sites.{is_origin}
-use Rattle.vx_history.specs.Steps.{burned, logged, told_of, written, half_written, crashed, crash_left, deported_site, site_made, begun_site, begun_line, line_begun, raw_made, raw_volumes, raw_content, group_back, group_up, stopped_by}
+use Rattle.vx_history.specs.Steps.{burned, logged, told_of, written, half_written, crashed, crash_left, deported_site, fallen_site, site_made, begun_site, begun_line, line_begun, raw_made, raw_volumes, raw_content, group_back, group_up, stopped_by}
 use Rattle.vx_history.specs.Good.{IsMade}
 use Rattle.vx_model.specs.declared.history.Line.{Line}
 use Rattle.vx_model.specs.declared.link.Prot.{Prot}
@@ -33,13 +33,14 @@ use Rattle.vx_history.proofs.StateCases.{bare_is, up_is}
 use Rattle.vx_history.specs.declared.event.LinkPart.{LinkPart}
 use Rattle.vx_history.specs.declared.event.LinkPart.TheVariants.{Joins, Made, Marked, Opened}
 use Rattle.vx_history.specs.declared.event.Event.{Event}
-use Rattle.vx_history.specs.declared.event.Event.TheVariants.{Site, Raw, Group, Write as WriteAt, Read, Apply, Pump, Tick, Deliver, Connect, Cut, Pause, Resume, Wait, Link, Set, Attach, Detach, Crash, Deport, Recover, Fault}
+use Rattle.vx_history.specs.declared.event.Event.TheVariants.{Site, Raw, Group, Volumes, Write as WriteAt, Read, Apply, Pump, Tick, Deliver, Connect, Cut, Pause, Resume, Wait, Link, Set, Attach, Detach, Crash, Deport, Fall, Recover, Fault}
 use Rattle.vx_history.specs.declared.event.Said.TheVariants.{Done, Ignored as IsIgnored, Pending, DoneAt}
-use Rattle.vx_history.specs.Refusals.{Outcome, says, unless, at_work, on_link, on_link_if, keeps_links, is_primary, is_running, follows, some_below, is_unconfirmed, holds_back, may_link, agree, rings_fit, count_links_of}
+use Rattle.vx_history.specs.Refusals.{Outcome, says, unless, at_work, on_link, on_link_if, keeps_links, is_primary, is_running, follows, some_below, is_unconfirmed, holds_back, may_link, sizes_meet, rings_fit, count_links_of}
 use Rattle.vx_model.specs.Sites.{is_up, is_bare}
 use Rattle.vx_model.specs.Sizes.{is_raw_shape, ring_of}
 use Rattle.vx_history.specs.Events
 use Rattle.vx_history.specs.Gatherings.{completes, emptied}
+use Rattle.vx_history.specs.Volumes.{data_content, starting_with, volumes_made, volumes_set}
 use Rattle.vx_history.specs.Step.{done, outcome_of, step, run, link_part}
 use Rattle.vx_history.specs.Sends.{is_linked, with_link, with_links, sending, promising, sent_by}
 use Rattle.vx_model.specs.declared.limits.TheConstants.{MOST_DISKS, MOST_LINKS, MOST_SITES}
@@ -267,12 +268,12 @@ link_part_grows : (part : LinkPart) (w : World) (p q : ℕ) (sync : SyncMode) (p
 link_part_grows Joins w p q sync prot up =
     let joins : World = with_node w q (Events.joined (w.nodes p) p (w.nodes q)) in
     let o : Outcome = done (emptied joins q) in
-    let fits : Outcome = unless (not (agree (w.nodes p).volumes (w.nodes q).volumes && rings_fit (w.nodes p) (w.nodes q))) Size w o in
+    let fits : Outcome = unless (not (sizes_meet (w.nodes p).volumes (w.nodes q).volumes && rings_fit (w.nodes p) (w.nodes q))) Size w o in
     let few : Outcome = unless (leb MOST_LINKS (count_links_of w p)) (Limit Links MOST_LINKS) w fits in
     Guards.unless_holds (GrownWorld w) (not (may_link w p q)) WrongRole w (unless (is_linked (w.links p q)) (Exists (w.nodes q).name) w few) (grown_same w)
     (λ _. Guards.unless_holds (GrownWorld w) (is_linked (w.links p q)) (Exists (w.nodes q).name) w few (grown_same w)
     (λ _. Guards.unless_holds (GrownWorld w) (leb MOST_LINKS (count_links_of w p)) (Limit Links MOST_LINKS) w fits (grown_same w)
-    (λ _. Guards.unless_holds (GrownWorld w) (not (agree (w.nodes p).volumes (w.nodes q).volumes && rings_fit (w.nodes p) (w.nodes q))) Size w o (grown_same w)
+    (λ _. Guards.unless_holds (GrownWorld w) (not (sizes_meet (w.nodes p).volumes (w.nodes q).volumes && rings_fit (w.nodes p) (w.nodes q))) Size w o (grown_same w)
     (λ _. grown_gathering w joins (grown_node w q (Events.joined (w.nodes p) p (w.nodes q)) (λ made. made)
     (λ _ l h. more_lines (w.nodes q).stood ((w.nodes p).line ∷ []) l h)) _))))
 link_part_grows Made w p q sync prot up =
@@ -302,6 +303,12 @@ group_grows w q Up e = grown_same w
 group_grows w q Deported e = again_grows w q
 group_grows w q Down e = again_grows w q
 
+fall_grows : (w : World) (q : ℕ) (state : SiteState) → Leaves w (Events.fall_from state w q)
+fall_grows w q Bare = grown_same w
+fall_grows w q Up = grown_same w
+fall_grows w q Deported = grown_node w q (fallen_site (w.nodes q)) (λ _ e. cc) (λ _ _ h. h)
+fall_grows w q Down = grown_same w
+
 -- a link of an origin is set, attached or detached
 set_grows : (w : World) (p q : ℕ) (l : LinkRecord) → Leaves w (on_link_if is_origin w p q (done (with_link w p q l)))
 set_grows w p q l = Guards.on_link_holds (GrownWorld w) is_origin w p q (done (with_link w p q l)) (grown_same w) (λ _ _ _. grown_links w w (grown_same w) (with_link w p q l).links)
@@ -324,6 +331,15 @@ outcome_grows w (Raw q) s =
     (λ bare. Guards.unless_holds (GrownWorld w) (not (is_raw_shape (w.nodes q).disks (w.nodes q).blocks)) Size w o (grown_same w)
     (λ _. raw_grows w q (bare_is (w.nodes q).state (not-false (is_bare (w.nodes q).state) bare)))))
 outcome_grows w (Group q) s = Guards.at_site_holds (GrownWorld w) w q _ (grown_same w) (λ _. group_grows w q (w.nodes q).state refl)
+outcome_grows w (Volumes q log xs) s =
+    let n : Node = w.nodes q in
+    let o : Outcome = done (volumes_made w q log xs) in
+    let tested : Outcome = unless (not (Events.is_plain_group n)) WrongRole w o in
+    Guards.at_site_holds (GrownWorld w) w q (at_work w q tested) (grown_same w)
+    (λ _. Guards.at_work_holds (GrownWorld w) w q tested (grown_same w)
+    (λ _ _. Guards.unless_holds (GrownWorld w) (not (Events.is_plain_group n)) WrongRole w o (grown_same w)
+    (λ _. grown_history w q (volumes_set log xs n) (starting_with (data_content n.group xs) (w.lines n.line)) (λ made. made) (λ _ _ h. h)
+    (λ _. (prefix_refl (w.lines n.line).held, omega arith)))))
 outcome_grows w (WriteAt p volume start bytes fails) s =
     let x : Write = record { volume = volume; start = start; bytes = bytes } in
     Guards.on_volume_holds (GrownWorld w) w p volume start (blocks_in bytes) (is_too_large (w.nodes p).ring (blocks_in bytes))
@@ -379,6 +395,7 @@ outcome_grows w (Crash q kept) s =
     (λ _. Guards.unless_holds (GrownWorld w) (not (is_up (w.nodes q).state)) NotUp w o (grown_same w)
     (λ up. crash_grows w q (Events.kept_of (w.nodes q) kept) s (up_is (w.nodes q).state (not-false (is_up (w.nodes q).state) up))
     (Nodes.kept_least (w.nodes q) kept (s.good.nodes q).safe_fits)))
+outcome_grows w (Fall q) s = Guards.at_site_holds (GrownWorld w) w q _ (grown_same w) (λ _. fall_grows w q (w.nodes q).state)
 outcome_grows w (Deport q) s =
     let o : Outcome = done (Events.deport_at w q) in
     Guards.at_site_holds (GrownWorld w) w q (at_work w q o) (grown_same w)

@@ -19,7 +19,7 @@ use Rattle.vx_history.specs.Steps.{stopped_by, half_written, burned}
 use Rattle.vx_history.specs.Stops.{WritesAt, IsPartAt}
 use Rattle.vx_history.specs.GoodWorld.{GoodWorld}
 use Rattle.vx_history.specs.declared.event.Event.{Event}
-use Rattle.vx_history.specs.declared.event.Event.TheVariants.{Site, Raw, Group, Write, Read, Apply, Pump, Tick, Deliver, Connect, Cut, Pause, Resume, Wait, Link, Set, Attach, Detach, Crash, Deport, Recover, Fault}
+use Rattle.vx_history.specs.declared.event.Event.TheVariants.{Site, Raw, Group, Volumes, Write, Read, Apply, Pump, Tick, Deliver, Connect, Cut, Pause, Resume, Wait, Link, Set, Attach, Detach, Crash, Deport, Fall, Recover, Fault}
 use Rattle.vx_history.specs.declared.event.LinkPart.{LinkPart}
 use Rattle.vx_history.specs.declared.event.LinkPart.TheVariants.{Joins, Made, Marked, Opened}
 use Rattle.vx_world.specs.Twins.{GoodTwin, IsAlone}
@@ -78,6 +78,7 @@ writes_alone : (w : World) (e : Event) (site : ℕ) → (w.nodes site).state ≡
 writes_alone w (Site name disks blocks) site up at = absurd at
 writes_alone w (Raw p) site up at = absurd at
 writes_alone w (Group p) site up at = absurd at
+writes_alone w (Volumes p log xs) site up at = absurd at
 writes_alone w (Write p volume start bytes None) site up at = absurd at
 writes_alone w (Write p volume start bytes (Some disk)) site up at =
     subst (λ (i : ℕ). IsAlone site w (outcome_of w (Write i volume start bytes (Some disk))).world) (sym at) (write_alone w site up volume start bytes disk)
@@ -97,6 +98,7 @@ writes_alone w (Attach p q) site up at = subst (λ (i : ℕ). IsAlone site w (ou
 writes_alone w (Detach p q) site up at = subst (λ (i : ℕ). IsAlone site w (outcome_of w (Detach i q)).world) (sym at) (set_alone w site up q link_detached)
 writes_alone w (Crash p kept) site up at = absurd at
 writes_alone w (Deport p) site up at = absurd at
+writes_alone w (Fall p) site up at = absurd at
 writes_alone w (Recover p fails) site up at = absurd at
 writes_alone w (Fault p disk) site up at = subst (λ (i : ℕ). IsAlone site w (outcome_of w (Fault i disk)).world) (sym at) (fault_alone w site up disk)
 

@@ -127,7 +127,7 @@ module _ (s disk : ℕ) (w u : World) (good : GoodWorld w) (done : GoodWorld u) 
     good_too = record {
       sound = sound_like told may (sound_gathering did w.gathering (fault_keeps u s disk done.sound alone.up)) like;
       fits = fits_like told may (sound_gathering did w.gathering (fault_keeps u s disk done.sound alone.up)) like
-          (let f = (stopped_leaves u s disk).fits done.fits in record { sized = f.sized; logs = f.logs; held = f.held; alike = f.alike });
+          (let f = (stopped_leaves u s disk).fits done.fits in record { sized = f.sized; logs = f.logs; held = f.held; alike = f.alike; alone = f.alone });
       gathers = gathers;
       places = places;
     };

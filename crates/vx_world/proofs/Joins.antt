@@ -27,7 +27,7 @@ use Rattle.vx_history.proofs.GoodLemmas.{good_site, good_begun, good_stays, made
 use Rattle.vx_history.specs.declared.event.LinkPart.{LinkPart}
 use Rattle.vx_history.specs.declared.event.LinkPart.TheVariants.{Joins, Made, Marked, Opened}
 use Rattle.vx_history.specs.Sends.{is_linked, with_link}
-use Rattle.vx_history.specs.Refusals.{Outcome, unless, some_below, is_primary, is_bunker, is_consistent, is_stale_mode, is_empty, is_fresh, may_link, may_join, may_be_site, agree, rings_fit, count_links_of, follows}
+use Rattle.vx_history.specs.Refusals.{Outcome, unless, some_below, is_primary, is_bunker, is_consistent, is_stale_mode, is_empty, is_fresh, may_link, may_join, may_be_site, sizes_meet, rings_fit, count_links_of, follows}
 use Rattle.vx_history.specs.Events.{joined, new_link, opened}
 use Rattle.vx_history.specs.Gatherings.{emptied}
 use Rattle.vx_history.specs.Step.{done, link_part}
@@ -183,12 +183,12 @@ may_join_keeps : (w : World) (p q : ℕ) → Sound w → (w.nodes p).state ≡ U
     → Keeps (may_join w p q (done (emptied (with_node w q (joined (w.nodes p) p (w.nodes q))) q)))
 may_join_keeps w p q s up_p up_q =
     let o : Outcome = done (emptied (with_node w q (joined (w.nodes p) p (w.nodes q))) q) in
-    let fits : Outcome = unless (not (agree (w.nodes p).volumes (w.nodes q).volumes && rings_fit (w.nodes p) (w.nodes q))) Size w o in
+    let fits : Outcome = unless (not (sizes_meet (w.nodes p).volumes (w.nodes q).volumes && rings_fit (w.nodes p) (w.nodes q))) Size w o in
     let few : Outcome = unless (leb MOST_LINKS (count_links_of w p)) (Limit Links MOST_LINKS) w fits in
     unless_keeps (not (may_link w p q)) WrongRole w (unless (is_linked (w.links p q)) (Exists (w.nodes q).name) w few) s
     (λ may. unless_keeps (is_linked (w.links p q)) (Exists (w.nodes q).name) w few s
     (λ unlinked. unless_keeps (leb MOST_LINKS (count_links_of w p)) (Limit Links MOST_LINKS) w fits s
-    (λ _. unless_keeps (not (agree (w.nodes p).volumes (w.nodes q).volumes && rings_fit (w.nodes p) (w.nodes q))) Size w o s
+    (λ _. unless_keeps (not (sizes_meet (w.nodes p).volumes (w.nodes q).volumes && rings_fit (w.nodes p) (w.nodes q))) Size w o s
     (λ _. sound_gathering (with_node w q (joined (w.nodes p) p (w.nodes q))) _ (joins (not-false (may_link w p q) may) unlinked)))))
   where
     joins : may_link w p q ≡ true → is_linked (w.links p q) ≡ false → Sound (with_node w q (joined (w.nodes p) p (w.nodes q)))

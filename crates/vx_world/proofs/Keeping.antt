@@ -16,7 +16,7 @@ use Rattle.vx_history.specs.Good.{IsMade}
 use Rattle.vx_history.specs.Listed.{HasPlaces}
 use Rattle.vx_history.specs.Sends.{packets_from, packets_of, parts_of, sending, promising, with_link}
 use Rattle.vx_history.specs.Refusals.{agree}
-use Rattle.vx_history.specs.Fits.{WriteFits, Fitting, IsSized, IsAlike, blocks_of_volume}
+use Rattle.vx_history.specs.Fits.{WriteFits, Fitting, IsSized, IsAlike, LeadsAlone, blocks_of_volume}
 use Rattle.vx_history.specs.GoodGatherings.{IsPart, Gathers, MayGather}
 use Rattle.vx_world.proofs.Lists.{each_append, each_weaker}
 
@@ -143,13 +143,13 @@ made_link w p s l same = made_rows w p (updated (w.links p) s l) (all_updated (�
 
 module _ (w v : World) (k : Keeps w v) where
   pub keeps_links : (f : ℕ → ℕ → Link) → SameMade v f → Keeps w (record v { links = f })
-  keeps_links f same = record { places = λ h p. places_same v.sites (v.links p) (f p) (same p) (k.places h p); gathers = λ g. record { parts = (k.gathers g).parts; each = (k.gathers g).each }; fits = λ h. record { sized = (k.fits h).sized; logs = (k.fits h).logs; held = (k.fits h).held; alike = (k.fits h).alike } }
+  keeps_links f same = record { places = λ h p. places_same v.sites (v.links p) (f p) (same p) (k.places h p); gathers = λ g. record { parts = (k.gathers g).parts; each = (k.gathers g).each }; fits = λ h. record { sized = (k.fits h).sized; logs = (k.fits h).logs; held = (k.fits h).held; alike = (k.fits h).alike; alone = (k.fits h).alone } }
 
   pub keeps_headers : (f : ℕ → ℕ) → Keeps w (record v { headers = f })
-  keeps_headers f = record { places = k.places; gathers = λ g. record { parts = (k.gathers g).parts; each = (k.gathers g).each }; fits = λ h. record { sized = (k.fits h).sized; logs = (k.fits h).logs; held = (k.fits h).held; alike = (k.fits h).alike } }
+  keeps_headers f = record { places = k.places; gathers = λ g. record { parts = (k.gathers g).parts; each = (k.gathers g).each }; fits = λ h. record { sized = (k.fits h).sized; logs = (k.fits h).logs; held = (k.fits h).held; alike = (k.fits h).alike; alone = (k.fits h).alone } }
 
   pub keeps_promising : (more : List Promise) → Keeps w (promising v more)
-  keeps_promising more = record { places = k.places; gathers = λ g. record { parts = (k.gathers g).parts; each = (k.gathers g).each }; fits = λ h. record { sized = (k.fits h).sized; logs = (k.fits h).logs; held = (k.fits h).held; alike = (k.fits h).alike } }
+  keeps_promising more = record { places = k.places; gathers = λ g. record { parts = (k.gathers g).parts; each = (k.gathers g).each }; fits = λ h. record { sized = (k.fits h).sized; logs = (k.fits h).logs; held = (k.fits h).held; alike = (k.fits h).alike; alone = (k.fits h).alone } }
 
   pub keeps_sending : (more : List Packet) → AllByRecursion IsPart more → Keeps w (sending v more)
   keeps_sending more parts = record {
@@ -157,7 +157,7 @@ module _ (w v : World) (k : Keeps w v) where
       parts = each_append IsPart v.packets more (k.gathers g).parts parts;
       each = λ i. gather_later i (v.nodes i) (v.nodes i) v.packets more (v.gathering i) (λ up. up) ((k.gathers g).each i);
     };
-    fits = λ h. record { sized = (k.fits h).sized; logs = (k.fits h).logs; held = (k.fits h).held; alike = (k.fits h).alike };
+    fits = λ h. record { sized = (k.fits h).sized; logs = (k.fits h).logs; held = (k.fits h).held; alike = (k.fits h).alike; alone = (k.fits h).alone };
     places = k.places;
   }
 
@@ -165,7 +165,7 @@ module _ (w v : World) (k : Keeps w v) where
   pub keeps_gathering : (f : ℕ → Option Gathering) → (Gathers v → (i : ℕ) → MayGather i (v.nodes i) v.packets (f i)) → Keeps w (record v { gathering = f })
   keeps_gathering f each = record {
     gathers = λ g. record { parts = (k.gathers g).parts; each = each (k.gathers g) };
-    fits = λ h. record { sized = (k.fits h).sized; logs = (k.fits h).logs; held = (k.fits h).held; alike = (k.fits h).alike };
+    fits = λ h. record { sized = (k.fits h).sized; logs = (k.fits h).logs; held = (k.fits h).held; alike = (k.fits h).alike; alone = (k.fits h).alone };
     places = k.places;
   }
 
@@ -196,8 +196,15 @@ module _ (w : World) (i : ℕ) (n : Node) (fitted : Fitting w → IsFitted (w.no
         (λ made. subst (λ (l : Line). IsAlike (nodes_now l.origin) n) (sym (fitted f).line)
         (there (w.nodes i).line.origin i n (fitted f).volumes (fitted f).ring (f.alike i ((fitted f).made made))))
         (λ k _ made. there (w.nodes k).line.origin k (w.nodes k) refl refl (f.alike k made));
+    alone = all_updated (λ k (m : Node). IsMade m → LeadsAlone (nodes_now m.line.origin) k m) w.nodes i n
+        (λ made none. ap (λ (l : Line). l.origin) (fitted f).line
+        ∙ f.alone i ((fitted f).made made) (was (w.nodes i).line.origin (subst (λ (l : Line). (nodes_now l.origin).volumes ≡ []) (fitted f).line none)))
+        (λ k _ made none. f.alone k made (was (w.nodes k).line.origin none));
   }
     where
+      was : (o : ℕ) → (nodes_now o).volumes ≡ [] → (w.nodes o).volumes ≡ []
+      was o none = sym (volumes_now f o) ∙ none
+
       there : (o k : ℕ) (m : Node) → m.volumes ≡ (w.nodes k).volumes → m.ring ≡ (w.nodes k).ring → IsAlike (w.nodes o) (w.nodes k) → IsAlike (nodes_now o) m
       there o k m volumes ring h = alike_there (w.nodes o) (w.nodes k) (nodes_now o) m (volumes_now f o) (ring_now f o) volumes ring h
 
@@ -208,7 +215,7 @@ module _ (w : World) (i : ℕ) (n : Node) (fitted : Fitting w → IsFitted (w.no
       each = all_updated (λ k (m : Node). MayGather k m w.packets (w.gathering k)) w.nodes i n
           (gather_up i (w.nodes i) n w.packets (w.gathering i) up (g.each i)) (λ k _. g.each k);
     };
-    fits = λ f. let h = fit_nodes f w.lines f.held in record { sized = h.sized; logs = h.logs; held = h.held; alike = h.alike };
+    fits = λ f. let h = fit_nodes f w.lines f.held in record { sized = h.sized; logs = h.logs; held = h.held; alike = h.alike; alone = h.alone };
     places = λ h. h;
   }
 
@@ -232,7 +239,7 @@ module _ (w : World) (i : ℕ) (n : Node) (fitted : Fitting w → IsFitted (w.no
       parts = g.parts;
       each = λ k. by_place k (eqb k i) refl (g.each k);
     };
-    fits = λ f. let h = fit_nodes f lines (line f) in record { sized = h.sized; logs = h.logs; held = h.held; alike = h.alike };
+    fits = λ f. let h = fit_nodes f lines (line f) in record { sized = h.sized; logs = h.logs; held = h.held; alike = h.alike; alone = h.alone };
   }
     where
       by_place : (k : ℕ) (b : Bool) → eqb k i ≡ b → MayGather k (w.nodes k) w.packets (w.gathering k)

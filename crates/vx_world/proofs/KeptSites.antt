@@ -22,16 +22,16 @@ use Rattle.vx_history.proofs.CrashLemmas.{crash_state}
 use Rattle.vx_history.proofs.GoodLemmas.{up_is_made, made_is_given}
 use Rattle.vx_history.proofs.Places.{places_further, places_made}
 use Rattle.vx_history.specs.World.{World, Node, Link as LinkRecord, Volume, History, Gathering, Hello, with_node, bare_site, no_volumes, updated, line_updated}
-use Rattle.vx_history.specs.Steps.{raw_volumes, raw_content, burned, crashed, crash_left, kept_by, deported_site, site_made, begun_site, begun_line, line_begun, raw_made, group_back, group_up, stopped_by}
+use Rattle.vx_history.specs.Steps.{raw_volumes, raw_content, burned, crashed, crash_left, kept_by, deported_site, fallen_site, fallen_world, site_made, begun_site, begun_line, line_begun, raw_made, group_back, group_up, stopped_by}
 use Rattle.vx_history.specs.Good.{IsMade}
 use Rattle.vx_history.specs.Listed.{HasPlaces}
 use Rattle.vx_history.specs.Sends.{is_linked, with_link, with_links, sending, greeting}
 use Rattle.vx_history.specs.declared.event.Said.TheVariants.{Done}
-use Rattle.vx_history.specs.Refusals.{Outcome, says, unless, is_primary, follows, may_link, agree, rings_fit, count_links_of}
+use Rattle.vx_history.specs.Refusals.{Outcome, says, unless, is_primary, follows, may_link, agree, sizes_meet, rings_fit, count_links_of}
 use Rattle.vx_history.specs.Gatherings.{emptied}
 use Rattle.vx_history.specs.Events
 use Rattle.vx_history.specs.Step.{done, link_part}
-use Rattle.vx_history.specs.Fits.{WriteFits, Fitting, IsSized, IsAlike, blocks_of_volume}
+use Rattle.vx_history.specs.Fits.{WriteFits, Fitting, IsSized, IsAlike, LeadsAlone, blocks_of_volume}
 use Rattle.vx_history.specs.GoodGatherings.{IsPart, MayGather}
 use Rattle.vx_history.specs.Sound.{Sound, is_at_rest}
 use Rattle.vx_history.specs.declared.event.LinkPart.{LinkPart}
@@ -76,6 +76,18 @@ deport_leaves w q s up =
     keeps_trans w v (Events.deport_at w q) (crash_leaves w q k s up)
     (keeps_node v q m (λ f. like_fitted (v.nodes q) m refl refl refl (λ _ e. let g : Down ≡ Bare = sym down ∙ e in cc) refl refl refl)
     (λ f e. absurd (let g : Deported ≡ Bare = e in cc)) (λ u. absurd (let g : Down ≡ Up = sym down ∙ u in cc)))
+
+fallen_leaves : (w : World) (q : ℕ) → (w.nodes q).state ≡ Deported → Keeps w (fallen_world w q)
+fallen_leaves w q away =
+    let m : Node = fallen_site (w.nodes q) in
+    keeps_node w q m (λ f. like_fitted (w.nodes q) m refl refl refl (λ _ e. let g : Deported ≡ Bare = sym away ∙ e in cc) refl refl refl)
+    (λ f e. absurd (let g : Down ≡ Bare = e in cc)) (λ u. absurd (let g : Deported ≡ Up = sym away ∙ u in cc))
+
+pub fall_leaves : (w : World) (q : ℕ) (state : SiteState) → (w.nodes q).state ≡ state → Leaves w (Events.fall_from state w q)
+fall_leaves w q Bare e = keeps_same w
+fall_leaves w q Up e = keeps_same w
+fall_leaves w q Deported e = fallen_leaves w q e
+fall_leaves w q Down e = keeps_same w
 
 pub recovery_leaves : (w : World) (q : ℕ) (fails : Option ℕ) → is_at_rest (w.nodes q).state ≡ true → Leaves w (Events.recovery w q fails)
 recovery_leaves w q None rest =
@@ -162,6 +174,13 @@ module _ (w : World) (i sites : ℕ) (n : Node) (h : Line → History) (s : Soun
       (λ k _ made. all_updated (λ o (m : Node). IsMade (w.nodes o) → IsAlike (w.nodes o) (w.nodes k) → IsAlike m (w.nodes k)) w.nodes i n
       (λ there. absurd (there bare)) (λ _ _ _ alike. alike) (w.nodes k).line.origin (s.good.begun k made) (f.alike k made))
 
+  pub founded_alone : Fitting w → (k : ℕ) → IsMade (founded k) → LeadsAlone (founded (founded k).line.origin) k (founded k)
+  founded_alone f =
+      all_updated (λ k (m : Node). IsMade m → LeadsAlone (founded m.line.origin) k m) w.nodes i n
+      (λ made _. own made)
+      (λ k _ made. all_updated (λ o (m : Node). IsMade (w.nodes o) → LeadsAlone (w.nodes o) k (w.nodes k) → LeadsAlone m k (w.nodes k)) w.nodes i n
+      (λ there. absurd (there bare)) (λ _ _ _ lone. lone) (w.nodes k).line.origin (s.good.begun k made) (f.alone k made))
+
   pub founded_leaves : (ArePlaced w → (p : ℕ) → HasPlaces sites (w.links p)) → Keeps w (record w { sites = sites; nodes = founded; lines = h })
   founded_leaves placed = record {
     places = placed;
@@ -177,6 +196,7 @@ module _ (w : World) (i sites : ℕ) (n : Node) (h : Line → History) (s : Soun
           (subst (λ (xs : List Write). AllByRecursion (WriteFits n) xs) (sym empty) tt) (λ k _. f.logs k);
       held = founded_held f;
       alike = founded_alike f;
+      alone = founded_alone f;
     };
   }
 
@@ -212,10 +232,10 @@ group_from_leaves w q Up s e = keeps_same w
 group_from_leaves w q Deported s e = again_leaves w q (ap is_at_rest e)
 group_from_leaves w q Down s e = again_leaves w q (ap is_at_rest e)
 
--- a site that joins has the sizes of its primary
-pub join_leaves : (w : World) (p q : ℕ) → (w.nodes p).line.origin ≡ p → IsAlike (w.nodes p) (w.nodes q)
+-- a site that joins has the sizes of its primary, which has volumes
+pub join_leaves : (w : World) (p q : ℕ) → (w.nodes p).line.origin ≡ p → ((w.nodes p).volumes ≡ [] → ⊥) → IsAlike (w.nodes p) (w.nodes q)
     → Keeps w (emptied (with_node w q (Events.joined (w.nodes p) p (w.nodes q))) q)
-join_leaves w p q own alike = record {
+join_leaves w p q own some alike = record {
   places = λ h. h;
   gathers = λ g. record {
     parts = g.parts;
@@ -233,6 +253,9 @@ join_leaves w p q own alike = record {
         (λ _. subst (λ (o : ℕ). IsAlike (joined o) n) (sym own) (alike_there (w.nodes p) (w.nodes q) (joined p) n (volumes p) (rings p) refl refl alike))
         (λ k _ made. alike_there (w.nodes (w.nodes k).line.origin) (w.nodes k) (joined (w.nodes k).line.origin) (w.nodes k)
         (volumes (w.nodes k).line.origin) (rings (w.nodes k).line.origin) refl refl (f.alike k made));
+    alone = all_updated (λ k (m : Node). IsMade m → LeadsAlone (joined m.line.origin) k m) w.nodes q n
+        (λ _ none. absurd (some (subst (λ (o : ℕ). (w.nodes o).volumes ≡ []) own (sym (volumes (w.nodes p).line.origin) ∙ none))))
+        (λ k _ made none. f.alone k made (sym (volumes (w.nodes k).line.origin) ∙ none));
   };
 }
   where
@@ -248,11 +271,16 @@ join_leaves w p q own alike = record {
     rings : (k : ℕ) → (updated w.nodes q (Events.joined (w.nodes p) p (w.nodes q)) k).ring ≡ (w.nodes k).ring
     rings = all_updated (λ k (m : Node). m.ring ≡ (w.nodes k).ring) w.nodes q (Events.joined (w.nodes p) p (w.nodes q)) refl (λ _ _. refl)
 
+-- of sizes that meet there are some
+meets_some : (xs ys : List Volume) → sizes_meet xs ys ≡ true → xs ≡ [] → ⊥
+meets_some [] ys e none = let g : false ≡ true = e in cc
+meets_some (x ∷ xs) ys e none = cc
+
 -- a link that is made in the next place
 made_leaves : (w : World) (p q : ℕ) (l : LinkRecord) → q < w.sites → is_linked (w.links p q) ≡ false → l.made ≡ Some (count_links_of w p) → Keeps w (with_link w p q l)
 made_leaves w p q l below free made = record {
   gathers = λ g. record { parts = g.parts; each = g.each };
-  fits = λ f. record { sized = f.sized; logs = f.logs; held = f.held; alike = f.alike };
+  fits = λ f. record { sized = f.sized; logs = f.logs; held = f.held; alike = f.alike; alone = f.alone };
   places = λ h. all_updated (λ k (row : ℕ → LinkRecord). HasPlaces w.sites row) w.links p (updated (w.links p) q l)
       (places_made w.sites (w.links p) q l below free made (h p)) (λ k apart. h k);
 }
@@ -261,7 +289,7 @@ pub link_part_leaves : (part : LinkPart) (w : World) (p q : ℕ) (sync : SyncMod
 link_part_leaves Joins w p q sync prot s up there =
     let a : Node = w.nodes p in
     let o : Outcome = done (emptied (with_node w q (Events.joined a p (w.nodes q))) q) in
-    let fit : Bool = agree a.volumes (w.nodes q).volumes && rings_fit a (w.nodes q) in
+    let fit : Bool = sizes_meet a.volumes (w.nodes q).volumes && rings_fit a (w.nodes q) in
     let fits : Outcome = unless (not fit) Size w o in
     let few : Outcome = unless (leb MOST_LINKS (count_links_of w p)) (Limit Links MOST_LINKS) w fits in
     Guards.unless_holds (Keeps w) (not (may_link w p q)) WrongRole w (unless (is_linked (w.links p q)) (Exists (w.nodes q).name) w few) (keeps_same w)
@@ -270,10 +298,12 @@ link_part_leaves Joins w p q sync prot s up there =
     (λ _. Guards.unless_holds (Keeps w) (not fit) Size w o (keeps_same w)
     (λ sizes. join_leaves w p q
     ((s.good.nodes p).own_line (up_is_made a up) (Guards.primary_origin a.role (and_left (is_primary a.role) _ (not-false (may_link w p q) may))))
+    (meets_some a.volumes (w.nodes q).volumes (and_left (sizes_meet a.volumes (w.nodes q).volumes) (rings_fit a (w.nodes q)) (not-false fit sizes)))
     (record {
-      volumes = and_left (agree a.volumes (w.nodes q).volumes) (rings_fit a (w.nodes q)) (not-false fit sizes);
+      volumes = and_right (not (eqb (length a.volumes) 0)) (agree a.volumes (w.nodes q).volumes)
+          (and_left (sizes_meet a.volumes (w.nodes q).volumes) (rings_fit a (w.nodes q)) (not-false fit sizes));
       rings = and_right
-          (agree a.volumes (w.nodes q).volumes) (rings_fit a (w.nodes q)) (not-false fit sizes);
+          (sizes_meet a.volumes (w.nodes q).volumes) (rings_fit a (w.nodes q)) (not-false fit sizes);
     })))))
 link_part_leaves Made w p q sync prot s up there =
     let l : LinkRecord = Events.new_link (count_links_of w p) sync prot (w.nodes q) in

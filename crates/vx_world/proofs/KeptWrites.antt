@@ -100,7 +100,7 @@ module _ (w : World) (p : ℕ) (x : Write) (up : (w.nodes p).state ≡ Up) (own 
 
 -- what fits a world's sites fits them with other links
 fits_links : (w : World) (links : ℕ → ℕ → LinkRecord) (P : Type 0) → (Fitting w → P) → Fitting (record w { links = links }) → P
-fits_links w links P fits f = fits (record { sized = f.sized; logs = f.logs; held = f.held; alike = f.alike })
+fits_links w links P fits f = fits (record { sized = f.sized; logs = f.logs; held = f.held; alike = f.alike; alone = f.alone })
 
 pub put_leaves : (w : World) (p : ℕ) (x : Write) → (w.nodes p).state ≡ Up → (w.nodes p).line.origin ≡ p → (Fitting w → WriteFits (w.nodes p) x) → (fails : Option ℕ)
     → Leaves w (Events.put_in w p x fails)

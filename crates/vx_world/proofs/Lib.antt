@@ -11,6 +11,7 @@ pub mod Changes
 pub mod Feeds
 pub mod Crashes
 pub mod Joins
+pub mod Volumed
 pub mod Stays
 pub mod Words
 pub mod Rows
@@ -57,3 +58,5 @@ pub mod Still
 pub mod Several
 pub mod Doubting
 pub mod Lining
+pub mod Rooms
+pub mod RoomLines

@@ -19,7 +19,7 @@ use Rattle.vx_history.specs.World.{World, Node, Link as LinkState, History, Pack
 use Rattle.vx_history.specs.Likes.{IsLike, SameLink}
 use Rattle.vx_history.specs.Steps.{crashed, crash_left, kept_by, deported_site, recovered}
 use Rattle.vx_history.specs.Sends.{is_linked, with_links, greeting}
-use Rattle.vx_history.specs.Refusals.{says, is_primary, is_consistent, is_stale_mode, is_empty, follows, some_below, is_unconfirmed, holds_back, may_link, is_fresh, agree, rings_fit, count_links_of}
+use Rattle.vx_history.specs.Refusals.{says, is_primary, is_consistent, is_stale_mode, is_empty, follows, some_below, is_unconfirmed, holds_back, may_link, is_fresh, sizes_meet, rings_fit, count_links_of}
 use Rattle.vx_history.specs.Gatherings.{emptied}
 use Rattle.vx_history.specs.Events
 use Rattle.vx_history.specs.Step.{done, link_part}
@@ -207,9 +207,9 @@ module _ (w v : World) (like : IsLike w v) where
       (fresh_same q)
 
   pub fit_same : (p q : ℕ)
-      → (agree (v.nodes p).volumes (v.nodes q).volumes && rings_fit (v.nodes p) (v.nodes q)) ≡ (agree (w.nodes p).volumes (w.nodes q).volumes && rings_fit (w.nodes p) (w.nodes q))
-  fit_same p q = ap (λ (n : Node). agree n.volumes (v.nodes q).volumes && rings_fit n (v.nodes q)) (like.nodes p) ∙ ap
-      (λ (n : Node). agree (w.nodes p).volumes n.volumes && rings_fit (w.nodes p) n) (like.nodes q)
+      → (sizes_meet (v.nodes p).volumes (v.nodes q).volumes && rings_fit (v.nodes p) (v.nodes q)) ≡ (sizes_meet (w.nodes p).volumes (w.nodes q).volumes && rings_fit (w.nodes p) (w.nodes q))
+  fit_same p q = ap (λ (n : Node). sizes_meet n.volumes (v.nodes q).volumes && rings_fit n (v.nodes q)) (like.nodes p) ∙ ap
+      (λ (n : Node). sizes_meet (w.nodes p).volumes n.volumes && rings_fit (w.nodes p) n) (like.nodes q)
 
   pub name_same : (q : ℕ) → Exists (v.nodes q).name ≡ Exists (w.nodes q).name
   name_same q = ap (λ (n : Node). Exists n.name) (like.nodes q)

@@ -1,5 +1,5 @@
 -- Worlds that differ in notes alone are good together.
-use Rattle.std.proofs.Common.{◌≡◌, ◌∙◌, inl, inr, ℕ, ◌≤◌, List, length, ap, sym, subst, refl, arith, true, false}
+use Rattle.std.proofs.Common.{◌≡◌, ◌∙◌, inl, inr, ℕ, ◌≤◌, List, length, ap, sym, subst, refl, arith, true, false, []}
 use Rattle.std.proofs.lemmas.Bool.{cases_Bool}
 use Rattle.std.specs.Prelude.{Option, Some, None}
 use Rattle.std.specs.List.{AllByRecursion}
@@ -151,6 +151,8 @@ module _ (w v : World) (s : Sound w) (like : IsLike w v) where
     alike = λ i made. subst (λ (l : Line). IsAlike (v.nodes l.origin) (v.nodes i)) (sym (later i).line)
         (alike_there (w.nodes (w.nodes i).line.origin) (w.nodes i) (v.nodes (w.nodes i).line.origin) (v.nodes i) (volumes (w.nodes i).line.origin)
         (rings (w.nodes i).line.origin) (volumes i) (rings i) (f.alike i (made_back i made)));
+    alone = λ i made none. ap (λ (l : Line). l.origin) (later i).line
+        ∙ f.alone i (made_back i made) (sym (volumes (w.nodes i).line.origin) ∙ subst (λ (l : Line). (v.nodes l.origin).volumes ≡ []) (later i).line none);
   }
 
   gathers_like : Gathers w → Gathers v

@@ -16,7 +16,7 @@ use Rattle.vx_history.specs.Steps.{stopped_by}
 use Rattle.vx_history.specs.Stops.{EventsEnd, AllDone, Halts, Cuts, Reads, IsOpen, WritesAt, stored_by}
 use Rattle.vx_history.specs.World.{World, Node, Link as LinkState}
 use Rattle.vx_history.specs.declared.event.Event.{Event}
-use Rattle.vx_history.specs.declared.event.Event.TheVariants.{Site, Raw, Group, Write, Read, Apply, Pump, Tick, Deliver, Connect, Cut, Pause, Resume, Wait, Link, Set, Attach, Detach, Crash, Deport, Recover, Fault}
+use Rattle.vx_history.specs.declared.event.Event.TheVariants.{Site, Raw, Group, Volumes, Write, Read, Apply, Pump, Tick, Deliver, Connect, Cut, Pause, Resume, Wait, Link, Set, Attach, Detach, Crash, Deport, Fall, Recover, Fault}
 use Rattle.vx_world.specs.Lines.{IsDoubt, GoodDoubted, node_as, row_as, resolved_as}
 use Rattle.vx_world.specs.Twins.{GoodTwin, IsElsewhere}
 use Rattle.vx_world.proofs.Crashed.{not_past, crash_is}
@@ -35,6 +35,7 @@ writes_as : (w : World) (after : ℕ → Option After) (c : ℕ → Bool) (e : E
 writes_as w after c (Site name disks blocks) site node row at = at
 writes_as w after c (Raw p) site node row at = at
 writes_as w after c (Group p) site node row at = at
+writes_as w after c (Volumes p log xs) site node row at = at
 writes_as w after c (Write p volume start bytes None) site node row at = at
 writes_as w after c (Write p volume start bytes (Some disk)) site node row at = at
 writes_as w after c (Read p volume start count) site node row at = at
@@ -61,6 +62,7 @@ writes_as w after c (Attach p q) site node row at = at
 writes_as w after c (Detach p q) site node row at = at
 writes_as w after c (Crash p kept) site node row at = at
 writes_as w after c (Deport p) site node row at = at
+writes_as w after c (Fall p) site node row at = at
 writes_as w after c (Recover p fails) site node row at = at
 writes_as w after c (Fault p disk) site node row at = at
 
@@ -69,6 +71,7 @@ calm_write : (w : World) (e : Event) (site : ℕ) → WritesAt w e site → (s :
 calm_write w (Site name disks blocks) site at s apart = tt
 calm_write w (Raw p) site at s apart = tt
 calm_write w (Group p) site at s apart = tt
+calm_write w (Volumes p log xs) site at s apart = tt
 calm_write w (Write p volume start bytes fails) site at s apart = tt
 calm_write w (Read p volume start count) site at s apart = tt
 calm_write w (Apply p count reached) site at s apart = tt
@@ -86,6 +89,7 @@ calm_write w (Attach p q) site at s apart = tt
 calm_write w (Detach p q) site at s apart = tt
 calm_write w (Crash p kept) site at s apart = absurd at
 calm_write w (Deport p) site at s apart = tt
+calm_write w (Fall p) site at s apart = tt
 calm_write w (Recover p fails) site at s apart = absurd at
 calm_write w (Fault p disk) site at s apart = λ here. apart (sym here ∙ at)
 

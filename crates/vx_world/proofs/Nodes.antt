@@ -6,7 +6,7 @@ use Rattle.std.proofs.lemmas.List.{length-take, take-take, take-append-le}
 use Rattle.vx_model.specs.Content.{Content, Write, fold_writes, IsNumber}
 use Rattle.vx_history.specs.World.{Node, Link, History, Fuse, NoFuse}
 use Rattle.vx_model.specs.Sites.{is_origin}
-use Rattle.vx_history.specs.Steps.{burned, logged, crashed, deported_site, group_up, recovered}
+use Rattle.vx_history.specs.Steps.{burned, logged, crashed, deported_site, fallen_site, group_up, recovered}
 use Rattle.vx_history.specs.Good.{GoodNode, IsMade, TellsContent}
 use Rattle.vx_history.specs.GoodCopies.{GoodCopy, GoodReplays}
 use Rattle.vx_history.specs.Receiving.{marked_by, is_log_phase, phase_takes}
@@ -300,6 +300,21 @@ later_deported n fuse down = record {
   safe = omega arith;
   stored = λ k h. h;
   present = λ _ up _. absurd (let e : Deported ≡ Up = up in cc);
+  made = λ _ e. cc;
+  top = omega arith;
+  stood = refl;
+}
+
+-- one that gave them up is down
+pub later_fallen : (n : Node) → IsLater n (fallen_site n)
+later_fallen n = record {
+  line = refl;
+  origin = refl;
+  bunker = refl;
+  session = omega arith;
+  safe = omega arith;
+  stored = λ k h. h;
+  present = λ _ up _. absurd (let e : Down ≡ Up = up in cc);
   made = λ _ e. cc;
   top = omega arith;
   stood = refl;

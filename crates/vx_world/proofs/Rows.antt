@@ -7,15 +7,16 @@ use Rattle.vx_history.specs.World.{World, empty_world}
 use Rattle.vx_model.specs.declared.link.Prot.TheVariants.{Fail as FailsWhenFull}
 use Rattle.vx_model.specs.declared.link.SyncMode.{SyncMode}
 use Rattle.vx_model.specs.declared.link.SyncMode.TheVariants.{Off as NeverWaits, Fail as FailsIfNotLive}
-use Rattle.vx_model.specs.declared.no.No.TheVariants.{Unknown, Unconfirmed, LinkDown, LogFull, Stalled, Limit}
+use Rattle.vx_model.specs.declared.no.No.TheVariants.{Unknown, Unconfirmed, LinkDown, LogFull, Stalled, Limit, Role as WrongRole}
 use Rattle.vx_model.specs.declared.no.Named.TheVariants.{Number as ByNumber}
 use Rattle.vx_model.specs.declared.no.SiteName.TheVariants.{Number as SiteNumber}
 use Rattle.vx_model.specs.declared.no.Counted.TheVariants.{Links}
 use Rattle.vx_history.specs.declared.event.Said.{Said}
-use Rattle.vx_history.specs.declared.event.Said.TheVariants.{Done, DoneAt, Logged, Pending, Taken, Ignored, Recovered, Refused}
+use Rattle.vx_history.specs.declared.event.Said.TheVariants.{Done, DoneAt, Got, Logged, Pending, Taken, Ignored, Recovered, Refused}
 use Rattle.vx_history.specs.declared.event.LinkPart.TheVariants.{Joins, Made, Marked, Opened}
+use Rattle.vx_history.specs.declared.volumes.DataVolume.{DataVolume}
 use Rattle.vx_history.specs.declared.event.Event.{Event}
-use Rattle.vx_history.specs.declared.event.Event.TheVariants.{Site, Raw, Write, Pump, Tick, Deliver, Connect, Cut, Wait, Link, Crash, Recover, Apply}
+use Rattle.vx_history.specs.declared.event.Event.TheVariants.{Site, Raw, Group, Volumes, Write, Read, Pump, Tick, Deliver, Connect, Cut, Wait, Link, Crash, Recover, Apply}
 use Rattle.vx_history.specs.Settling.{settling}
 use Rattle.vx_history.specs.Step.{step, run}
 
@@ -107,3 +108,22 @@ settling_row = refl
 settled_link : ((run before_settling (settling before_settling 0 1)).links 0 1).stored ≡ 3
 unfolding is_raw_shape
 settled_link = refl
+
+-- a group of two disks that gets a replicated volume group, with a log in a volume of 64 blocks and one data volume
+abbrev data_volume : DataVolume
+data_volume = record { place = 2; name = 118 ∷ []; blocks = 256 }
+
+abbrev replicated : List Event
+replicated = Site (97 ∷ []) 2 1024 ∷ Group 0 ∷ Volumes 0 64 (data_volume ∷ []) ∷ []
+
+replicated_row : sayings empty_world (replicated ++ put_one 0 17 ∷ Crash 0 0 ∷ Recover 0 None ∷ Read 0 0 0 1 ∷ Group 0 ∷ Volumes 0 64 (data_volume ∷ []) ∷ [])
+    ≡ Done ∷ Done ∷ Done ∷ DoneAt 1 ∷ Done ∷ Recovered 1 ∷ Got (replicate 512 17) ∷ Refused WrongRole ∷ Refused WrongRole ∷ []
+replicated_row = refl
+
+replicated_session : ((run empty_world (replicated ++ put_one 0 17 ∷ Crash 0 0 ∷ Recover 0 None ∷ [])).nodes 0).session ≡ 2
+replicated_session = refl
+
+-- a recovery that finds what a line had begun to make: the group comes up and gets it, and then its log comes up
+gained_row : sayings empty_world (Site (97 ∷ []) 2 1024 ∷ Group 0 ∷ Crash 0 0 ∷ Group 0 ∷ Volumes 0 64 (data_volume ∷ []) ∷ Crash 0 0 ∷ Recover 0 None ∷ put_one 0 17 ∷ [])
+    ≡ Done ∷ Done ∷ Done ∷ Done ∷ Done ∷ Done ∷ Recovered 0 ∷ DoneAt 1 ∷ []
+gained_row = refl

@@ -18,7 +18,7 @@ use Rattle.vx_world.specs.Lines.{IsDoubt, node_as, row_as, resolved_as}
 use Rattle.vx_world.specs.Twins.{Twin, IsElsewhere}
 use Rattle.vx_world.proofs.Halving.{aside}
 use Rattle.vx_world.proofs.Likely.{noted, link_self, pair_updated}
-use Rattle.vx_world.proofs.LikeSteps.{step_like}
+use Rattle.vx_world.proofs.LikeSteps.{looks_same, step_like}
 use Rattle.vx_world.proofs.Liking.{good_like}
 use Rattle.vx_world.proofs.Passed.{twin_step}
 use Rattle.vx_world.proofs.Still.{Stands, step_still}
@@ -233,17 +233,20 @@ module _ (w : World) (after : ℕ → Option After) (doubts : (s : ℕ) (a : Aft
   abbrev past : ℕ → World
   past n = resolved_as (step w e).world after (below c n)
 
+  skipped_node : (n : ℕ) → ((m : Node) → node_as (c n) (after n) m ≡ m) → (i : ℕ) (m : Node) → node_as (below c (suc n) i) (after i) m ≡ node_as (below c n i) (after i) m
+  skipped_node n node i m = elim (cases_eq i n) [
+    | inl same ↦
+        subst (λ (j : ℕ). node_as (below c (suc n) j) (after j) m ≡ node_as (below c n j) (after j) m) (sym same)
+        (ap (λ (b : Bool). node_as b (after n) m) (below_here c n) ∙ node m ∙ sym (ap (λ (b : Bool). node_as b (after n) m) (below_past c n)))
+    | inr apart ↦ ap (λ (b : Bool). node_as b (after i) m) (below_other c n i apart)
+  ]
+
   -- one site more that is not as it may be
   skipped : (v : World) (n : ℕ) → ((m : Node) → node_as (c n) (after n) m ≡ m) → ((r : ℕ → LinkRecord) → row_as (c n) (after n) r ≡ r)
       → IsLike (resolved_as v after (below c n)) (resolved_as v after (below c (suc n)))
   skipped v n node row =
       choice_like v after after (below c n) (below c (suc n))
-      (λ i m. elim (cases_eq i n) [
-        | inl same ↦
-            subst (λ (j : ℕ). node_as (below c (suc n) j) (after j) m ≡ node_as (below c n j) (after j) m) (sym same)
-            (ap (λ (b : Bool). node_as b (after n) m) (below_here c n) ∙ node m ∙ sym (ap (λ (b : Bool). node_as b (after n) m) (below_past c n)))
-        | inr apart ↦ ap (λ (b : Bool). node_as b (after i) m) (below_other c n i apart)
-      ])
+      (skipped_node n node)
       (λ i r. elim (cases_eq i n) [
         | inl same ↦
             subst (λ (j : ℕ). row_as (below c (suc n) j) (after j) r ≡ row_as (below c n j) (after j) r) (sym same)
@@ -251,19 +254,25 @@ module _ (w : World) (after : ℕ → Option After) (doubts : (s : ℕ) (a : Aft
         | inr apart ↦ ap (λ (b : Bool). row_as b (after i) r) (below_other c n i apart)
       ])
 
+  taken_node : (v : World) (n : ℕ) (a : After) → c n ≡ true → after n ≡ Some a
+      → (i : ℕ) → (resolved_as v after (below c (suc n))).nodes i ≡ (resolved (resolved_as v after (below c n)) n a).nodes i
+  taken_node v n a chosen is i =
+      let u : World = resolved_as v after (below c n) in
+      elim (cases_eq i n) [
+        | inl same ↦
+            subst (λ (j : ℕ). node_as (below c (suc n) j) (after j) (v.nodes j) ≡ (resolved u n a).nodes j) (sym same)
+            (ap (λ (b : Bool). node_as b (after n) (v.nodes n)) (below_here c n ∙ chosen) ∙ ap (λ (o : Option After). node_as true o (v.nodes n)) is
+            ∙ sym (at_place u.nodes n a.node))
+        | inr apart ↦ ap (λ (b : Bool). node_as b (after i) (v.nodes i)) (below_other c n i apart) ∙ sym (aside u.nodes n a.node i apart)
+      ]
+
   -- one more that is
   taken : (v : World) (n : ℕ) (a : After) → c n ≡ true → after n ≡ Some a
       → IsLike (resolved (resolved_as v after (below c n)) n a) (resolved_as v after (below c (suc n)))
   taken v n a chosen is =
       let u : World = resolved_as v after (below c n) in
       like_exact (resolved u n a) (resolved_as v after (below c (suc n))) refl
-      (λ i. elim (cases_eq i n) [
-        | inl same ↦
-            subst (λ (j : ℕ). node_as (below c (suc n) j) (after j) (v.nodes j) ≡ (resolved u n a).nodes j) (sym same)
-            (ap (λ (b : Bool). node_as b (after n) (v.nodes n)) (below_here c n ∙ chosen) ∙ ap (λ (o : Option After). node_as true o (v.nodes n)) is
-            ∙ sym (at_place u.nodes n a.node))
-        | inr apart ↦ ap (λ (b : Bool). node_as b (after i) (v.nodes i)) (below_other c n i apart) ∙ sym (aside u.nodes n a.node i apart)
-      ])
+      (taken_node v n a chosen is)
       (λ i. elim (cases_eq i n) [
         | inl same ↦
             subst (λ (j : ℕ). row_as (below c (suc n) j) (after j) (v.links j) ≡ (resolved u n a).links j) (sym same)
@@ -277,7 +286,8 @@ module _ (w : World) (after : ℕ → Option After) (doubts : (s : ℕ) (a : Aft
       → IsLike (step (part n) e).world (past n) → IsLike (step (part (suc n)) e).world (past (suc n))
   skips n node row before =
       like_trans (step (part (suc n)) e).world (step (part n) e).world (past (suc n))
-      (like_sym (step (part n) e).world (step (part (suc n)) e).world (step_like (part n) (part (suc n)) e (skipped w n node row)))
+      (like_sym (step (part n) e).world (step (part (suc n)) e).world (step_like (part n) (part (suc n)) e (skipped w n node row)
+      (looks_same (part n) (part (suc n)) (λ i. ap (λ (m : Node). m.group) (skipped_node n node i (w.nodes i))) e)))
       (like_trans (step (part n) e).world (past n) (past (suc n)) before (skipped (step w e).world n node row))
 
   takes : (n : ℕ) (a : After) → c n ≡ true → after n ≡ Some a → IsLike (step (part n) e).world (past n)
@@ -286,7 +296,8 @@ module _ (w : World) (after : ℕ → Option After) (doubts : (s : ℕ) (a : Aft
       let v : World = resolved (part n) n a in
       let doubt : IsDoubt (part n) n a = doubt_as w after (below c n) n a (below_past c n) (doubts n a is) in
       like_trans (step (part (suc n)) e).world (step v e).world (past (suc n))
-      (like_sym (step v e).world (step (part (suc n)) e).world (step_like v (part (suc n)) e (taken w n a chosen is)))
+      (like_sym (step v e).world (step (part (suc n)) e).world (step_like v (part (suc n)) e (taken w n a chosen is)
+      (looks_same v (part (suc n)) (λ i. ap (λ (m : Node). m.group) (taken_node w n a chosen is i)) e)))
       (like_trans (step v e).world (resolved (step (part n) e).world n a) (past (suc n))
       (step_resolved (part n) n a e doubt (calm n a is chosen))
       (like_trans (resolved (step (part n) e).world n a) (resolved (past n) n a) (past (suc n))
@@ -295,7 +306,8 @@ module _ (w : World) (after : ℕ → Option After) (doubts : (s : ℕ) (a : Aft
   all_parts : (n : ℕ) → IsLike (step (part n) e).world (past n)
   all_parts zero =
       like_trans (step (part zero) e).world (step w e).world (past zero)
-      (like_sym (step w e).world (step (part zero) e).world (step_like w (part zero) e (none_like w after (below c zero) (below_none c))))
+      (like_sym (step w e).world (step (part zero) e).world (step_like w (part zero) e (none_like w after (below c zero) (below_none c))
+      (looks_same w (part zero) (λ i. ap (λ (b : Bool). (node_as b (after i) (w.nodes i)).group) (below_none c i)) e)))
       (none_like (step w e).world after (below c zero) (below_none c))
   all_parts (suc n) = by_choice (c n) refl (after n) refl (all_parts n)
     where
@@ -308,20 +320,20 @@ module _ (w : World) (after : ℕ → Option After) (doubts : (s : ℕ) (a : Aft
       by_choice false chosen o is before =
           skips n (λ m. ap (λ (b : Bool). node_as b (after n) m) chosen) (λ r. ap (λ (b : Bool). row_as b (after n) r) chosen) before
 
+  within : (i : ℕ) (a : After) → after i ≡ Some a → below c w.sites i ≡ c i
+  within i a is = let lt : i < w.sites = (doubts i a is).here in let e : ltb i w.sites ≡ true = grind (arith, nat_tests) in
+      ap (λ (b : Bool). b && c i) e
+
+  node_same : (i : ℕ) (o : Option After) → after i ≡ o → (m : Node) → node_as (c i) (after i) m ≡ node_as (below c w.sites i) (after i) m
+  node_same i (Some a) is m = ap (λ (b : Bool). node_as b (after i) m) (sym (within i a is))
+  node_same i None is m =
+      ap (λ (o : Option After). node_as (c i) o m) is ∙ node_none (c i) m ∙ sym (node_none (below c w.sites i) m)
+      ∙ sym (ap (λ (o : Option After). node_as (below c w.sites i) o m) is)
+
   -- beyond the last site none is in doubt
   all_same : (v : World) → IsLike (resolved_as v after (below c w.sites)) (resolved_as v after c)
   all_same v = choice_like v after after (below c w.sites) c (λ i m. node_same i (after i) refl m) (λ i r. row_same i (after i) refl r)
     where
-      within : (i : ℕ) (a : After) → after i ≡ Some a → below c w.sites i ≡ c i
-      within i a is = let lt : i < w.sites = (doubts i a is).here in let e : ltb i w.sites ≡ true = grind (arith, nat_tests) in
-          ap (λ (b : Bool). b && c i) e
-
-      node_same : (i : ℕ) (o : Option After) → after i ≡ o → (m : Node) → node_as (c i) (after i) m ≡ node_as (below c w.sites i) (after i) m
-      node_same i (Some a) is m = ap (λ (b : Bool). node_as b (after i) m) (sym (within i a is))
-      node_same i None is m =
-          ap (λ (o : Option After). node_as (c i) o m) is ∙ node_none (c i) m ∙ sym (node_none (below c w.sites i) m)
-          ∙ sym (ap (λ (o : Option After). node_as (below c w.sites i) o m) is)
-
       row_same : (i : ℕ) (o : Option After) → after i ≡ o → (r : ℕ → LinkRecord) → row_as (c i) (after i) r ≡ row_as (below c w.sites i) (after i) r
       row_same i (Some a) is r = ap (λ (b : Bool). row_as b (after i) r) (sym (within i a is))
       row_same i None is r =
@@ -332,7 +344,8 @@ module _ (w : World) (after : ℕ → Option After) (doubts : (s : ℕ) (a : Aft
   pub step_as : IsLike (step (resolved_as w after c) e).world (resolved_as (step w e).world after c)
   step_as =
       like_trans (step (resolved_as w after c) e).world (step (part w.sites) e).world (resolved_as (step w e).world after c)
-      (like_sym (step (part w.sites) e).world (step (resolved_as w after c) e).world (step_like (part w.sites) (resolved_as w after c) e (all_same w)))
+      (like_sym (step (part w.sites) e).world (step (resolved_as w after c) e).world (step_like (part w.sites) (resolved_as w after c) e (all_same w)
+      (looks_same (part w.sites) (resolved_as w after c) (λ i. ap (λ (m : Node). m.group) (node_same i (after i) refl (w.nodes i))) e)))
       (like_trans (step (part w.sites) e).world (past w.sites) (resolved_as (step w e).world after c) (all_parts w.sites) (all_same (step w e).world))
 
   pub step_as_good : GoodWorld (resolved_as w after c) → GoodWorld (resolved_as (step w e).world after c)

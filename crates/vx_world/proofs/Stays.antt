@@ -17,7 +17,7 @@ use Rattle.vx_history.proofs.Updates.{by_test}
 use Rattle.vx_history.proofs.GoodLemmas.{good_empty}
 use Rattle.vx_history.proofs.StateCases.{bare_is, up_is}
 use Rattle.vx_history.specs.declared.event.Event.{Event}
-use Rattle.vx_history.specs.declared.event.Event.TheVariants.{Site, Raw, Group, Write as WriteAt, Read, Apply, Pump, Tick, Deliver, Connect, Cut, Pause, Resume, Wait, Link, Set, Attach, Detach, Crash, Deport, Recover, Fault}
+use Rattle.vx_history.specs.declared.event.Event.TheVariants.{Site, Raw, Group, Volumes, Write as WriteAt, Read, Apply, Pump, Tick, Deliver, Connect, Cut, Pause, Resume, Wait, Link, Set, Attach, Detach, Crash, Deport, Fall, Recover, Fault}
 use Rattle.vx_history.specs.Refusals.{Outcome, unless, at_work, keeps_links, on_link_if}
 use Rattle.vx_model.specs.Sites.{is_up, is_bare}
 use Rattle.vx_model.specs.Sizes.{is_raw_shape}
@@ -30,7 +30,9 @@ use Rattle.vx_world.proofs.Tests.{Keeps, unless_keeps, at_site_keeps, at_work_ke
 use Rattle.vx_world.proofs.Guards.{primary_origin}
 use Rattle.vx_world.proofs.Changes.{written_if_keeps, apply_keeps}
 use Rattle.vx_world.proofs.Feeds.{quiet_keeps, pump_keeps, connect_keeps, deliver_keeps, wait_keeps}
-use Rattle.vx_world.proofs.Crashes.{again_keeps, crash_keeps, deport_keeps, recover_keeps, fault_keeps}
+use Rattle.vx_world.proofs.Crashes.{again_keeps, crash_keeps, deport_keeps, fall_keeps, recover_keeps, fault_keeps}
+use Rattle.vx_history.specs.Volumes.{volumes_made}
+use Rattle.vx_world.proofs.Volumed.{volumes_keeps}
 use Rattle.vx_world.proofs.Joins.{may_be_site_keeps, raw_keeps, group_keeps, link_part_keeps}
 use Rattle.vx_world.proofs.Links
 
@@ -66,6 +68,13 @@ outcome_keeps w (Raw q) s =
     (λ bare. unless_keeps (not (is_raw_shape (w.nodes q).disks (w.nodes q).blocks)) Size w o s
     (λ _. raw_keeps w q s (less w.sites q there) (bare_is (w.nodes q).state (not-false (is_bare (w.nodes q).state) bare)))))
 outcome_keeps w (Group q) s = at_site_keeps w q _ s (λ there. group_from_keeps w q (w.nodes q).state s (less w.sites q there) refl)
+outcome_keeps w (Volumes q log xs) s =
+    let o : Outcome = done (volumes_made w q log xs) in
+    let tested : Outcome = unless (not (Events.is_plain_group (w.nodes q))) WrongRole w o in
+    at_site_keeps w q (at_work w q tested) s
+    (λ _. at_work_keeps w q tested s
+    (λ up _. unless_keeps (not (Events.is_plain_group (w.nodes q))) WrongRole w o s
+    (λ plain. volumes_keeps w q log xs s up (not-false (Events.is_plain_group (w.nodes q)) plain))))
 outcome_keeps w (WriteAt p volume start bytes fails) s = write_keeps w p (record { volume = volume; start = start; bytes = bytes }) fails s
 outcome_keeps w (Read p volume start count) s = on_volume_keeps w p volume start count false _ s (λ _ _ _. s)
 outcome_keeps w (Apply q count reached) s =
@@ -112,6 +121,7 @@ outcome_keeps w (Crash q kept) s =
     at_site_keeps w q (unless (not (is_up (w.nodes q).state)) NotUp w o) s
     (λ _. unless_keeps (not (is_up (w.nodes q).state)) NotUp w o s
     (λ up. crash_keeps w q kept s (up_is (w.nodes q).state (not-false (is_up (w.nodes q).state) up))))
+outcome_keeps w (Fall q) s = at_site_keeps w q _ s (λ _. fall_keeps w q (w.nodes q).state s refl)
 outcome_keeps w (Deport q) s =
     let o : Outcome = done (Events.deport_at w q) in
     at_site_keeps w q (at_work w q o) s (λ _. at_work_keeps w q o s (λ up _. deport_keeps w q s up))

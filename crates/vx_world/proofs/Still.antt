@@ -18,19 +18,20 @@ use Rattle.vx_model.specs.declared.site.SiteState.{SiteState}
 use Rattle.vx_model.specs.declared.site.SiteState.TheVariants.{Bare, Up, Deported, Down}
 use Rattle.vx_history.proofs.StateCases.{bare_is}
 use Rattle.vx_history.proofs.Updates.{by_test}
+use Rattle.vx_history.specs.Volumes.{volumes_set}
 use Rattle.vx_history.specs.Admission.{Admitted, Held_by, Goes}
 use Rattle.vx_history.specs.Events
 use Rattle.vx_history.specs.Gatherings.{completes}
 use Rattle.vx_history.specs.LinkForms.{plain_receiver, with_plain}
 use Rattle.vx_history.specs.Receiving.{Received, received_step, phase_takes}
-use Rattle.vx_history.specs.Refusals.{Outcome, says, unless, unless_halted, at_site, at_work, both_at_work, on_link_if, on_volume, keeps_links, is_primary, is_consistent, is_stale_mode, is_empty, is_running, is_unconfirmed, holds_back, follows, some_below, may_link, agree, rings_fit, count_links_of}
+use Rattle.vx_history.specs.Refusals.{Outcome, says, unless, unless_halted, at_site, at_work, both_at_work, on_link_if, on_volume, keeps_links, is_primary, is_consistent, is_stale_mode, is_empty, is_running, is_unconfirmed, holds_back, follows, some_below, may_link, sizes_meet, rings_fit, count_links_of}
 use Rattle.vx_history.specs.Sending.{Sent}
 use Rattle.vx_history.specs.Sends.{is_linked, with_links, with_link, sending, sent_by}
 use Rattle.vx_history.specs.Step.{outcome_of, step, link_part}
-use Rattle.vx_history.specs.Steps.{raw_set, group_set, group_up, logged, crashed, crash_left, deported_site}
+use Rattle.vx_history.specs.Steps.{raw_set, group_set, group_up, logged, crashed, crash_left, deported_site, fallen_site}
 use Rattle.vx_history.specs.World.{World, Node, Link as LinkRecord, History, Gathering, Packet, Message, Hello, Update, NetAck, DataAck, with_node, with_history, bare_site, updated}
 use Rattle.vx_history.specs.declared.event.Event.{Event}
-use Rattle.vx_history.specs.declared.event.Event.TheVariants.{Site, Raw, Group, Write as WriteAt, Read, Apply, Pump, Tick, Deliver, Connect, Cut, Pause, Resume, Wait, Link, Set, Attach, Detach, Crash, Deport, Recover, Fault}
+use Rattle.vx_history.specs.declared.event.Event.TheVariants.{Site, Raw, Group, Volumes, Write as WriteAt, Read, Apply, Pump, Tick, Deliver, Connect, Cut, Pause, Resume, Wait, Link, Set, Attach, Detach, Crash, Deport, Fall, Recover, Fault}
 use Rattle.vx_history.specs.declared.event.LinkPart.{LinkPart}
 use Rattle.vx_history.specs.declared.event.LinkPart.TheVariants.{Joins, Made, Marked, Opened}
 use Rattle.vx_history.specs.declared.event.Said.TheVariants.{Ignored as IsIgnored, Pending}
@@ -213,7 +214,7 @@ module _ (s : ℕ) (w : World) (up : (w.nodes s).state ≡ Up) (halted : is_runn
       tested (not (may_link w p q)) _ _
       (λ _. tested (is_linked (w.links p q)) _ _
       (λ _. tested (leb MOST_LINKS (count_links_of w p)) _ _
-      (λ _. tested (not (agree (w.nodes p).volumes (w.nodes q).volumes && rings_fit (w.nodes p) (w.nodes q))) _ _
+      (λ _. tested (not (sizes_meet (w.nodes p).volumes (w.nodes q).volumes && rings_fit (w.nodes p) (w.nodes q))) _ _
       (λ _. gathering_still (with_node w q (Events.joined (w.nodes p) p (w.nodes q))) _ (node_still q (Events.joined (w.nodes p) p (w.nodes q)) there)))))
   part_still Made p q sync prot here there =
       tested (not (is_primary (w.nodes p).role && follows w p q)) _ _
@@ -264,6 +265,13 @@ module _ (s : ℕ) (w : World) (up : (w.nodes s).state ≡ Up) (halted : is_runn
   group_still q Down e = tested (not (Events.is_plain_group (w.nodes q))) _ _ (λ _. node_still q (group_up (w.nodes q))
       (λ here. let g : Up ≡ Down = sym up ∙ ap (λ (i : ℕ). (w.nodes i).state) here ∙ e in absurd (cc)))
 
+  fall_still : (q : ℕ) (state : SiteState) → (w.nodes q).state ≡ state → Leaves (Events.fall_from state w q)
+  fall_still q Bare e = same
+  fall_still q Up e = same
+  fall_still q Deported e = node_still q (fallen_site (w.nodes q))
+      (λ here. let g : Up ≡ Deported = sym up ∙ ap (λ (i : ℕ). (w.nodes i).state) here ∙ e in absurd (cc))
+  fall_still q Down e = same
+
   outcome_still : (e : Event) → s < w.sites → IsElsewhere s e → Leaves (outcome_of w e)
   outcome_still (Site name disks blocks) there calm =
       tested (some_below w.sites (λ k. bytes_eq (w.nodes k).name name)) _ _
@@ -279,6 +287,8 @@ module _ (s : ℕ) (w : World) (up : (w.nodes s).state ≡ Up) (halted : is_runn
       (λ here. let g : Up ≡ Bare = sym up ∙ ap (λ (i : ℕ). (w.nodes i).state) here ∙ bare_is (w.nodes q).state
       (not-false (is_bare (w.nodes q).state) bare) in absurd (cc)))))
   outcome_still (Group q) there calm = site_still q _ (group_still q (w.nodes q).state refl)
+  outcome_still (Volumes q log xs) there calm =
+      work_still q _ (λ apart. tested (not (Events.is_plain_group (w.nodes q))) _ _ (λ _. history_still q (volumes_set log xs (w.nodes q)) _ apart))
   outcome_still (WriteAt p volume start bytes fails) there calm =
       let x : LogWrite = record { volume = volume; start = start; bytes = bytes } in
       volume_still p volume start (blocks_in bytes) (is_too_large (w.nodes p).ring (blocks_in bytes))
@@ -314,6 +324,7 @@ module _ (s : ℕ) (w : World) (up : (w.nodes s).state ≡ Up) (halted : is_runn
   outcome_still (Crash q kept) there calm =
       site_still q _ (tested (not (is_up (w.nodes q).state)) _ _ (λ _. crash_still q (Events.kept_of (w.nodes q) kept) (λ e. calm (sym e))))
   outcome_still (Deport q) there calm = work_still q _ (λ apart. deport_still q apart)
+  outcome_still (Fall q) there calm = site_still q _ (fall_still q (w.nodes q).state refl)
   outcome_still (Recover q fails) there calm = site_still q _ (recover_still q (w.nodes q).state fails refl)
   outcome_still (Fault q disk) there calm =
       site_still q _ (tested (not (is_up (w.nodes q).state)) _ _ (λ _. node_still q _ (λ e. calm (sym e))))

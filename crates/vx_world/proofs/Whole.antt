@@ -22,7 +22,7 @@ use Rattle.vx_history.specs.Step.{done, outcome_of, step, run, link_part}
 use Rattle.vx_history.specs.GoodWorld.{GoodWorld}
 use Rattle.vx_history.specs.Sound.{Sound}
 use Rattle.vx_history.specs.declared.event.Event.{Event}
-use Rattle.vx_history.specs.declared.event.Event.TheVariants.{Site, Raw, Group, Write as WriteAt, Read, Apply, Pump, Tick, Deliver, Connect, Cut, Pause, Resume, Wait, Link, Set, Attach, Detach, Crash, Deport, Recover, Fault}
+use Rattle.vx_history.specs.declared.event.Event.TheVariants.{Site, Raw, Group, Volumes, Write as WriteAt, Read, Apply, Pump, Tick, Deliver, Connect, Cut, Pause, Resume, Wait, Link, Set, Attach, Detach, Crash, Deport, Fall, Recover, Fault}
 use Rattle.vx_history.specs.declared.event.Said.TheVariants.{Pending, DoneAt}
 use Rattle.vx_history.specs.declared.sender.SEvent.{SEvent}
 use Rattle.vx_history.specs.declared.sender.SEvent.TheVariants.{Connect as ConnectLink, Pump as PumpLink, Cut as CutLink, Pause as PauseLink, Resume as ResumeLink}
@@ -31,8 +31,10 @@ use Rattle.vx_world.proofs.Guards
 use Rattle.vx_world.proofs.Keeping.{Keeps, keeps_same, keeps_links, made_link, keeps_headers, keeps_promising, keeps_sending}
 use Rattle.vx_world.proofs.Stays.{step_keeps, empty_sound}
 use Rattle.vx_world.proofs.KeptWrites.{Leaves, write_leaves, moved_leaves, greeting_parts, applied_leaves}
+use Rattle.vx_history.specs.Volumes.{volumes_made}
 use Rattle.vx_world.proofs.KeptPackets.{deliver_leaves}
-use Rattle.vx_world.proofs.KeptSites.{crash_leaves, deport_leaves, recover_leaves, site_leaves, raw_leaves, group_from_leaves, link_part_leaves, stopped_leaves}
+use Rattle.vx_world.proofs.Volumed.{volumes_leaves}
+use Rattle.vx_world.proofs.KeptSites.{crash_leaves, deport_leaves, fall_leaves, recover_leaves, site_leaves, raw_leaves, group_from_leaves, link_part_leaves, stopped_leaves}
 
 -- ## Events
 
@@ -63,6 +65,13 @@ outcome_leaves w (Raw q) s =
     (λ _. raw_leaves w q s (bare_is (w.nodes q).state (not-false (is_bare (w.nodes q).state) bare)))))
 outcome_leaves w (Group q) s =
     Guards.at_site_holds (Keeps w) w q _ (keeps_same w) (λ _. group_from_leaves w q (w.nodes q).state s refl)
+outcome_leaves w (Volumes q log xs) s =
+    let o : Outcome = done (volumes_made w q log xs) in
+    let tested : Outcome = unless (not (Events.is_plain_group (w.nodes q))) WrongRole w o in
+    Guards.at_site_holds (Keeps w) w q (at_work w q tested) (keeps_same w)
+    (λ _. Guards.at_work_holds (Keeps w) w q tested (keeps_same w)
+    (λ up _. Guards.unless_holds (Keeps w) (not (Events.is_plain_group (w.nodes q))) WrongRole w o (keeps_same w)
+    (λ plain. volumes_leaves w q log xs s up (not-false (Events.is_plain_group (w.nodes q)) plain))))
 outcome_leaves w (WriteAt p volume start bytes fails) s = write_leaves w p (record { volume = volume; start = start; bytes = bytes }) fails s
 outcome_leaves w (Read p volume start count) s = Guards.on_volume_holds (Keeps w) w p volume start count false _ (keeps_same w) (λ _ _ _. keeps_same w)
 outcome_leaves w (Apply q count reached) s =
@@ -112,6 +121,7 @@ outcome_leaves w (Crash q kept) s =
     Guards.at_site_holds (Keeps w) w q (unless (not (is_up (w.nodes q).state)) NotUp w o) (keeps_same w)
     (λ _. Guards.unless_holds (Keeps w) (not (is_up (w.nodes q).state)) NotUp w o (keeps_same w)
     (λ up. crash_leaves w q (Events.kept_of (w.nodes q) kept) s (up_is (w.nodes q).state (not-false (is_up (w.nodes q).state) up))))
+outcome_leaves w (Fall q) s = Guards.at_site_holds (Keeps w) w q _ (keeps_same w) (λ _. fall_leaves w q (w.nodes q).state refl)
 outcome_leaves w (Deport q) s =
     let o : Outcome = done (Events.deport_at w q) in
     Guards.at_site_holds (Keeps w) w q (at_work w q o) (keeps_same w)
@@ -150,6 +160,7 @@ empty_good = record {
     logs = λ i. tt;
     held = λ l. tt;
     alike = λ i made. absurd (made refl);
+    alone = λ i made. absurd (made refl);
   };
   gathers = record { parts = tt; each = λ i. tt };
   places = λ p. places_none;

@@ -1,9 +1,10 @@
 -- What holds of a world in which any number of sites may be in doubt.
-use Rattle.std.specs.Prelude.{◌≡◌, ℕ, ◌<◌, Bool, true, false, Option, Some, None}
+use Rattle.std.specs.Prelude.{◌≡◌, ℕ, ◌<◌, Bool, true, false, [], Option, Some, None}
 use Rattle.vx_model.specs.declared.site.SiteState.TheVariants.{Up}
 use Rattle.vx_history.specs.Doubts.{After, Doubted}
 use Rattle.vx_history.specs.GoodWorld.{GoodWorld}
 use Rattle.vx_history.specs.Refusals.{is_running}
+use Rattle.vx_history.specs.Good.{IsMade}
 use Rattle.vx_history.specs.World.{Node, Link, World}
 
 -- no site is in doubt
@@ -39,3 +40,21 @@ resolved_as w after chosen =
 pub record GoodDoubted (d : Doubted) : Type 0 where
   pub doubts : (s : ℕ) (a : After) → d.after s ≡ Some a → IsDoubt d.world s a
   pub good : (chosen : ℕ → Bool) → GoodWorld (resolved_as d.world d.after chosen)
+
+-- the same log and the same data volumes
+pub record SameRoom (n m : Node) : Type 0 where
+  pub ring : m.ring ≡ n.ring
+  pub volumes : m.volumes ≡ n.volumes
+
+-- what a site may be on its disks has the log and the data volumes that it has
+abbrev pub DoubtsAlike : Doubted → Type 0
+DoubtsAlike d = (s : ℕ) (a : After) → d.after s ≡ Some a → SameRoom (d.world.nodes s) a.node
+
+-- a site that is more than bare, and has data volumes
+abbrev pub HasData : Node → Type 0
+HasData n = IsMade n × (n.volumes ≡ [] → ⊥)
+
+-- each site that has data volumes has them still, and its log
+pub record RoomStays (d new : Doubted) : Type 0 where
+  pub sites : (i : ℕ) → HasData (d.world.nodes i) → SameRoom (d.world.nodes i) (new.world.nodes i)
+  pub doubts : DoubtsAlike new

@@ -3,7 +3,7 @@ use Rattle.std.specs.Prelude.{◌≡◌, ℕ, ◌<◌, false}
 use Rattle.vx_history.specs.Refusals.{is_running}
 use Rattle.vx_history.specs.World.{World}
 use Rattle.vx_history.specs.declared.event.Event.{Event}
-use Rattle.vx_history.specs.declared.event.Event.TheVariants.{Site, Raw, Group, Write, Read, Apply, Pump, Tick, Deliver, Connect, Cut, Pause, Resume, Wait, Link, Set, Attach, Detach, Crash, Deport, Recover, Fault}
+use Rattle.vx_history.specs.declared.event.Event.TheVariants.{Site, Raw, Group, Volumes, Write, Read, Apply, Pump, Tick, Deliver, Connect, Cut, Pause, Resume, Wait, Link, Set, Attach, Detach, Crash, Deport, Fall, Recover, Fault}
 use Rattle.vx_history.specs.GoodWorld.{GoodWorld}
 use Rattle.vx_model.specs.declared.site.SiteState.TheVariants.{Up}
 
@@ -27,6 +27,7 @@ abbrev pub IsElsewhere : ℕ → Event → Type 0
 IsElsewhere s (Site name disks blocks) = Unit {0}
 IsElsewhere s (Raw p) = Unit {0}
 IsElsewhere s (Group p) = Unit {0}
+IsElsewhere s (Volumes p log xs) = Unit {0}
 IsElsewhere s (Write p volume start bytes fails) = Unit {0}
 IsElsewhere s (Read p volume start count) = Unit {0}
 IsElsewhere s (Apply p count reached) = Unit {0}
@@ -44,6 +45,7 @@ IsElsewhere s (Attach p q) = Unit {0}
 IsElsewhere s (Detach p q) = Unit {0}
 IsElsewhere s (Crash p kept) = p ≡ s → ⊥
 IsElsewhere s (Deport p) = Unit {0}
+IsElsewhere s (Fall p) = Unit {0}
 IsElsewhere s (Recover p fails) = p ≡ s → ⊥
 IsElsewhere s (Fault p disk) = p ≡ s → ⊥
 

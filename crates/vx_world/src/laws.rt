@@ -13,6 +13,7 @@ ghost use Rattle.vx_history.specs.Regions.{marks_block};
 ghost use Rattle.vx_history.specs.Sound.{Sound, IsFollowed, IsKept};
 ghost use Rattle.vx_history.specs.GoodWorld.{GoodWorld};
 ghost use Rattle.vx_history.specs.Likes.{IsLike};
+ghost use Rattle.vx_history.specs.Looks.{AllLookSame, LooksSame};
 ghost use Rattle.vx_history.specs.Listed.{AreListed};
 ghost use Rattle.vx_history.specs.Steps.{stopped_by};
 ghost use Rattle.vx_history.specs.Events.{kept_of, packet_at};
@@ -24,7 +25,7 @@ ghost use Rattle.vx_model.specs.declared.link.Prot.{Prot};
 ghost use Rattle.vx_model.specs.declared.link.SyncMode.{SyncMode};
 ghost use Rattle.vx_model.specs.declared.site.SiteState.TheVariants.{Up};
 ghost use Rattle.vx_history.specs.Stops.{EventsEnd, IsOpen, WritesAt};
-ghost use Rattle.vx_world.specs.Lines.{NoDoubts, GoodDoubted};
+ghost use Rattle.vx_world.specs.Lines.{DoubtsAlike, GoodDoubted, NoDoubts, RoomStays};
 ghost use Rattle.vx_world.specs.Twins.{Twin, IsAlone, IsElsewhere, GoodTwin};
 ghost use Rattle.vx_history.specs.Step.{step, run};
 
@@ -45,11 +46,12 @@ pub fn stays_good()
     ensures always { (events : List Event) → GoodWorld (run empty_world events) }
 {}
 
-/// Worlds that differ in notes alone are good together, and every event makes such worlds of them, and says the same of both.
+/// Worlds that differ in notes alone are good together, and every event makes such worlds of them, and says the same of both. One event
+/// looks at a note: as a group of disks gets a replicated volume group, its data volumes hold what the group noted of them.
 pub fn looks_at_no_note()
-    ensures step { (w v : World) (e : Event) → IsLike w v → IsLike (step w e).world (step v e).world }
+    ensures step { (w v : World) (e : Event) → IsLike w v → LooksSame e w v → IsLike (step w e).world (step v e).world }
     ensures said { (w v : World) (e : Event) → IsLike w v → (step v e).said ≡ (step w e).said }
-    ensures run { (w v : World) (events : List Event) → IsLike w v → IsLike (run w events) (run v events) }
+    ensures run { (w v : World) (events : List Event) → IsLike w v → AllLookSame events w v → IsLike (run w events) (run v events) }
     ensures sound { (w v : World) → Sound w → IsLike w v → Sound v }
     ensures good { (w v : World) → GoodWorld w → IsLike w v → GoodWorld v }
 {}
@@ -139,6 +141,13 @@ pub fn lines_stay_good()
     ensures begins { (d : Doubted) → GoodWorld d.world → NoDoubts d → GoodDoubted d }
     ensures world { (d : Doubted) → GoodDoubted d → GoodWorld d.world }
     ensures twins { (d : Doubted) (s : ℕ) (a : After) → GoodDoubted d → d.after s ≡ Some a → GoodTwin s d.world (resolved d.world s a) }
+{}
+
+/// However a line ends, each site that has data volumes has these still, and its log: a site gets them once. What a site in doubt may be on its disks has those that
+/// the site has.
+pub fn keeps_data_volumes()
+    ensures line { (d new : Doubted) (events : List Event) (fails : List (ℕ × ℕ)) → GoodDoubted d → DoubtsAlike d → EventsEnd d events fails new → RoomStays d new }
+    ensures begins { (d : Doubted) → NoDoubts d → DoubtsAlike d }
 {}
 
 /// A deport keeps of a site's writes those that a crash keeps for certain, and no others.

@@ -9,12 +9,12 @@ use crate::applies::apply;
 use crate::deliveries::deliver;
 use crate::faults::fault;
 use crate::greetings::connect;
-use crate::outages::{crash, deport};
+use crate::outages::{crash, deport, fall};
 use crate::pumps::pump;
 use crate::reads::read;
 use crate::recoveries::recover;
 use crate::settings::{attach, detach, link_sites, set};
-use crate::sites::{add_site, make_group, make_raw};
+use crate::sites::{add_site, make_group, make_raw, make_volumes};
 use crate::switches::{cut, pause, resume};
 use crate::ticks::tick;
 use crate::waits::wait;
@@ -59,6 +59,7 @@ fn happen(world: &mut World, event: &Event) -> Result<Said, OutOfMemory>
         } => add_site(world, name, *disks, *blocks),
         Event::Raw { site } => make_raw(world, *site),
         Event::Group { site } => make_group(world, *site),
+        Event::Volumes { site, log, volumes } => make_volumes(world, *site, *log, volumes),
         Event::Write {
             site,
             vol,
@@ -81,6 +82,7 @@ fn happen(world: &mut World, event: &Event) -> Result<Said, OutOfMemory>
         Event::Wait { site, number } => wait(world, *site, *number),
         Event::Crash { site, kept } => crash(world, *site, *kept),
         Event::Deport { site } => deport(world, *site),
+        Event::Fall { site } => Ok(fall(world, *site)),
         Event::Recover { site, fails } => recover(world, *site, *fails),
         Event::Fault { site, disk } => Ok(fault(world, *site, *disk)),
         Event::Pump { site, to } => pump(world, *site, *to),

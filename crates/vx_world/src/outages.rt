@@ -1,13 +1,15 @@
-// Sites that crash or are deported.
+// Sites that crash or are deported, and deported ones that are down.
 ghost use Rattle.std.specs.Prelude.{◌≡◌, ◌<◌, length, IfOk, OnOk};
 ghost use Rattle.vx_history.specs.Refusals.{says};
 ghost use Rattle.vx_history.specs.Events.{kept_of, crash_world, crash_at, deport_at};
 ghost use Rattle.vx_history.specs.Step.{outcome_of};
-ghost use Rattle.vx_history.specs.declared.event.Event.TheVariants.{Crash, Deport};
+ghost use Rattle.vx_history.specs.declared.event.Event.TheVariants.{Crash, Deport, Fall};
+ghost use Rattle.vx_history.specs.declared.event.Said.TheVariants.{Done};
+ghost use Rattle.vx_history.specs.Steps.{fallen_world};
 ghost use Rattle.vx_sites.specs.Shapes.{world_of};
 
 use vx_history::Said;
-use vx_model::{OutOfMemory, is_origin};
+use vx_model::{No, OutOfMemory, SiteState, is_origin};
 use vx_sites::World;
 use vx_sites::refusals::{refuse_not_up, refuse_site, refuse_work};
 
@@ -38,6 +40,29 @@ pub fn deport(world: &mut World, site: u32) -> Result<Said, OutOfMemory>
     }
     deport_site(world, site)?;
     Ok(Said::Done)
+}
+
+/// A deported site is down. Refused with 1 and 5.
+pub fn fall(world: &mut World, site: u32) -> Said
+    ensures { says (world_of world.new) result ≡ outcome_of (world_of world.old) (Fall site) }
+{
+    if let Some(no) = refuse_site(world, site) {
+        return Said::Refused(no);
+    }
+    match world.node(site).state {
+        SiteState::Bare => Said::Refused(No::Role),
+        SiteState::Up => Said::Refused(No::Role),
+        SiteState::Deported => fall_down(world, site),
+        SiteState::Down => Said::Refused(No::Role),
+    }
+}
+
+fn fall_down(world: &mut World, site: u32) -> Said
+    requires { site < length world.old.nodes.items }
+    ensures { says (world_of world.new) result ≡ says (fallen_world (world_of world.old) site) Done }
+{
+    world.fall(site);
+    Said::Done
 }
 
 fn deport_site(world: &mut World, site: u32) -> Result<(), OutOfMemory>

@@ -1,18 +1,18 @@
-// Sites that are made, and groups of disks that come up again.
+// Sites that are made, groups of disks that come up again, and those that get a replicated volume group.
 ghost use Rattle.std.specs.Prelude.{◌≡◌, ◌<◌, length, IfOk};
 ghost use Rattle.vx_history.specs.Refusals.{says};
 ghost use Rattle.vx_history.specs.Events.{group_again};
 ghost use Rattle.vx_history.specs.Step.{outcome_of};
 ghost use Rattle.vx_history.specs.Steps.{group_made};
-ghost use Rattle.vx_history.specs.declared.event.Event.TheVariants.{Site, Raw, Group};
+ghost use Rattle.vx_history.specs.declared.event.Event.TheVariants.{Site, Raw, Group, Volumes};
 ghost use Rattle.vx_history.specs.declared.event.Said.TheVariants.{Done};
 ghost use Rattle.vx_sites.specs.Shapes.{world_of};
 
-use vx_history::Said;
+use vx_history::{DataVolumes, Said};
 use vx_model::{Name, No, OutOfMemory, SiteState};
 use vx_sites::bounds::{refuse_new_site, refuse_raw};
 use vx_sites::groups::refuse_no_group;
-use vx_sites::refusals::refuse_site;
+use vx_sites::refusals::{refuse_site, refuse_work};
 use vx_sites::{Node, World};
 
 /// A further site, of which nothing is made yet. Refused with 2, 4 and 19.
@@ -59,6 +59,29 @@ pub fn make_group(world: &mut World, site: u32) -> Result<Said, OutOfMemory>
         SiteState::Deported => Ok(bring_group_up(world, site)),
         SiteState::Down => Ok(bring_group_up(world, site)),
     }
+}
+
+/// A group of disks gets a replicated volume group, with a log in a volume of so many blocks and these data volumes. Refused with 1, 6, 20
+/// and 5.
+pub fn make_volumes(
+    world: &mut World,
+    site: u32,
+    log: u64,
+    volumes: &DataVolumes,
+) -> Result<Said, OutOfMemory>
+    ensures { IfOk result (λ said. says (world_of world.new) said ≡ outcome_of (world_of world.old) (Volumes site log volumes.now)) }
+{
+    if let Some(no) = refuse_site(world, site) {
+        return Ok(Said::Refused(no));
+    }
+    if let Some(no) = refuse_work(world, site) {
+        return Ok(Said::Refused(no));
+    }
+    if let Some(no) = refuse_no_group(world, site) {
+        return Ok(Said::Refused(no));
+    }
+    world.make_volumes(site, log, volumes)?;
+    Ok(Said::Done)
 }
 
 fn begin_group(world: &mut World, site: u32) -> Result<Said, OutOfMemory>

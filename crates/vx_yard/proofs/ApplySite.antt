@@ -253,7 +253,7 @@ module _ {R : Type 0} {g : Ghosts R} where
             let e : Doubted = worked_for h s in
             let m : Node = crashed_node n n count in
             let before_noted = crash_comes d s count false n (d.world.links s) refl (λ j. refl) (λ _. refl) here.seat.below here.can.up least most before after stands.links (stands.failing s before here.seat.below changed.there)
-            (calls_keep NoMore (Refused Off) before after calls) (λ y of. refl) stood in
+            (calls_keep NoMore (Refused Off) before after calls) stood in
             let note = note_effect h s (worked (h.world.nodes s)) in
             let node : e.world.nodes s ≡ m = note.is.node ∙ ap (λ (q : Node). worked q) (crash_node d s count false n (d.world.links s) refl (λ j. refl) (λ _. refl) here.seat.below here.can.up least most) in
             let node_h : h.world.nodes s ≡ m = crash_node d s count false n (d.world.links s) refl (λ j. refl) (λ _. refl) here.seat.below here.can.up least most in

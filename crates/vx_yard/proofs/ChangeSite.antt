@@ -12,7 +12,7 @@ use Rattle.vx_diskset.specs.DiskSets.{Later}
 use Rattle.vx_events.specs.Fails.{Fails}
 use Rattle.vx_events.proofs.Places.{some_same}
 use Rattle.vx_yard.specs.Stands.{AreTold, RoseAll, RoseBy, site_faults, fault_count, times}
-use Rattle.vx_diskset.specs.Stands.{IsToldAt, faults_at}
+use Rattle.vx_diskset.specs.Stands.{IsRackTold, faults_at}
 use Rattle.vx_yard.proofs.Lists.{get-set_same, get-set_other, set_twice}
 
 -- no call failed
@@ -71,9 +71,9 @@ module _ {R : Type 0} {g : Ghosts R} where
   pub told_before : (es : List (DiskSet R g)) (s : ℕ) (e new : DiskSet R g) → slice_get es s ≡ Some e → Later e new → AreTold (slice_set es s new) → AreTold es
   told_before es s e new at later told = record { each = each }
     where
-      each : (s' : ℕ) (e' : DiskSet R g) → slice_get es s' ≡ Some e' → IsToldAt e'
+      each : (s' : ℕ) (e' : DiskSet R g) → slice_get es s' ≡ Some e' → IsRackTold e'
       each s' e' at' = ⊎_elim
-          (λ is. subst IsToldAt (some_same (sym at ∙ ap (slice_get es) (sym is) ∙ at')) (later.told (told.each s new (get-set_same es s new (slice_get_within es s e at)))))
+          (λ is. subst IsRackTold (some_same (sym at ∙ ap (slice_get es) (sym is) ∙ at')) (later.told (told.each s new (get-set_same es s new (slice_get_within es s e at)))))
           (λ apart. told.each s' e' (get-set_other es s s' new apart ∙ at'))
           (cases_eq s' s)
 

@@ -11,7 +11,7 @@ use Rattle.vx_history.specs.Steps.{crashed}
 use Rattle.vx_history.specs.World.{Link, Node, World}
 use Rattle.vx_history.specs.declared.event.Event.TheVariants.{Crash as CrashAt}
 use Rattle.vx_history.specs.declared.event.Said.TheVariants.{Done as IsDone}
-use Rattle.vx_model.specs.declared.site.SiteState.TheVariants.{Bare as IsBare, Down as IsDown, Up}
+use Rattle.vx_model.specs.declared.site.SiteState.TheVariants.{Down as IsDown, Up}
 use Rattle.vx_model.specs.declared.limits.TheConstants.{MOST_SITES}
 use Rattle.vx_model.specs.declared.state.KeptLink.{KeptLink}
 use Rattle.vx_disk.specs.declared.shelf.Shelf.{Ghosts}
@@ -20,11 +20,10 @@ use Rattle.vx_script.specs.declared.line.ScriptLine.TheVariants.{Crash}
 use Rattle.vx_diskset.specs.Asked.{FailsAs, FusedAs, SameFailing}
 use Rattle.vx_diskset.specs.DiskSets.{CrashedAt, CrashedTo}
 use Rattle.vx_diskset.specs.Holds.{KeptBeside, KeptSite, beside_of, doubt_of, itself, row_links, sure_of}
-use Rattle.vx_diskset.specs.Stands.{IsGroupSet, SiteStands}
+use Rattle.vx_diskset.specs.Stands.{SiteStands}
 use Rattle.vx_diskset.specs.declared.disk_set.DiskSet.{DiskSet}
-use Rattle.vx_diskset.specs.declared.disk_set.DiskSet.TheVariants.{OfGroup}
-use Rattle.vx_diskset.specs.declared.group_set.GroupSet.{GroupSet}
-use Rattle.vx_diskset.proofs.FailGroup.{stands_noted}
+use Rattle.vx_diskset.proofs.FailSets.{stands_failing}
+use Rattle.vx_diskset.specs.DiskSets.{fell_to}
 use Rattle.vx_effects.proofs.Effects.{changes_same, changes_then, left_effect, resolved_changes}
 use Rattle.vx_effects.proofs.Fitting.{fit_happened}
 use Rattle.vx_effects.proofs.Leaving.{fit_disks}
@@ -62,7 +61,7 @@ use Rattle.vx_yard.proofs.FailsStay.{fails_then}
 use Rattle.vx_yard.proofs.FuseStays.{fused_none}
 use Rattle.vx_yard.proofs.OneSite.{Changed, Comes, role_off, stands_at, told_by}
 use Rattle.vx_yard.proofs.Carrying.{LetsGo, carries_let}
-use Rattle.vx_yard.proofs.OverGroup.{doubt_apart, over_none, set_notes}
+use Rattle.vx_yard.proofs.OverGroup.{doubt_apart, over_none}
 use Rattle.vx_yard.proofs.Rows.{down_over, over_same, row_links_same}
 
 -- the node that it leaves
@@ -102,9 +101,6 @@ same_gathering true s w v = refl
 
 pub down_up : IsDown ≡ Up → ⊥
 down_up e = cc
-
-down_bare : IsDown ≡ IsBare → ⊥
-down_bare e = cc
 
 -- the node, by what it was before
 disks_node : (b : Bool) (s : ℕ) (w v : World) (n : Node) → v.nodes s ≡ n → (b ≡ false → disk_notes n ≡ disk_notes (w.nodes s))
@@ -187,10 +183,10 @@ module _ {R : Type 0} {g : Ghosts R} where
   -- the site, whose disks crashed
   pub crash_comes : (d : Doubted) (s count : ℕ) (taken : Bool) (m : Node) (row : ℕ → Link) (node_is : (resolved_at d s taken).world.nodes s ≡ m) (row_is : (k : ℕ) → (resolved_at d s taken).world.links s k ≡ row k)
       (own : taken ≡ false → disk_notes m ≡ disk_notes (d.world.nodes s)) (below : s < d.world.sites) (up : m.state ≡ Up) (least : m.safe ≤ count) (most : count ≤ length m.log) (before after : DiskSet R g)
-      → LinksFit d → FailsAs (d.world.nodes s) before → SameFailing before after → ((x : GroupSet R g) → after ≡ OfGroup x → (d.world.nodes s).group ≡ m.group)
-      → SiteStands (record { links = row_links row d.world.sites; headers = d.world.headers s; doubt = None }) (crashed m count) after
+      → LinksFit d → FailsAs (d.world.nodes s) before → SameFailing before after
+      → SiteStands (record { links = row_links row d.world.sites; headers = d.world.headers s; doubt = None }) (fell_to (d.world.nodes s) m count) after
       → Comes d (crash_of d s count taken) s after
-  crash_comes d s count taken m row node_is row_is own below up least most before after fits fails same over stands =
+  crash_comes d s count taken m row node_is row_is own below up least most before after fits fails same stands =
       let e : Doubted = crash_of d s count taken in
       let n : Node = crashed_node (d.world.nodes s) m count in
       let here : n ≡ e.world.nodes s = sym (crash_node d s count taken m row node_is row_is own below up least most) in
@@ -200,11 +196,10 @@ module _ {R : Type 0} {g : Ghosts R} where
         changes = crash_changes d s count taken m row node_is row_is own below up least most;
         links = crash_fits d s count taken m row node_is row_is own below up least most fits;
         stands = subst (λ (k : Node). SiteStands (beside_of e s) k after) here
-            (subst (λ (b : KeptBeside). SiteStands b n after) (sym there) (stands_noted (record { links = row_links row d.world.sites; headers = d.world.headers s; doubt = None }) (crashed m count) (d.world.nodes s).failing (d.world.nodes s).group after
-            (λ bare. absurd (down_bare bare)) over stands));
+            (subst (λ (b : KeptBeside). SiteStands b n after) (sym there) (stands_failing (record { links = row_links row d.world.sites; headers = d.world.headers s; doubt = None }) (fell_to (d.world.nodes s) m count) (d.world.nodes s).failing after stands));
         failing = subst (λ (k : Node). FailsAs k after) here (fails_then (d.world.nodes s) n before after refl same fails);
         fuse = subst (λ (k : Node). FusedAs k after) here (fused_none n after refl);
-        role = role_off (record { links = row_links row d.world.sites; headers = d.world.headers s; doubt = None }) (crashed m count) (e.world.nodes s) after stands (λ is_up. down_up is_up);
+        role = role_off (record { links = row_links row d.world.sites; headers = d.world.headers s; doubt = None }) (fell_to (d.world.nodes s) m count) (e.world.nodes s) after stands (λ is_up. down_up is_up);
         doubt = λ was a is. absurd (never_some (sym (eff d s count taken m row node_is row_is own below up least most).is.after ∙ is));
       }
 
@@ -228,18 +223,9 @@ module _ {R : Type 0} {g : Ghosts R} where
       no_rvg : is_over_group n ≡ true → HasNoRvg n
       no_rvg over = over_none (beside_of d s) n before (stands.disk_sets.sites s before below changed.there) over
 
-      -- a site in doubt is over no group
-      doubt_never : (m : Node) (count : ℕ) (links : List KeptLink) (headers : ℕ) → m.volumes ≡ n.volumes → (k : KeptSite) → (beside_of d s).doubt ≡ Some k
-          → SiteStands (record { links = links; headers = headers; doubt = None }) (crashed m count) after → (x : GroupSet R g) → after ≡ OfGroup x → ⊥
-      doubt_never m count links headers same_volumes k other here x of =
-          let beside : KeptBeside = record { links = links; headers = headers; doubt = None } in
-          let it : IsGroupSet beside (crashed m count) x = subst (λ (y : DiskSet R g). SiteStands beside (crashed m count) y) of here in
-          doubt_apart (beside_of d s) n before k (stands.disk_sets.sites s before below changed.there) up other
-          (sym same_volumes ∙ (set_notes beside (crashed m count) x it (λ bare. down_bare bare)).1.none.volumes)
-
-      itself_by : (k : KeptSite) → k ≡ itself (beside_of d s) n → (count : ℕ) → crash_count (d.world.nodes s) count ≡ count → k.node.safe ≤ count → count ≤ length k.node.log → SiteStands (sure_of k) (crashed k.node count) after → Falls d s old new
+      itself_by : (k : KeptSite) → k ≡ itself (beside_of d s) n → (count : ℕ) → crash_count (d.world.nodes s) count ≡ count → k.node.safe ≤ count → count ≤ length k.node.log → SiteStands (sure_of k) (fell_to n k.node count) after → Falls d s old new
       itself_by k own =
-          subst (λ (x : KeptSite). (count : ℕ) → crash_count (d.world.nodes s) count ≡ count → x.node.safe ≤ count → count ≤ length x.node.log → SiteStands (sure_of x) (crashed x.node count) after → Falls d s old new) (sym own)
+          subst (λ (x : KeptSite). (count : ℕ) → crash_count (d.world.nodes s) count ≡ count → x.node.safe ≤ count → count ≤ length x.node.log → SiteStands (sure_of x) (fell_to n x.node count) after → Falls d s old new) (sym own)
           (λ count keeps least most here. record {
             count = count;
             taken = false;
@@ -255,13 +241,12 @@ module _ {R : Type 0} {g : Ghosts R} where
                 (crash_sent d s count false n (d.world.links s) refl (λ j. refl) (λ _. refl) below up least most) (crash_gathering d s count false n (d.world.links s) refl (λ j. refl) (λ _. refl) below up least most)
                 (crash_down d s count false n (d.world.links s) refl (λ j. refl) (λ _. refl) below up least most) (told_by old new s before after changed);
             stands = stands_at d (crash_of d s count false) old new s f' before after stands below changed
-                (crash_comes d s count false n (d.world.links s) refl (λ j. refl) (λ _. refl) below up least most before after stands.links (stands.failing s before below changed.there) same (λ x of. refl) here)
+                (crash_comes d s count false n (d.world.links s) refl (λ j. refl) (λ _. refl) below up least most before after stands.links (stands.failing s before below changed.there) same here)
                 (is ∙ was ∙ crash_fact d s count false n (d.world.links s) refl (λ j. refl) (λ _. refl) below up least most refl refl refl refl) facts;
             rose = rose_still old new s before after changed.there changed.later changed.disk_sets;
           })
 
-      doubt_by : (o : Option After) → d.after s ≡ o → (k : KeptSite) → doubt_of d.world s (d.after s) ≡ Some k → (count : ℕ) → crash_count (d.world.nodes s) count ≡ count → k.node.safe ≤ count → count ≤ length k.node.log → SiteStands (sure_of k) (crashed k.node count) after
-          → Falls d s old new
+      doubt_by : (o : Option After) → d.after s ≡ o → (k : KeptSite) → doubt_of d.world s (d.after s) ≡ Some k → (count : ℕ) → crash_count (d.world.nodes s) count ≡ count → k.node.safe ≤ count → count ≤ length k.node.log → SiteStands (sure_of k) (fell_to n k.node count) after → Falls d s old new
       doubt_by None none k other = absurd (never_some (sym (ap (λ (o : Option After). doubt_of d.world s o) none) ∙ other))
       doubt_by (Some a) some k other =
           let kept : (let x : KeptSite = record { node = a.node; links = row_links a.row d.world.sites; headers = d.world.headers s } in x) ≡ k =
@@ -271,7 +256,7 @@ module _ {R : Type 0} {g : Ghosts R} where
           let node_is : (resolved_at d s true).world.nodes s ≡ a.node = ap (λ (o : Option After). (taken_up d.world s o).nodes s) some ∙ at_place d.world.nodes s a.node in
           let row_is : (j : ℕ) → (resolved_at d s true).world.links s j ≡ a.row j =
           λ j. ap (λ (o : Option After). (taken_up d.world s o).links s j) some ∙ ap (λ (r : ℕ → Link). r j) (at_place d.world.links s a.row) in
-          subst (λ (x : KeptSite). (count : ℕ) → crash_count (d.world.nodes s) count ≡ count → x.node.safe ≤ count → count ≤ length x.node.log → SiteStands (sure_of x) (crashed x.node count) after → Falls d s old new) kept
+          subst (λ (x : KeptSite). (count : ℕ) → crash_count (d.world.nodes s) count ≡ count → x.node.safe ≤ count → count ≤ length x.node.log → SiteStands (sure_of x) (fell_to n x.node count) after → Falls d s old new) kept
           (λ count keeps least most here. record {
             count = count;
             taken = true;
@@ -288,7 +273,7 @@ module _ {R : Type 0} {g : Ghosts R} where
                 (crash_gathering d s count true a.node a.row node_is row_is (λ e. absurd (never e)) below fits.up_too least most)
                 (crash_down d s count true a.node a.row node_is row_is (λ e. absurd (never e)) below fits.up_too least most) (told_by old new s before after changed);
             stands = stands_at d (crash_of d s count true) old new s f' before after stands below changed
-                (crash_comes d s count true a.node a.row node_is row_is (λ e. absurd (never e)) below fits.up_too least most before after stands.links (stands.failing s before below changed.there) same (λ x of. absurd (doubt_never a.node count (row_links a.row d.world.sites) (d.world.headers s) same_site.volumes k other here x of)) here)
+                (crash_comes d s count true a.node a.row node_is row_is (λ e. absurd (never e)) below fits.up_too least most before after stands.links (stands.failing s before below changed.there) same here)
                 (is ∙ was ∙ crash_fact d s count true a.node a.row node_is row_is (λ e. absurd (never e)) below fits.up_too least most same_site.name same_site.disks same_site.blocks same_site.volumes) facts;
             rose = rose_still old new s before after changed.there changed.later changed.disk_sets;
           })

@@ -18,15 +18,19 @@ use Rattle.vx_events.specs.Sayings.{is_written}
 use Rattle.vx_diskset.specs.Asked.{FailsAs, LeavesAlone, SameFailing, SetsFuse, disks_told}
 use Rattle.vx_diskset.specs.Burning.{Burnt, IsLogged}
 use Rattle.vx_diskset.specs.Holds.{KeptBeside}
-use Rattle.vx_diskset.specs.Stands.{SiteStands}
+use Rattle.vx_diskset.specs.Stands.{OverStands, SiteStands}
+use Rattle.vx_diskset.specs.Aboves.{below_site}
 use Rattle.vx_disk.specs.Spends.{Passed}
 use Rattle.vx_diskset.specs.declared.disk_set.DiskSet.{DiskSet}
-use Rattle.vx_diskset.specs.declared.disk_set.DiskSet.TheVariants.{Bare, Spoiled, Up, Receives, Down, OfGroup, Gone}
+use Rattle.vx_diskset.specs.declared.disk_set.DiskSet.TheVariants.{Bare, Spoiled, Up, Receives, Down, OfGroup, Over, Gone}
+use Rattle.vx_diskset.specs.declared.over_set.OverSite.{OverSite}
+use Rattle.vx_diskset.specs.declared.over_set.OverSite.TheVariants.{Origin as OriginSite, Receiver as ReceiverSite, Deported as OverAway, Down as OverFell, Gone as NoOver}
 use Rattle.vx_grouped.specs.GroupSites.{GroupSiteStands, site_disks}
 use Rattle.vx_grouped.specs.declared.group_site.GroupSite.{GroupSite}
 use Rattle.vx_grouped.specs.declared.group_site.GroupSite.TheVariants.{Up as GroupUp, Deported as GroupAway, Down as GroupDown, Marked, Gone as GroupGone}
-use Rattle.vx_untold.specs.Shades.{shade_rack}
+use Rattle.vx_untold.specs.Shades.{shade_rack, shade_meaning}
 use Rattle.vx_diskset.proofs.KeepsFailing.{Same, same_on}
+use Rattle.vx_untold.specs.declared.shade.Shade.{Shade}
 
 -- ---- which disks are made to fail is seen by no test
 
@@ -91,6 +95,16 @@ module _ {R : Type 0} {g : Ghosts R} where
   site_told racks n (Marked rack) h = ((racks rack).told, (racks rack).is)
   site_told racks n GroupGone h = absurd h
 
+  shade_told : ((r : R) → IsRack (g.meaning r)) → (s : Shade R) → (d : Disks) × ((shade_meaning g.meaning s).disks ≡ Some d)
+  shade_told racks s = let rack = shade_rack g.meaning racks s in (rack.told, rack.is)
+
+  over_told : ((r : R) → IsRack (g.meaning r)) → (beside : KeptBeside) (n : Node) (s : OverSite R g) → OverStands beside n s → (d : Disks) × ((site_disks (below_site s)).disks ≡ Some d)
+  over_told racks beside n (OriginSite f) h = shade_told racks f.laid.shelf
+  over_told racks beside n (ReceiverSite f) h = shade_told racks f.laid.shelf
+  over_told racks beside n (OverAway idle) h = shade_told racks idle.rack
+  over_told racks beside n (OverFell idle) h = shade_told racks idle.rack
+  over_told racks beside n NoOver h = absurd h
+
   pub told_disks : ((r : R) → IsRack (g.meaning r)) → (beside : KeptBeside) (n : Node) (e : DiskSet R g) → SiteStands beside n e → (d : Disks) × (disks_told e ≡ Some d)
   told_disks racks beside n (Bare rack) h = ((racks rack).told, (racks rack).is)
   told_disks racks beside n (Spoiled rack) h = ((racks rack).told, (racks rack).is)
@@ -98,4 +112,5 @@ module _ {R : Type 0} {g : Ghosts R} where
   told_disks racks beside n (Receives s) h = ((racks s.rvg.shelf).told, (racks s.rvg.shelf).is)
   told_disks racks beside n (Down rack) h = ((racks rack).told, (racks rack).is)
   told_disks racks beside n (OfGroup s) h = site_told racks n s.site h.stands
+  told_disks racks beside n (Over s) h = over_told racks beside n s.site h.1
   told_disks racks beside n Gone h = absurd h

@@ -10,10 +10,14 @@ use Rattle.vx_model.specs.declared.call.Update.{Update}
 use Rattle.vx_model.specs.Content.{Content, Write, fold_writes}
 use Rattle.vx_disk.specs.Shelf.{Meaning, Lawful}
 use Rattle.vx_disk.specs.declared.shelf.Shelf.{Ghosts}
-use Rattle.vx_diskset.specs.Lasts.{FoundWith}
+use Rattle.vx_diskset.specs.Lasts.{FoundWith, LeftWith}
 use Rattle.vx_rvg.specs.Views.{Core}
 use Rattle.vx_diskset.specs.declared.disk_set.DiskSet.{DiskSet}
-use Rattle.vx_diskset.specs.declared.disk_set.DiskSet.TheVariants.{Bare, Spoiled, Up, Receives, Down, OfGroup, Gone}
+use Rattle.vx_diskset.specs.declared.disk_set.DiskSet.TheVariants.{Bare, Spoiled, Up, Receives, Down, OfGroup, Over, Gone}
+use Rattle.vx_diskset.specs.Aboves.{below_site, site_in}
+use Rattle.vx_diskset.specs.declared.over_set.OverSite.{OverSite}
+use Rattle.vx_diskset.specs.declared.over_set.OverSite.TheVariants.{Origin as OverOrigin, Receiver as OverReceiver, Deported as OverAway, Down as OverFell, Gone as NoOver}
+use Rattle.vx_diskset.proofs.GroupStands.{none_apart}
 use Rattle.vx_diskset.specs.Holds.{KeptBeside, HoldsSite, most_header, state_with, beside_of}
 use Rattle.vx_history.specs.Doubts.{Doubted}
 use Rattle.vx_yard.specs.Holds.{GroupsHold, HoldsGroup, RacksHold, RacksTell, rack_count, rack_faults}
@@ -30,13 +34,16 @@ use Rattle.vx_grouped.specs.declared.group_site.GroupSite.{GroupSite}
 use Rattle.vx_grouped.specs.declared.group_site.GroupSite.TheVariants.{Up as GroupUp, Deported as GroupAway, Down as GroupDown, Marked, Gone as GroupGone}
 use Rattle.vx_history.specs.Groups.{GroupNode}
 use Rattle.vx_events.specs.GroupLines.{is_over_group}
+use Rattle.vx_diskset.specs.Stands.{IsGroupSet, IsUnused, IsBareAt, IsUpAt, IsReceiverAt, IsDownAt, IsRackTold, OverStands, SiteStands}
 use Rattle.vx_events.proofs.Places.{some_same}
-use Rattle.vx_diskset.specs.Stands.{IsGroupSet, IsUnfitted, IsUnused, IsBareAt, IsUpAt, IsReceiverAt, IsDownAt, IsToldAt, SiteStands}
+use Rattle.vx_diskset.specs.Stands.{IsUnfitted}
 use Rattle.vx_yard.specs.Standing.{SitesAgree}
 use Rattle.vx_diskset.proofs.CrashGroup.{left_with}
 use Rattle.vx_diskset.proofs.StaysUp.{all_taken, durable_content, told_now}
 use Rattle.std.proofs.lemmas.Bool.{cases_lt}
 use Rattle.std.proofs.Common.{⊎_elim}
+use Rattle.vx_diskset.proofs.Laying.{units_raw}
+use Rattle.vx_model.specs.declared.units.Units.{Units}
 
 never_both : {x : SiteState} → x ≡ IsUp → x ≡ IsDown → ⊥
 never_both a b = let e : IsUp ≡ IsDown = sym a ∙ b in cc
@@ -59,7 +66,8 @@ down_holds {beside} n m lawful is = record {
     most = omega (arith, is.logged);
     found = subst (λ (xs : List Write). FoundWith (units_of n) n.ring (state_with n beside.links) n.session (most_header beside n) i xs (fold_writes n.base (drop n.safe (take n.safe n.log)))) (all_taken n is.logged)
         (subst (λ (c : Content). FoundWith (units_of n) n.ring (state_with n beside.links) n.session (most_header beside n) i n.log c) (durable_content n)
-        (left_with (units_of n) n.ring (state_with n beside.links) n.session (most_header beside n) n.log n.base m i lawful now (is.left (told_now m i lawful now))));
+        (left_with (units_of n) n.ring (state_with n beside.links) n.session (most_header beside n) n.log n.base m i lawful now
+        (subst (λ (u : Units). LeftWith u n.ring (state_with n beside.links) n.session (most_header beside n) n.log n.base m) (sym (units_raw n is.raw)) (is.left (told_now m i lawful now)))));
   });
 }
 
@@ -189,6 +197,7 @@ module _ {R : Type 0} {g : Ghosts R} where
   rack_of (Receives s) = Some s.rvg.shelf
   rack_of (Down rack) = Some rack
   rack_of (OfGroup s) = rack_at s.site
+  rack_of (Over s) = rack_at (site_in s)
   rack_of Gone = None
 
   abbrev IsThere : DiskSet R g → Type 0
@@ -198,6 +207,7 @@ module _ {R : Type 0} {g : Ghosts R} where
   IsThere (Receives s) = Unit {0}
   IsThere (Down rack) = Unit {0}
   IsThere (OfGroup s) = IsAt s.site
+  IsThere (Over s) = IsAt (site_in s)
   IsThere Gone = ⊥
 
   abbrev AllThere : List (DiskSet R g) → Type 0
@@ -216,6 +226,7 @@ module _ {R : Type 0} {g : Ghosts R} where
   slice_get-racks_in (Receives s ∷ es) all zero = refl
   slice_get-racks_in (Down rack ∷ es) all zero = refl
   slice_get-racks_in (OfGroup s ∷ es) all zero = first_at s.site (racks_in es) all.0
+  slice_get-racks_in (Over s ∷ es) all zero = first_at (site_in s) (racks_in es) all.0
   slice_get-racks_in (Gone ∷ es) all zero = absurd all.0
   slice_get-racks_in (Bare rack ∷ es) all (suc s) = slice_get-racks_in es all.1 s
   slice_get-racks_in (Spoiled rack ∷ es) all (suc s) = slice_get-racks_in es all.1 s
@@ -223,6 +234,7 @@ module _ {R : Type 0} {g : Ghosts R} where
   slice_get-racks_in (Receives site ∷ es) all (suc s) = slice_get-racks_in es all.1 s
   slice_get-racks_in (Down rack ∷ es) all (suc s) = slice_get-racks_in es all.1 s
   slice_get-racks_in (OfGroup set ∷ es) all (suc s) = more_at set.site (racks_in es) s all.0 ∙ slice_get-racks_in es all.1 s
+  slice_get-racks_in (Over set ∷ es) all (suc s) = more_at (site_in set) (racks_in es) s all.0 ∙ slice_get-racks_in es all.1 s
   slice_get-racks_in (Gone ∷ es) all (suc s) = absurd all.0
 
   length-racks_in : (es : List (DiskSet R g)) → AllThere es → length (racks_in es) ≡ length es
@@ -233,6 +245,7 @@ module _ {R : Type 0} {g : Ghosts R} where
   length-racks_in (Receives s ∷ es) all = ap suc (length-racks_in es all.1)
   length-racks_in (Down rack ∷ es) all = ap suc (length-racks_in es all.1)
   length-racks_in (OfGroup s ∷ es) all = long_at s.site (racks_in es) all.0 ∙ ap suc (length-racks_in es all.1)
+  length-racks_in (Over s ∷ es) all = long_at (site_in s) (racks_in es) all.0 ∙ ap suc (length-racks_in es all.1)
   length-racks_in (Gone ∷ es) all = absurd all.0
 
   unused_there : (e : DiskSet R g) → IsUnused e → IsThere e
@@ -242,6 +255,7 @@ module _ {R : Type 0} {g : Ghosts R} where
   unused_there (Receives s) h = tt
   unused_there (Down rack) h = tt
   unused_there (OfGroup s) h = absurd h
+  unused_there (Over s) h = absurd h
   unused_there Gone h = h
 
   counts_as : (x : Option (DiskSet R g)) (d : ℕ) → rack_count g.meaning (option_and_then rack_of x) d ≡ fault_count x d
@@ -252,6 +266,7 @@ module _ {R : Type 0} {g : Ghosts R} where
   counts_as (Some (Receives s)) d = refl
   counts_as (Some (Down rack)) d = refl
   counts_as (Some (OfGroup s)) d = count_at s.site d
+  counts_as (Some (Over s)) d = count_at (site_in s) d
   counts_as (Some Gone) d = refl
 
   -- the rack of a number that no site has
@@ -263,24 +278,42 @@ module _ {R : Type 0} {g : Ghosts R} where
   unused_holds (Some (Receives s)) r unused is = absurd (unused (Receives s) refl)
   unused_holds (Some (Down rack)) r unused is = absurd (unused (Down rack) refl)
   unused_holds (Some (OfGroup s)) r unused is = absurd (unused (OfGroup s) refl)
+  unused_holds (Some (Over s)) r unused is = absurd (unused (Over s) refl)
   unused_holds (Some Gone) r unused is = absurd (unused Gone refl)
 
-  unused_tells : (e : DiskSet R g) → IsUnused e → ((r : R) → rack_of e ≡ Some r → IsTrue (g.meaning r).tells) → IsToldAt e
+  unused_tells : (e : DiskSet R g) → IsUnused e → ((r : R) → rack_of e ≡ Some r → IsTrue (g.meaning r).tells) → IsRackTold e
   unused_tells (Bare rack) there f = f rack refl
   unused_tells (Spoiled rack) there f = absurd there
   unused_tells (Up rvg) there f = absurd there
   unused_tells (Receives s) there f = absurd there
   unused_tells (Down rack) there f = absurd there
   unused_tells (OfGroup s) there f = absurd there
+  unused_tells (Over s) there f = absurd there
   unused_tells Gone there f = absurd there
 
-  tells_at : (beside : KeptBeside) (n : Node) (e : DiskSet R g) → SiteStands beside n e → ((r : R) → rack_of e ≡ Some r → IsTrue (g.meaning r).tells) → IsToldAt e
+  -- those below a replicated volume group
+  over_there : (beside : KeptBeside) (n : Node) (s : OverSite R g) → OverStands beside n s → IsAt (below_site s)
+  over_there beside n (OverOrigin f) it = tt
+  over_there beside n (OverReceiver f) it = tt
+  over_there beside n (OverAway idle) it = tt
+  over_there beside n (OverFell idle) it = tt
+  over_there beside n NoOver it = it
+
+  below_at : (s : GroupSite R g) → IsAt s → ((r : R) → rack_at s ≡ Some r → IsTrue (g.meaning r).tells) → IsTrue (site_below s).tells
+  below_at (GroupUp laid) it f = f (shaded laid.shelf) refl
+  below_at (GroupAway idle) it f = f (shaded idle.rack) refl
+  below_at (GroupDown idle) it f = f (shaded idle.rack) refl
+  below_at (Marked rack) it f = f rack refl
+  below_at GroupGone it f = absurd it
+
+  tells_at : (beside : KeptBeside) (n : Node) (e : DiskSet R g) → SiteStands beside n e → ((r : R) → rack_of e ≡ Some r → IsTrue (g.meaning r).tells) → IsRackTold e
   tells_at beside n (Bare rack) there f = f rack refl
   tells_at beside n (Spoiled rack) there f = f rack refl
   tells_at beside n (Up rvg) there f = f rvg.shelf refl
   tells_at beside n (Receives s) there f = f s.rvg.shelf refl
   tells_at beside n (Down rack) there f = f rack refl
   tells_at beside n (OfGroup s) there f = told_at n s.site there.stands f
+  tells_at beside n (Over s) there f = below_at (site_in s) (over_there beside n s.site there.1) f
   tells_at beside n Gone there f = absurd there
 
   -- ---- sites that may keep links and be in doubt
@@ -292,42 +325,44 @@ module _ {R : Type 0} {g : Ghosts R} where
   stood_there beside n (Receives s) h = tt
   stood_there beside n (Down rack) h = tt
   stood_there beside n (OfGroup s) h = stood_at n s.site h.stands
+  stood_there beside n (Over s) h = over_there beside n s.site h.1
   stood_there beside n Gone h = h
 
   agree_there : (d : Doubted) (es : List (DiskSet R g)) → SitesAgree d es → (s : ℕ) (e : DiskSet R g) → slice_get es s ≡ Some e → IsThere e
   agree_there d es agree s e at =
       ⊎_elim (λ below. stood_there (beside_of d s) (d.world.nodes s) e (agree.sites s e below at)) (λ past. unused_there e (agree.others s e past at)) (cases_lt s d.world.sites)
 
-  beside_holds : (lawful : (r : R) → Lawful (g.meaning r)) (beside : KeptBeside) (n : Node) (x : Option (DiskSet R g)) (r : R) → is_over_group n ≡ false → ((e : DiskSet R g) → x ≡ Some e → SiteStands beside n e) → option_and_then rack_of x ≡ Some r → HoldsSite beside n (g.meaning r)
-  beside_holds lawful beside n None r apart stands is = absurd (cc)
-  beside_holds lawful beside n (Some (Bare rack)) r apart stands is =
+  beside_holds : (lawful : (r : R) → Lawful (g.meaning r)) (beside : KeptBeside) (n : Node) (x : Option (DiskSet R g)) (r : R) → n.group ≡ None → ((e : DiskSet R g) → x ≡ Some e → SiteStands beside n e) → option_and_then rack_of x ≡ Some r → HoldsSite beside n (g.meaning r)
+  beside_holds lawful beside n None r none stands is = absurd (cc)
+  beside_holds lawful beside n (Some (Bare rack)) r none stands is =
       subst (λ (k : R). HoldsSite beside n (g.meaning k)) (some_same is) (bare_holds n (g.meaning rack) (stands (Bare rack) refl).bare)
-  beside_holds lawful beside n (Some (Spoiled rack)) r apart stands is =
+  beside_holds lawful beside n (Some (Spoiled rack)) r none stands is =
       subst (λ (k : R). HoldsSite beside n (g.meaning k)) (some_same is) (bare_holds n (g.meaning rack) (stands (Spoiled rack) refl))
-  beside_holds lawful beside n (Some (Up rvg)) r apart stands is =
-      subst (λ (k : R). HoldsSite beside n (g.meaning k)) (some_same is) (up_holds n rvg.core (g.meaning rvg.shelf) (stands (Up rvg) refl))
-  beside_holds lawful beside n (Some (Receives s)) r apart stands is =
-      subst (λ (k : R). HoldsSite beside n (g.meaning k)) (some_same is) (receiver_holds n s.rvg.core s.waiting (g.meaning s.rvg.shelf) (stands (Receives s) refl))
-  beside_holds lawful beside n (Some (Down rack)) r apart stands is =
+  beside_holds lawful beside n (Some (Up rvg)) r none stands is =
+      subst (λ (k : R). HoldsSite beside n (g.meaning k)) (some_same is) (up_holds n rvg.core (g.meaning rvg.shelf) (stands (Up rvg) refl).1)
+  beside_holds lawful beside n (Some (Receives s)) r none stands is =
+      subst (λ (k : R). HoldsSite beside n (g.meaning k)) (some_same is) (receiver_holds n s.rvg.core s.waiting (g.meaning s.rvg.shelf) (stands (Receives s) refl).1)
+  beside_holds lawful beside n (Some (Down rack)) r none stands is =
       subst (λ (k : R). HoldsSite beside n (g.meaning k)) (some_same is) (down_holds n (g.meaning rack) (lawful rack) (stands (Down rack) refl))
-  beside_holds lawful beside n (Some (OfGroup s)) r apart stands is =
-      bare_has {beside = beside} n (g.meaning r) (apart_bare beside n s (stands (OfGroup s) refl) apart)
-  beside_holds lawful beside n (Some Gone) r apart stands is = absurd (cc)
+  beside_holds lawful beside n (Some (OfGroup s)) r none stands is =
+      bare_has {beside = beside} n (g.meaning r) (apart_bare beside n s (stands (OfGroup s) refl) (none_apart n none))
+  beside_holds lawful beside n (Some (Over s)) r none stands is = absurd ((stands (Over s) refl).0.0 none)
+  beside_holds lawful beside n (Some Gone) r none stands is = absurd (cc)
 
-  beside_group : (lawful : (r : R) → Lawful (g.meaning r)) (beside : KeptBeside) (n : Node) (x : Option (DiskSet R g)) (r : R) (note : GroupNode) → is_over_group n ≡ true → n.group ≡ Some note → note.dark ≡ false → ((e : DiskSet R g) → x ≡ Some e → IsToldAt e)
+  beside_group : (lawful : (r : R) → Lawful (g.meaning r)) (beside : KeptBeside) (n : Node) (x : Option (DiskSet R g)) (r : R) (note : GroupNode) → is_over_group n ≡ true → n.group ≡ Some note → note.dark ≡ false → ((e : DiskSet R g) → x ≡ Some e → IsRackTold e)
       → ((e : DiskSet R g) → x ≡ Some e → SiteStands beside n e) → option_and_then rack_of x ≡ Some r → HoldsGroup note (g.meaning r)
   beside_group lawful beside n None r note over noted bright told stands is = absurd (cc)
   beside_group lawful beside n (Some e) r note over noted bright told stands is =
       let of = over_is beside n e (stands e refl) over in
       let it : IsGroupSet beside n of.0 = subst (λ (k : DiskSet R g). SiteStands beside n k) of.1 (stands e refl) in
-      subst (λ (m : Meaning). HoldsGroup note m) (disks_at of.0.site r (lit_at n of.0.site note it.stands (λ bare. both_ways over (bare_apart n (it.bare bare))) noted bright (subst (λ (k : DiskSet R g). IsToldAt k) of.1 (told e refl))) (ap (λ (k : DiskSet R g). rack_of k) (sym of.1) ∙ is)) (set_holds lawful beside n of.0 note it over noted bright)
+      subst (λ (m : Meaning). HoldsGroup note m) (disks_at of.0.site r (lit_at n of.0.site note it.stands (λ bare. both_ways over (bare_apart n (it.bare bare))) noted bright (subst (λ (k : DiskSet R g). IsRackTold k) of.1 (told e refl))) (ap (λ (k : DiskSet R g). rack_of k) (sym of.1) ∙ is)) (set_holds lawful beside n of.0 note it over noted bright)
 
   pub racks_keep : (lawful : (r : R) → Lawful (g.meaning r)) (d : Doubted) (es : List (DiskSet R g)) → SitesAgree d es → RacksHold g.meaning d (racks_in es)
   racks_keep lawful d es agree =
       let there = all_there es (agree_there d es agree) in
       record {
         eight = length-racks_in es there ∙ agree.eight;
-        each = λ s r below apart at. beside_holds lawful (beside_of d s) (d.world.nodes s) (slice_get es s) r apart (λ e is. agree.sites s e below is) (sym (slice_get-racks_in es there s) ∙ at);
+        each = λ s r below none at. beside_holds lawful (beside_of d s) (d.world.nodes s) (slice_get es s) r none (λ e is. agree.sites s e below is) (sym (slice_get-racks_in es there s) ∙ at);
         others = λ s r past at. unused_holds (slice_get es s) r (λ e is. agree.others s e past is) (sym (slice_get-racks_in es there s) ∙ at);
       }
 
@@ -348,7 +383,7 @@ module _ {R : Type 0} {g : Ghosts R} where
       found : (s : ℕ) (e : DiskSet R g) → slice_get es s ≡ Some e → (r : R) → rack_of e ≡ Some r → IsTrue (g.meaning r).tells
       found s e at r is = tell.each s r (slice_get-racks_in es (all_there es (agree_there d es agree)) s ∙ ap (λ (x : Option (DiskSet R g)). option_and_then rack_of x) at ∙ is)
 
-      each : (s : ℕ) (e : DiskSet R g) → slice_get es s ≡ Some e → IsToldAt e
+      each : (s : ℕ) (e : DiskSet R g) → slice_get es s ≡ Some e → IsRackTold e
       each s e at = ⊎_elim
           (λ below. tells_at (beside_of d s) (d.world.nodes s) e (agree.sites s e below at) (found s e at))
           (λ past. unused_tells e (agree.others s e past at) (found s e at))
@@ -362,6 +397,7 @@ module _ {R : Type 0} {g : Ghosts R} where
   rack_few (Receives s) = omega arith
   rack_few (Down rack) = omega arith
   rack_few (OfGroup s) = few_at s.site
+  rack_few (Over s) = few_at (site_in s)
   rack_few Gone = omega arith
 
   -- all were given back

@@ -14,7 +14,7 @@ use Rattle.vx_disk.specs.declared.shelf.Shelf.{Ghosts}
 use Rattle.vx_order.specs.declared.facts.SiteFacts.{SiteFacts}
 use Rattle.vx_order.specs.declared.facts.VolumeFacts.{VolumeFacts}
 use Rattle.vx_diskset.specs.Holds.{KeptBeside, beside_of}
-use Rattle.vx_diskset.specs.Layouts.{LiesOn}
+use Rattle.vx_diskset.specs.Layouts.{LiesRaw}
 use Rattle.vx_diskset.specs.Stands.{SiteStands, bare_with}
 use Rattle.vx_diskset.specs.declared.disk_set.DiskSet.{DiskSet}
 use Rattle.vx_diskset.specs.declared.disk_set.DiskSet.TheVariants.{Bare, Spoiled, Up, Receives, Down, OfGroup, Gone}
@@ -30,8 +30,9 @@ use Rattle.vx_yard.specs.Yards.{IsYardKept, IsShaped}
 use Rattle.vx_yard.specs.declared.yard.Yard.{Yard}
 use Rattle.vx_yard.proofs.NamedSite.{fact_of}
 use Rattle.vx_yard.proofs.NotedFew.{few_noted}
-use Rattle.vx_yard.proofs.OverGroup.{bare_apart, laid_apart, set_over}
+use Rattle.vx_yard.proofs.OverGroup.{bare_apart, many_apart, set_over}
 use Rattle.vx_yard.proofs.Rows.{fact_from, over_from}
+use Rattle.vx_diskset.proofs.Laying.{raw_in}
 
 some_at : {A : Type 0} (xs : List A) (i : ℕ) → i < length xs → (x : A) × (slice_get xs i ≡ Some x)
 some_at [] i h = absurd (omega arith)
@@ -72,8 +73,8 @@ module _ (n : Node) (row : ℕ → Link) (sites : ℕ) where
     never = λ away. absurd (let e : IsBare ≡ IsDeported = sym (ap (λ (x : Node). x.state) is) ∙ away in cc);
   })
 
-  laid_shape : (m : Meaning) → LiesOn n m → (n.state ≡ IsDeported → ⊥) → IsShaped (over_from n row sites)
-  laid_shape m lies never = apart_shape (laid_apart n m lies) (record {
+  laid_shape : (m : Meaning) → LiesRaw n m → (n.state ≡ IsDeported → ⊥) → IsShaped (over_from n row sites)
+  laid_shape m lies never = apart_shape (many_apart n lies.laid.some) (record {
     volumes = lies.laid.few;
     disks = λ bare. lies.few;
     blocks = omega (arith, lies.laid.large, lies.size 0 (omega (arith, lies.can.some)));
@@ -92,8 +93,8 @@ module _ {R : Type 0} {g : Ghosts R} where
   shape_at : (beside : KeptBeside) (n : Node) (row : ℕ → Link) (sites : ℕ) (e : DiskSet R g) → SiteStands beside n e → IsShaped (over_from n row sites)
   shape_at beside n row sites (Bare rack) h = bare_shape n row sites h.bare.is h.bare.few h.bare.some
   shape_at beside n row sites (Spoiled rack) h = bare_shape n row sites h.is h.few h.some
-  shape_at beside n row sites (Up rvg) h = laid_shape n row sites (g.meaning rvg.shelf) h.lies (λ away. let e : IsUp ≡ IsDeported = sym h.state ∙ away in cc)
-  shape_at beside n row sites (Receives s) h = laid_shape n row sites (g.meaning s.rvg.shelf) h.lies (λ away. let e : IsUp ≡ IsDeported = sym h.state ∙ away in cc)
+  shape_at beside n row sites (Up rvg) h = laid_shape n row sites (g.meaning rvg.shelf) (raw_in n (g.meaning rvg.shelf) h.0.0 h.1.lies) (λ away. let e : IsUp ≡ IsDeported = sym h.1.state ∙ away in cc)
+  shape_at beside n row sites (Receives s) h = laid_shape n row sites (g.meaning s.rvg.shelf) (raw_in n (g.meaning s.rvg.shelf) h.0.0 h.1.lies) (λ away. let e : IsUp ≡ IsDeported = sym h.1.state ∙ away in cc)
   shape_at beside n row sites (Down rack) h = laid_shape n row sites (g.meaning rack) h.lies (λ away. let e : IsDown ≡ IsDeported = sym h.state ∙ away in cc)
   shape_at beside n row sites (OfGroup s) h = ⊎_elim
       (λ (bare : n.state ≡ IsBare). bare_shape n row sites (h.bare bare) h.few h.some)

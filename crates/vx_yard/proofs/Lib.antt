@@ -24,6 +24,7 @@ pub mod NotedFew
 pub mod OfSites
 pub mod OneSite
 pub mod OverGroup
+pub mod RawSites
 pub mod RawTable
 pub mod RecoverLine
 pub mod Rows

@@ -12,9 +12,12 @@ use Rattle.vx_order.specs.declared.facts.SiteFacts.{SiteFacts}
 use Rattle.vx_diskset.specs.Asked.{FailsAs, FusedAs}
 use Rattle.vx_diskset.specs.DiskSets.{Later, RoseAt}
 use Rattle.vx_diskset.specs.Holds.{KeptBeside, KeptSite, beside_of, doubt_of, row_links}
-use Rattle.vx_diskset.specs.Stands.{KeepsRole, RoleIs, SiteStands}
+use Rattle.vx_diskset.specs.Stands.{KeepsRole, OverStands, RoleBy, RoleIs, SiteStands}
+use Rattle.vx_diskset.specs.Aboves.{above_site}
 use Rattle.vx_diskset.specs.declared.disk_set.DiskSet.{DiskSet}
-use Rattle.vx_diskset.specs.declared.disk_set.DiskSet.TheVariants.{Bare, Spoiled, Up, Receives, Down, OfGroup, Gone}
+use Rattle.vx_diskset.specs.declared.disk_set.DiskSet.TheVariants.{Bare, Spoiled, Up, Receives, Down, OfGroup, Over, Gone}
+use Rattle.vx_diskset.specs.declared.over_set.OverSite.{OverSite}
+use Rattle.vx_diskset.specs.declared.over_set.OverSite.TheVariants.{Origin as OriginSite, Receiver as ReceiverSite, Deported as OverAway, Down as OverFell, Gone as NoOver}
 use Rattle.vx_model.specs.declared.site.SiteState.TheVariants.{Up as IsUp}
 use Rattle.vx_events.specs.Effects.{ChangesNode}
 use Rattle.vx_events.specs.Facts.{values_from}
@@ -86,13 +89,21 @@ module _ {R : Type 0} {g : Ghosts R} where
   role_kept d y s before after stands below there keeps = keeps.kept (d.world.nodes s) (stands.roles.each s before below there)
 
   -- a site that is not up has no group
+  over_off : (beside : KeptBeside) (n k : Node) (s : OverSite R g) → OverStands beside n s → (n.state ≡ IsUp → ⊥) → RoleBy k (above_site s)
+  over_off beside n k (OriginSite f) stands off = absurd (off stands.state)
+  over_off beside n k (ReceiverSite f) stands off = tt
+  over_off beside n k (OverAway idle) stands off = tt
+  over_off beside n k (OverFell idle) stands off = tt
+  over_off beside n k NoOver stands off = tt
+
   pub role_off : (beside : KeptBeside) (n k : Node) (e : DiskSet R g) → SiteStands beside n e → (n.state ≡ IsUp → ⊥) → RoleIs k e
   role_off beside n k (Bare rack) stands off = tt
   role_off beside n k (Spoiled rack) stands off = tt
-  role_off beside n k (Up rvg) stands off = absurd (off stands.state)
+  role_off beside n k (Up rvg) stands off = absurd (off stands.1.state)
   role_off beside n k (Receives site) stands off = tt
   role_off beside n k (Down rack) stands off = tt
   role_off beside n k (OfGroup s) stands off = tt
+  role_off beside n k (Over s) stands off = over_off beside n k s.site stands.1 off
   role_off beside n k Gone stands off = tt
 
   -- what stands at a place, where one was changed

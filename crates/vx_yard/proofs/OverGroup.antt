@@ -1,6 +1,6 @@
 -- Which sites are over a group, as their disks stand.
-use Rattle.std.proofs.Common.{◌≡◌, ◌∙◌, ◌≤◌, ◌⊎◌, ⊎_elim, ℕ, ◌-◌, Bool, true, false, List, [], length, ap, subst, sym, refl, arith}
-use Rattle.std.specs.Prelude.{◌&&◌, eqb, Option, Some, is_some}
+use Rattle.std.proofs.Common.{◌≡◌, ◌∙◌, ◌≤◌, ◌⊎◌, ⊎_elim, ℕ, Bool, true, false, List, [], length, ap, subst, sym, refl, arith}
+use Rattle.std.specs.Prelude.{◌&&◌, eqb, not, Option, Some, None, is_some}
 use Rattle.std.proofs.lemmas.Bool.Decides.{nat_tests}
 use Rattle.vx_history.specs.Groups.{GroupNode}
 use Rattle.vx_history.specs.World.{Node, Volume}
@@ -13,15 +13,21 @@ use Rattle.vx_disk.specs.declared.shelf.Shelf.{Ghosts}
 use Rattle.vx_grouped.specs.GroupSites.{GroupSiteStands, HasNoRvg, NotesGroup}
 use Rattle.vx_grouped.specs.declared.group_site.GroupSite.{GroupSite}
 use Rattle.vx_grouped.specs.declared.group_site.GroupSite.TheVariants.{Up as GroupUp, Deported as GroupAway, Down as GroupDown, Marked, Gone as GroupGone}
+use Rattle.vx_diskset.specs.Asked.{IsRawSet}
 use Rattle.vx_diskset.specs.Holds.{KeptBeside, KeptSite}
 use Rattle.vx_diskset.specs.Layouts.{LiesOn}
-use Rattle.vx_diskset.specs.Stands.{IsGroupSet, SiteStands, bare_with}
+use Rattle.vx_diskset.specs.Stands.{IsGroupSet, OverStands, SiteStands, bare_with}
+use Rattle.vx_diskset.proofs.Laying.{laid_in}
+use Rattle.vx_ground.specs.Lifted.{laid_volumes}
 use Rattle.vx_diskset.specs.declared.disk_set.DiskSet.{DiskSet}
-use Rattle.vx_diskset.specs.declared.disk_set.DiskSet.TheVariants.{Bare, Spoiled, Up, Receives, Down, OfGroup, Gone}
+use Rattle.vx_diskset.specs.declared.disk_set.DiskSet.TheVariants.{Bare, Spoiled, Up, Receives, Down, OfGroup, Over, Gone}
+use Rattle.vx_diskset.specs.declared.over_set.OverSet.{OverSet}
+use Rattle.vx_diskset.specs.declared.over_set.OverSite.{OverSite}
+use Rattle.vx_diskset.specs.declared.over_set.OverSite.TheVariants.{Origin as OriginSite, Receiver as ReceiverSite, Deported as OverAway, Down as OverFell, Gone as NoOver}
 use Rattle.vx_diskset.specs.declared.group_set.GroupSet.{GroupSet}
 use Rattle.vx_events.proofs.Places.{never_some}
-use Rattle.vx_events.proofs.Values.{length-values_from}
 use Rattle.vx_events.specs.GroupLines.{is_over_group}
+use Rattle.vx_events.specs.RvgViews.{is_over_rvg}
 
 -- a site that notes a group is over it
 pub noted_over : (n : Node) (note : GroupNode) → NotesGroup n note → is_over_group n ≡ true
@@ -40,14 +46,42 @@ some_apart k true some = not_zero k some
 some_apart k false some = refl
 
 laid_many : (n : Node) (m : Meaning) → LiesOn n m → 1 ≤ length n.volumes
-laid_many n m lies = let many : length n.volumes ≡ n.disks - 2 = sym lies.laid.count ∙ length-values_from (λ k. k) 1 (n.disks - 2) in omega (arith, many, lies.can.some)
+laid_many n m lies = (laid_in n m lies).some
+
+pub many_apart : (n : Node) → 1 ≤ length n.volumes → is_over_group n ≡ false
+many_apart n some = some_apart (length n.volumes) (is_some n.group) some
+
+many_some : (n : Node) → 1 ≤ length n.volumes → n.volumes ≡ [] → ⊥
+many_some n some none = omega (arith, some, ap (λ (vs : List Volume). length vs) none)
 
 -- nor one with a raw set
 pub laid_apart : (n : Node) (m : Meaning) → LiesOn n m → is_over_group n ≡ false
-laid_apart n m lies = some_apart (length n.volumes) (is_some n.group) (laid_many n m lies)
+laid_apart n m lies = many_apart n (laid_many n m lies)
 
 laid_some : (n : Node) (m : Meaning) → LiesOn n m → n.volumes ≡ [] → ⊥
-laid_some n m lies none = omega (arith, laid_many n m lies, ap (λ (vs : List Volume). length vs) none)
+laid_some n m lies none = many_some n (laid_many n m lies) none
+
+-- a site over a group with a replicated volume group, and one that notes no group
+some_group : (o : Option GroupNode) → (o ≡ None → ⊥) → is_some o ≡ true
+some_group None some = absurd (some refl)
+some_group (Some note) some = refl
+
+with_data : (o : Option GroupNode) (k : ℕ) → is_some o ≡ true → 1 ≤ k → (is_some o && not (eqb k 0)) ≡ true
+with_data o k grouped some = ap (λ (b : Bool). b && not (eqb k 0)) grouped ∙ ap not (not_zero k some)
+
+no_group : (o : Option GroupNode) (b : Bool) → (is_some o && b) ≡ false → (is_some o && not b) ≡ false → o ≡ None
+no_group None b plain rvg = refl
+no_group (Some note) true plain rvg = absurd (let e : true ≡ false = plain in cc)
+no_group (Some note) false plain rvg = absurd (let e : true ≡ false = rvg in cc)
+
+pub none_noted : (n : Node) → is_over_group n ≡ false → is_over_rvg n ≡ false → n.group ≡ None
+none_noted n plain rvg = no_group n.group (eqb (length n.volumes) 0) plain rvg
+
+pub none_over : (n : Node) → n.group ≡ None → is_over_group n ≡ false
+none_over n none = ap (λ (o : Option GroupNode). is_some o && eqb (length n.volumes) 0) none
+
+pub none_rvg : (n : Node) → n.group ≡ None → is_over_rvg n ≡ false
+none_rvg n none = ap (λ (o : Option GroupNode). is_some o && not (eqb (length n.volumes) 0)) none
 
 pub both_ways : {b : Bool} → b ≡ true → b ≡ false → ⊥
 both_ways over apart = let e : true ≡ false = sym over ∙ apart in cc
@@ -79,13 +113,26 @@ module _ {R : Type 0} {g : Ghosts R} where
   pub apart_bare : (beside : KeptBeside) (n : Node) (s : GroupSet R g) → IsGroupSet beside n s → is_over_group n ≡ false → n.state ≡ IsBare
   apart_bare beside n s it apart = ⊎_elim (λ (bare : n.state ≡ IsBare). bare) (λ made. absurd (both_ways (set_over beside n s it made) apart)) (bare_or_made n.state)
 
+  -- one with a replicated volume group over its group has a volume of that
+  over_many : (beside : KeptBeside) (n : Node) (s : OverSite R g) → OverStands beside n s → 1 ≤ length n.volumes
+  over_many beside n (OriginSite f) it = laid_many n (laid_volumes f.laid) it.lies
+  over_many beside n (ReceiverSite f) it = laid_many n (laid_volumes f.laid) it.lies
+  over_many beside n (OverAway idle) it = it.1.lies.some
+  over_many beside n (OverFell idle) it = it.2.lies.some
+  over_many beside n NoOver it = absurd it
+
+  -- and notes the group
+  pub over_rvg : (beside : KeptBeside) (n : Node) (s : OverSet R g) → SiteStands beside n (Over s) → is_over_rvg n ≡ true
+  over_rvg beside n s it = with_data n.group (length n.volumes) (some_group n.group it.0.0) (over_many beside n s.site it.1)
+
   -- other disks are those of a site over no group
   pub raw_apart : (beside : KeptBeside) (n : Node) (e : DiskSet R g) → SiteStands beside n e → ((s : GroupSet R g) → e ≡ OfGroup s → ⊥) → is_over_group n ≡ false
   raw_apart beside n (Bare rack) it other = bare_apart n it.bare.is
   raw_apart beside n (Spoiled rack) it other = bare_apart n it.is
-  raw_apart beside n (Up rvg) it other = laid_apart n (g.meaning rvg.shelf) it.lies
-  raw_apart beside n (Receives s) it other = laid_apart n (g.meaning s.rvg.shelf) it.lies
-  raw_apart beside n (Down rack) it other = laid_apart n (g.meaning rack) it.lies
+  raw_apart beside n (Up rvg) it other = laid_apart n (g.meaning rvg.shelf) it.1.lies
+  raw_apart beside n (Receives s) it other = laid_apart n (g.meaning s.rvg.shelf) it.1.lies
+  raw_apart beside n (Down rack) it other = many_apart n it.lies.laid.some
+  raw_apart beside n (Over s) it other = many_apart n (over_many beside n s.site it.1)
   raw_apart beside n (OfGroup s) it other = absurd (other s refl)
   raw_apart beside n Gone it other = absurd it
 
@@ -93,11 +140,23 @@ module _ {R : Type 0} {g : Ghosts R} where
   pub over_is : (beside : KeptBeside) (n : Node) (e : DiskSet R g) → SiteStands beside n e → is_over_group n ≡ true → (s : GroupSet R g) × (e ≡ OfGroup s)
   over_is beside n (Bare rack) it over = absurd (both_ways over (bare_apart n it.bare.is))
   over_is beside n (Spoiled rack) it over = absurd (both_ways over (bare_apart n it.is))
-  over_is beside n (Up rvg) it over = absurd (both_ways over (laid_apart n (g.meaning rvg.shelf) it.lies))
-  over_is beside n (Receives s) it over = absurd (both_ways over (laid_apart n (g.meaning s.rvg.shelf) it.lies))
-  over_is beside n (Down rack) it over = absurd (both_ways over (laid_apart n (g.meaning rack) it.lies))
+  over_is beside n (Up rvg) it over = absurd (both_ways over (laid_apart n (g.meaning rvg.shelf) it.1.lies))
+  over_is beside n (Receives s) it over = absurd (both_ways over (laid_apart n (g.meaning s.rvg.shelf) it.1.lies))
+  over_is beside n (Down rack) it over = absurd (both_ways over (many_apart n it.lies.laid.some))
+  over_is beside n (Over s) it over = absurd (both_ways over (many_apart n (over_many beside n s.site it.1)))
   over_is beside n (OfGroup s) it over = (s, refl)
   over_is beside n Gone it over = absurd it
+
+  -- the disks of a site that notes no group, or at least is over none with a replicated volume group
+  pub raw_set : (beside : KeptBeside) (n : Node) (e : DiskSet R g) → SiteStands beside n e → is_over_rvg n ≡ false → IsRawSet e
+  raw_set beside n (Bare rack) it off = tt
+  raw_set beside n (Spoiled rack) it off = tt
+  raw_set beside n (Up rvg) it off = tt
+  raw_set beside n (Receives s) it off = tt
+  raw_set beside n (Down rack) it off = tt
+  raw_set beside n (OfGroup s) it off = tt
+  raw_set beside n (Over s) it off = absurd (both_ways (over_rvg beside n s it) off)
+  raw_set beside n Gone it off = tt
 
   -- and such a site has no replicated volume group
   pub over_none : (beside : KeptBeside) (n : Node) (e : DiskSet R g) → SiteStands beside n e → is_over_group n ≡ true → HasNoRvg n
@@ -118,8 +177,9 @@ module _ {R : Type 0} {g : Ghosts R} where
   pub doubt_apart : (beside : KeptBeside) (n : Node) (e : DiskSet R g) (k : KeptSite) → SiteStands beside n e → n.state ≡ IsUp → beside.doubt ≡ Some k → n.volumes ≡ [] → ⊥
   doubt_apart beside n (Bare rack) k it up doubt none = let e : IsBare ≡ IsUp = sym (ap (λ (x : Node). x.state) it.bare.is) ∙ up in cc
   doubt_apart beside n (Spoiled rack) k it up doubt none = let e : IsBare ≡ IsUp = sym (ap (λ (x : Node). x.state) it.is) ∙ up in cc
-  doubt_apart beside n (Up rvg) k it up doubt none = laid_some n (g.meaning rvg.shelf) it.lies none
-  doubt_apart beside n (Receives s) k it up doubt none = laid_some n (g.meaning s.rvg.shelf) it.lies none
-  doubt_apart beside n (Down rack) k it up doubt none = laid_some n (g.meaning rack) it.lies none
+  doubt_apart beside n (Up rvg) k it up doubt none = laid_some n (g.meaning rvg.shelf) it.1.lies none
+  doubt_apart beside n (Receives s) k it up doubt none = laid_some n (g.meaning s.rvg.shelf) it.1.lies none
+  doubt_apart beside n (Down rack) k it up doubt none = many_some n it.lies.laid.some none
+  doubt_apart beside n (Over s) k it up doubt none = many_some n (over_many beside n s.site it.1) none
   doubt_apart beside n (OfGroup s) k it up doubt none = never_some (sym (it.sure (λ bare. let e : IsBare ≡ IsUp = sym bare ∙ up in cc)) ∙ doubt)
   doubt_apart beside n Gone k it up doubt none = it

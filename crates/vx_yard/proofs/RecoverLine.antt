@@ -7,7 +7,7 @@ use Rattle.vx_model.specs.declared.site.SiteState.TheVariants.{Bare as IsBare, U
 use Rattle.vx_disk.specs.declared.shelf.Shelf.{Ghosts}
 use Rattle.vx_order.specs.declared.facts.SiteFacts.{SiteFacts}
 use Rattle.vx_diskset.specs.declared.disk_set.DiskSet.{DiskSet}
-use Rattle.vx_diskset.specs.declared.disk_set.DiskSet.TheVariants.{Bare, Spoiled, Up, Receives, Down, OfGroup, Gone}
+use Rattle.vx_diskset.specs.declared.disk_set.DiskSet.TheVariants.{Bare, Spoiled, Up, Receives, Down, OfGroup, Over, Gone}
 use Rattle.vx_history.specs.Doubts.{Doubted}
 use Rattle.vx_history.specs.declared.event.Event.TheVariants.{Recover as RecoverAt}
 use Rattle.vx_script.specs.declared.line.ScriptLine.TheVariants.{Recover}
@@ -17,10 +17,11 @@ use Rattle.vx_events.specs.Lines.{IsDone as IsDoneLine}
 use Rattle.vx_events.specs.Lists.{crash_count, events_of, recovery_of}
 use Rattle.vx_events.specs.declared.said.Said.{Said}
 use Rattle.vx_yard.proofs.SiteEvents.{first_choice}
-use Rattle.vx_grouped.specs.GroupSites.{site_below}
+use Rattle.vx_grouped.specs.GroupSites.{site_below, site_disks}
 use Rattle.vx_events.specs.Fails.{Fails}
 use Rattle.vx_yard.specs.Stands.{RoseAll, RoseBy, times}
-use Rattle.vx_diskset.specs.Stands.{IsToldAt}
+use Rattle.vx_diskset.specs.Stands.{IsRackTold, IsToldAt}
+use Rattle.vx_diskset.specs.Aboves.{site_in}
 
 -- a session more is not seen
 pub session_fact : (n : Node) → site_fact n ≡ site_fact (record n { session = n.session + 1 })
@@ -66,4 +67,15 @@ module _ {R : Type 0} {g : Ghosts R} where
   told_or (Receives s) = true_or (g.meaning s.rvg.shelf).tells
   told_or (Down rack) = true_or (g.meaning rack).tells
   told_or (OfGroup s) = true_or (site_below s.site).tells
+  told_or (Over s) = true_or (site_disks (site_in s)).tells
   told_or Gone = inr (λ none. none)
+
+  pub rack_told_or : (e : DiskSet R g) → IsRackTold e ⊎ (IsRackTold e → ⊥)
+  rack_told_or (Bare rack) = true_or (g.meaning rack).tells
+  rack_told_or (Spoiled rack) = true_or (g.meaning rack).tells
+  rack_told_or (Up rvg) = true_or (g.meaning rvg.shelf).tells
+  rack_told_or (Receives s) = true_or (g.meaning s.rvg.shelf).tells
+  rack_told_or (Down rack) = true_or (g.meaning rack).tells
+  rack_told_or (OfGroup s) = true_or (site_below s.site).tells
+  rack_told_or (Over s) = true_or (site_below (site_in s)).tells
+  rack_told_or Gone = inr (λ none. none)

@@ -35,7 +35,7 @@ module _ {R : Type 0} (meaning : R → Meaning) where
   -- have no fuse.
   pub record RacksHold (d : Doubted) (racks : List R) : Type 0 where
     pub eight : length racks ≡ MOST_SITES
-    pub each : (s : ℕ) (r : R) → s < d.world.sites → is_over_group (d.world.nodes s) ≡ false → slice_get racks s ≡ Some r → HoldsSite (beside_of d s) (d.world.nodes s) (meaning r)
+    pub each : (s : ℕ) (r : R) → s < d.world.sites → (d.world.nodes s).group ≡ None → slice_get racks s ≡ Some r → HoldsSite (beside_of d s) (d.world.nodes s) (meaning r)
     pub others : (s : ℕ) (r : R) → d.world.sites ≤ s → slice_get racks s ≡ Some r → IsUnfitted (meaning r)
 
   -- and that of each site over a group holds the group, where it is known what its disks hold

@@ -2,8 +2,9 @@
 use Rattle.std.specs.Prelude.{List, [], ◌∷◌, ◌++◌}
 use Rattle.vx_disk.specs.declared.shelf.Shelf.{Ghosts}
 use Rattle.vx_diskset.specs.declared.disk_set.DiskSet.{DiskSet}
-use Rattle.vx_diskset.specs.declared.disk_set.DiskSet.TheVariants.{Bare, Spoiled, Up, Receives, Down, OfGroup, Gone}
+use Rattle.vx_diskset.specs.declared.disk_set.DiskSet.TheVariants.{Bare, Spoiled, Up, Receives, Down, OfGroup, Over, Gone}
 use Rattle.vx_untold.specs.Shades.{rack_of}
+use Rattle.vx_diskset.specs.Aboves.{site_in}
 use Rattle.vx_grouped.specs.declared.group_site.GroupSite.{GroupSite}
 use Rattle.vx_grouped.specs.declared.group_site.GroupSite.TheVariants.{Up as GroupUp, Deported, Down as GroupDown, Marked, Gone as GroupGone}
 
@@ -24,6 +25,7 @@ module _ {R : Type 0} {g : Ghosts R} where
   rack_in (Receives s) = s.rvg.shelf ∷ []
   rack_in (Down rack) = rack ∷ []
   rack_in (OfGroup s) = site_rack s.site
+  rack_in (Over s) = site_rack (site_in s)
   rack_in Gone = []
 
   abbrev pub racks_in : List (DiskSet R g) → List R

@@ -14,6 +14,7 @@ use Rattle.vx_report.specs.KeptText.{kept_line}
 use Rattle.vx_report.specs.Refusals.{refusal_text}
 use Rattle.vx_report.specs.Statuses.{status_text}
 use Rattle.vx_report.specs.declared.view.Kept.{Kept}
+use Rattle.vx_report.specs.declared.view.RvgView.{RvgView}
 use Rattle.vx_report.specs.declared.view.SiteView.{SiteView}
 
 -- a line for each of so many blocks of these bytes, from block k on
@@ -30,9 +31,14 @@ abbrev pub kept_lines : Option Kept → List ℕ
 kept_lines None = []
 kept_lines (Some kept) = kept_line kept
 
--- that a site without a replicated volume group came up, the lines of its status, and what is kept of a write that its crash cut
+-- that a site over a group came up: where it has a replicated volume group, with the last number of its log
+abbrev pub came_up_text : Option RvgView → List ℕ
+came_up_text None = codes "recovered\n"
+came_up_text (Some rvg) = codes "recovered " ++ decimal rvg.head ++ 10 ∷ []
+
+-- that, the lines of its status, and what is kept of a write that its crash cut
 abbrev pub resumed_text : SiteView → Option Kept → List ℕ
-resumed_text view kept = codes "recovered\n" ++ status_text view ++ kept_lines kept
+resumed_text view kept = came_up_text view.rvg ++ status_text view ++ kept_lines kept
 
 -- a reply by itself
 abbrev pub reply_text : Said → List ℕ

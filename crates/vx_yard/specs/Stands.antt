@@ -2,7 +2,7 @@
 use Rattle.std.specs.Prelude.{◌≡◌, ℕ, ◌+◌, ◌≤◌, ◌==◌, ◌&&◌, min, List, count_by, Option, Some, None, slice_get}
 use Rattle.vx_disk.specs.declared.shelf.Shelf.{Ghosts}
 use Rattle.vx_diskset.specs.declared.disk_set.DiskSet.{DiskSet}
-use Rattle.vx_diskset.specs.Stands.{IsToldAt, faults_at}
+use Rattle.vx_diskset.specs.Stands.{IsRackTold, faults_at}
 use Rattle.vx_events.specs.Fails.{Fails}
 
 module _ {R : Type 0} {g : Ghosts R} where
@@ -15,7 +15,7 @@ module _ {R : Type 0} {g : Ghosts R} where
   site_faults disk_sets s d = fault_count (slice_get disk_sets s) d
 
   pub record AreTold (disk_sets : List (DiskSet R g)) : Type 0 where
-    pub each : (s : ℕ) (e : DiskSet R g) → slice_get disk_sets s ≡ Some e → IsToldAt e
+    pub each : (s : ℕ) (e : DiskSet R g) → slice_get disk_sets s ≡ Some e → IsRackTold e
 
 -- how often a disk of a site is named
 abbrev pub times : Fails → ℕ → ℕ → ℕ

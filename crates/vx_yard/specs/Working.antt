@@ -1,13 +1,19 @@
 -- What a line asks before it works.
-use Rattle.std.specs.Prelude.{◌≡◌, ◌⊎◌, Bool, IsSome, Option, None, false, true}
+use Rattle.std.specs.Prelude.{◌≡◌, ◌⊎◌, ℕ, Bool, IsSome, List, Option, None, false, true}
 use Rattle.vx_model.specs.declared.no.No.{No}
 use Rattle.vx_disk.specs.declared.shelf.Shelf.{Ghosts}
+use Rattle.vx_history.specs.World.{World}
 use Rattle.vx_order.specs.Order.{line_refusal}
 use Rattle.vx_order.specs.Packets.{packet_unknown}
+use Rattle.vx_events.specs.Facts.{site_number}
 use Rattle.vx_script.specs.declared.line.ScriptLine.{ScriptLine}
 use Rattle.vx_script.specs.declared.line.ScriptLine.TheVariants.{Crash, Cut, Deliver, Disk, Fuse, Pause, Put, Resume, Tick, Wait}
 use Rattle.vx_yard.specs.declared.yard.Yard.{Yard}
 use Rattle.vx_yard.specs.Yards.{in_files}
+
+-- the site of this name notes no group of disks
+abbrev pub IsUngroupedAt : World → List ℕ → Type 0
+IsUngroupedAt w name = (w.nodes (site_number w name)).group ≡ None
 
 -- whether memory may be short for a line before it is done: for these it never is
 abbrev pub takes_memory : ScriptLine → Bool

@@ -39,4 +39,25 @@ impl<R: Rack> Yard<R> {
             None => unreachable!(),
         }
     }
+
+    /// The number of the data volume that a line names at this site: its place among the data volumes of a replicated volume group over a disk
+    /// group, and its place among all where there is no disk group.
+    pub fn data_of(&self, site: usize, name: &Name) -> usize {
+        let place = self.volume_of(site, name);
+        match self.disk_sets[site].config() {
+            Some(config) => match &config.rvg {
+                Some(units) => place_in(units.vols.as_slice(), place as u32),
+                None => place,
+            },
+            None => place,
+        }
+    }
+}
+
+// The place of a unit among these.
+fn place_in(units: &[u32], unit: u32) -> usize {
+    match units.iter().position(|other| *other == unit) {
+        Some(place) => place,
+        None => 0,
+    }
 }

@@ -55,6 +55,10 @@ fn give_back<R: Rack>(racks: &mut Vec<R>, disk_set: DiskSet<R>)
         DiskSet::OfGroup(group) => {
             give_site(racks, group.site);
         }
+        DiskSet::Over(over) => {
+            let (site, _above, _cut) = over.parts();
+            give_site(racks, site);
+        }
         DiskSet::Gone => {}
     }
 }

@@ -10,6 +10,7 @@ pub fn receives<R: Rack>(disk_set: &DiskSet<R>) -> bool
 {
     match disk_set {
         DiskSet::Receives(_) => true,
+        DiskSet::Over(over) => over.receives(),
         _ => false,
     }
 }

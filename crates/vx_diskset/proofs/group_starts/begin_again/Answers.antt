@@ -4,14 +4,14 @@ use Rattle.vx_watched.specs.Since.{CalledSince}
 use Rattle.vx_watched.proofs.SinceLemmas.{since_none}
 use Rattle.vx_grouped.specs.Begins.{BeginsGroup, CanBegin}
 use Rattle.vx_grouped.specs.GroupSites.{site_disks, site_below}
-use Rattle.vx_diskset.specs.GroupCalls.{AtSite}
+use Rattle.vx_diskset.specs.GroupCalls.{AtSite, AtPlain}
 use Rattle.vx_diskset.proofs.GroupBegun.{marked_only}
 use Rattle.vx_watched.specs.Traces.{TellsLess}
 use Rattle.vx_diskset.proofs.group_starts.begin_again.Goals as goal
 
 pub returns-in-Marked-clause-begun : goal.returns-in-Marked-clause-begun
 returns-in-Marked-clause-begun g c = λ n stands state can. (
-  subst (λ s. AtSite (λ e. BeginsGroup c.args.site n (site_disks s) e c.begin_on.result.1) c.begin_on.result.0) (sym c.in-Marked.is)
+  subst (λ s. AtPlain (λ e. BeginsGroup c.args.site n (site_disks s) e c.begin_on.result.1) c.begin_on.result.0) (sym c.in-Marked.is)
       (c.begin_on.ensures.begun n (subst (λ s. CanBegin n (site_disks s)) c.in-Marked.is can)),
   c.begin_on.ensures.cut,
 )

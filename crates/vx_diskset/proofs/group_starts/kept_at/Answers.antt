@@ -4,6 +4,7 @@ use Rattle.vx_watched.proofs.SinceLemmas.{since_none}
 use Rattle.vx_grouped.specs.GroupSites.{FitsPlain, site_disks}
 use Rattle.vx_grouped.specs.SiteKeeps.{PlainKept}
 use Rattle.vx_diskset.proofs.GroupRising.{looked_bits, looked_lost, looked_unread}
+use Rattle.vx_grouped.proofs.VolumeLemmas.{site_same}
 use Rattle.vx_diskset.proofs.group_starts.kept_at.Goals as goal
 
 pub returns-in-Ok-clause-looks : goal.returns-in-Ok-clause-looks
@@ -54,3 +55,12 @@ returns-in-Err-clause-maps g c = λ n note up. c.kept.ensures.maps n note up (c.
 
 pub returns-else-fits-clause-maps : goal.returns-else-fits-clause-maps
 returns-else-fits-clause-maps g c = λ n note up own it. it
+
+pub returns-in-Ok-clause-volumes : goal.returns-in-Ok-clause-volumes
+returns-in-Ok-clause-volumes g c = c.kept.ensures.volumes
+
+pub returns-in-Err-clause-volumes : goal.returns-in-Err-clause-volumes
+returns-in-Err-clause-volumes g c = c.kept.ensures.volumes
+
+pub returns-else-fits-clause-volumes : goal.returns-else-fits-clause-volumes
+returns-else-fits-clause-volumes g c = site_same c.args.site.now

@@ -5,6 +5,7 @@ use Rattle.vx_diskset.specs.Recovers.{LooksKept}
 use Rattle.vx_diskset.proofs.GroupRising.{looked_none}
 use Rattle.vx_grouped.specs.GroupSites.{site_disks}
 use Rattle.vx_watched.proofs.SinceLemmas.{since_none}
+use Rattle.vx_grouped.proofs.VolumeLemmas.{site_same}
 use Rattle.vx_diskset.proofs.group_starts.look_kept.Goals as goal
 
 pub returns-in-Some-clause-looks : goal.returns-in-Some-clause-looks
@@ -32,3 +33,9 @@ returns-in-Some-clause-maps g c = c.kept_at.ensures.maps
 
 pub returns-in-None-clause-maps : goal.returns-in-None-clause-maps
 returns-in-None-clause-maps g c = λ n note up own it. it
+
+pub returns-in-Some-clause-volumes : goal.returns-in-Some-clause-volumes
+returns-in-Some-clause-volumes g c = c.kept_at.ensures.volumes
+
+pub returns-in-None-clause-volumes : goal.returns-in-None-clause-volumes
+returns-in-None-clause-volumes g c = site_same c.args.site.now

@@ -14,24 +14,23 @@ returns-then-low-link-clause-pumped g c = λ d k up none told there is flight.
 
 pub returns-clause-pumped : goal.returns-clause-pumped
 returns-clause-pumped g c = λ d k up none told there is flight.
-    pumped_is d c.args.site c.args.rvg.now.core (g.R.Shelf.meaning c.args.rvg.now.shelf) (g.R.Shelf.meaning c.pump.new.rvg.shelf) c.args.link.now c.pump.new.link (g.N.Net.flying c.args.flight.now) (g.N.Net.flying c.pump.new.flight) c.pump.result
+    pumped_is d c.args.site c.args.rvg.now.core (g.S.Shelf.meaning c.args.rvg.now.shelf) (g.S.Shelf.meaning c.pump.new.rvg.shelf) c.args.link.now c.pump.new.link (g.N.Net.flying c.args.flight.now) (g.N.Net.flying c.pump.new.flight) c.pump.result
     up none told c.pump.ensures.down is flight c.pump.ensures.moved c.pump.ensures.cause
 
 pub returns-clause-stops : goal.returns-clause-stops
-returns-clause-stops g c = λ beside n up none.
-    pump_stops n c.args.rvg.now.core (g.R.Shelf.meaning c.args.rvg.now.shelf) (g.R.Shelf.meaning c.pump.new.rvg.shelf) c.args.link.now c.pump.result up c.args.rvg.now.sound.log_unit
-    ((g.met.R.Rack g.world.𝓛 g.world.𝓜 g.world.𝓡 ((λ s x. x), (λ x. x), (λ x. x), λ x. x)).rack c.args.rvg.now.shelf) c.pump.ensures.down c.pump.ensures.cause c.pump.ensures.asks c.pump.ensures.blames
+returns-clause-stops g c = λ beside n up none rack.
+    pump_stops n c.args.rvg.now.core (g.S.Shelf.meaning c.args.rvg.now.shelf) (g.S.Shelf.meaning c.pump.new.rvg.shelf) c.args.link.now c.pump.result up c.args.rvg.now.sound.log_unit
+    rack c.pump.ensures.down c.pump.ensures.cause c.pump.ensures.asks c.pump.ensures.blames
 
 pub returns-clause-more : goal.returns-clause-more
 returns-clause-more g c = λ beside n up.
-    pump_sends n c.args.rvg.now.core (g.R.Shelf.meaning c.args.rvg.now.shelf) c.args.site c.args.link.now (g.N.Net.flying c.args.flight.now) (g.N.Net.flying c.pump.new.flight) c.pump.result up c.pump.ensures.more
+    pump_sends n c.args.rvg.now.core (g.S.Shelf.meaning c.args.rvg.now.shelf) c.args.site c.args.link.now (g.N.Net.flying c.args.flight.now) (g.N.Net.flying c.pump.new.flight) c.pump.result up c.pump.ensures.more
 
 pub returns-clause-stands : goal.returns-clause-stands
 returns-clause-stands g c = λ beside n up.
-    let lawful = (g.met.R.Shelf g.world.𝓛 g.world.𝓜 g.world.𝓡 ((λ s x. x), (λ x. x), (λ x. x), λ x. x)).lawful in
-    let is_rack = (g.met.R.Rack g.world.𝓛 g.world.𝓜 g.world.𝓡 ((λ s x. x), (λ x. x), (λ x. x), λ x. x)).rack in
-    let old = g.R.Shelf.meaning c.args.rvg.now.shelf in
-    let new = g.R.Shelf.meaning c.pump.new.rvg.shelf in
+    let lawful = g.met.S.Shelf.lawful in
+    let old = g.S.Shelf.meaning c.args.rvg.now.shelf in
+    let new = g.S.Shelf.meaning c.pump.new.rvg.shelf in
     subst (λ (k : Core). IsUpAt beside n k new) (sym c.pump.ensures.core)
     (reads_up n c.args.rvg.now.core old new (sym up.halted ∙ sym c.in_default.ensures) up (lawful c.args.rvg.now.shelf) (lawful c.pump.new.rvg.shelf) c.args.rvg.now.sound.log_unit c.pump.ensures.goes c.pump.ensures.down
-    (fuse_untouched n.fuse old new c.pump.ensures.disks (is_rack c.args.rvg.now.shelf) (is_rack c.pump.new.rvg.shelf) up.fuse))
+    (fuse_untouched n.fuse old new c.pump.ensures.disks c.pump.ensures.goes.unarmed up.fuse))

@@ -5,8 +5,8 @@ use Rattle.std.proofs.lemmas.Result.{err_from_is_err_and}
 use Rattle.vx_model.specs.Content.{Write, blocks_in}
 use Rattle.vx_model.specs.declared.call.Update.{Update}
 use Rattle.vx_secondary.proofs.Writings.{can_parts}
-use Rattle.vx_diskset.specs.declared.disk_set.DiskSet.TheVariants.{Up}
-use Rattle.vx_diskset.specs.DiskSets.{CanLog, LoggedUp}
+use Rattle.vx_diskset.specs.DiskSets.{CanLog}
+use Rattle.vx_diskset.specs.Shelves.{LoggedAs}
 use Rattle.vx_diskset.specs.Needs.{HasRoom}
 use Rattle.vx_diskset.specs.Received.{reached}
 use Rattle.vx_diskset.specs.Stands.{IsReceiverAt}
@@ -16,37 +16,37 @@ use Rattle.vx_diskset.proofs.receivers.log_next.Goals as goal
 
 pub returns-in_err-write_group-clause-logs : goal.returns-in_err-write_group-clause-logs
 returns-in_err-write_group-clause-logs g c = λ beside n r can.
-    let lawful = (g.met.R.Shelf g.world.𝓛 g.world.𝓜 g.world.𝓡 ((λ s x. x), (λ x. x), (λ x. x), λ x. x)).lawful in
+    let lawful = g.met.S.Shelf.lawful in
     let u = (let v : Update = c.in-Some.update.now in v) in
     let front = front_is c.args.waiting.now u c.in-Some.ensures in
-    let able = can_next n c.args.rvg.now.core c.args.waiting.now _ u (g.R.Shelf.meaning c.args.rvg.now.shelf) r can front c.requires.waits in
-    let up = receiver_up n c.args.rvg.now.core c.args.waiting.now (g.R.Shelf.meaning c.args.rvg.now.shelf) r can.running (lawful c.args.rvg.now.shelf) c.args.rvg.now.sound.log_unit in
-    let room = room_next n c.args.rvg.now.core c.args.waiting.now _ u (g.R.Shelf.meaning c.args.rvg.now.shelf) r can front able c.head-last.result c.head-last.ensures in
+    let able = can_next n c.args.rvg.now.core c.args.waiting.now _ u (g.S.Shelf.meaning c.args.rvg.now.shelf) r can front c.requires.waits in
+    let up = receiver_up n c.args.rvg.now.core c.args.waiting.now (g.S.Shelf.meaning c.args.rvg.now.shelf) r can.running (lawful c.args.rvg.now.shelf) c.args.rvg.now.sound.log_unit in
+    let room = room_next n c.args.rvg.now.core c.args.waiting.now _ u (g.S.Shelf.meaning c.args.rvg.now.shelf) r can front able c.head-last.result c.head-last.ensures in
     let p = err_from_is_err_and c.from_residual.result c.from_residual.ensures.1 in
     rw (p.1, p.2)
-    (next_failed n c.args.rvg.now.core c.args.waiting.now _ u (g.R.Shelf.meaning c.args.rvg.now.shelf) r can front c.args.rvg.now c.write_group.new.rvg c.in_err-write_group.field-0.0
+    (next_failed n c.args.rvg.now.core c.args.waiting.now _ u (g.S.Shelf.meaning c.args.rvg.now.shelf) r can front c.write_group.new.rvg.core (g.S.Shelf.meaning c.write_group.new.rvg.shelf) c.in_err-write_group.field-0.0
     (c.in_err-write_group.ensures.takes.never c.requires.numbers)
-    (subst (λ b. LoggedUp beside (durable_of n) (let w : Write = record { volume = u.vol; start = u.block; bytes = b } in w) (Up c.args.rvg.now) (Up c.write_group.new.rvg) (Err c.in_err-write_group.field-0.0)) c.as_bytes-bytes.ensures.bytes
+    (subst (λ b. LoggedAs beside (durable_of n) (let w : Write = record { volume = u.vol; start = u.block; bytes = b } in w) (g.S.Shelf.meaning c.args.rvg.now.shelf) c.write_group.new.rvg.core (g.S.Shelf.meaning c.write_group.new.rvg.shelf) (Err c.in_err-write_group.field-0.0)) c.as_bytes-bytes.ensures.bytes
     (c.in_err-write_group.ensures.wrote beside (durable_of n) up (subst (λ b. CanLog (durable_of n) u.vol u.block (blocks_in b)) (sym c.as_bytes-bytes.ensures.bytes) able)
     (subst (λ b. HasRoom beside.links (durable_of n) c.head-last.result (blocks_in b)) (sym c.as_bytes-bytes.ensures.bytes) room))))
 
 pub returns-clause-logs : goal.returns-clause-logs
 returns-clause-logs g c = λ beside n r can.
-    let lawful = (g.met.R.Shelf g.world.𝓛 g.world.𝓜 g.world.𝓡 ((λ s x. x), (λ x. x), (λ x. x), λ x. x)).lawful in
+    let lawful = g.met.S.Shelf.lawful in
     let u = (let v : Update = c.in-Some.update.now in v) in
     let front = front_is c.args.waiting.now u c.in-Some.ensures in
-    let able = can_next n c.args.rvg.now.core c.args.waiting.now _ u (g.R.Shelf.meaning c.args.rvg.now.shelf) r can front c.requires.waits in
-    let up = receiver_up n c.args.rvg.now.core c.args.waiting.now (g.R.Shelf.meaning c.args.rvg.now.shelf) r can.running (lawful c.args.rvg.now.shelf) c.args.rvg.now.sound.log_unit in
-    let room = room_next n c.args.rvg.now.core c.args.waiting.now _ u (g.R.Shelf.meaning c.args.rvg.now.shelf) r can front able c.head-last.result c.head-last.ensures in
-    subst (λ us. IsReceiverAt beside (reached n (n.safe + 1)) c.write_group.new.rvg.core us (g.R.Shelf.meaning c.write_group.new.rvg.shelf)) (sym c.pop.ensures)
-    (next_done n c.args.rvg.now.core c.args.waiting.now _ u (g.R.Shelf.meaning c.args.rvg.now.shelf) r can front c.args.rvg.now c.write_group.new.rvg c.in_ok-write_group.field-0
-    (subst (λ b. LoggedUp beside (durable_of n) (let w : Write = record { volume = u.vol; start = u.block; bytes = b } in w) (Up c.args.rvg.now) (Up c.write_group.new.rvg) (Ok c.in_ok-write_group.field-0)) c.as_bytes-bytes.ensures.bytes
+    let able = can_next n c.args.rvg.now.core c.args.waiting.now _ u (g.S.Shelf.meaning c.args.rvg.now.shelf) r can front c.requires.waits in
+    let up = receiver_up n c.args.rvg.now.core c.args.waiting.now (g.S.Shelf.meaning c.args.rvg.now.shelf) r can.running (lawful c.args.rvg.now.shelf) c.args.rvg.now.sound.log_unit in
+    let room = room_next n c.args.rvg.now.core c.args.waiting.now _ u (g.S.Shelf.meaning c.args.rvg.now.shelf) r can front able c.head-last.result c.head-last.ensures in
+    subst (λ us. IsReceiverAt beside (reached n (n.safe + 1)) c.write_group.new.rvg.core us (g.S.Shelf.meaning c.write_group.new.rvg.shelf)) (sym c.pop.ensures)
+    (next_done n c.args.rvg.now.core c.args.waiting.now _ u (g.S.Shelf.meaning c.args.rvg.now.shelf) r can front c.write_group.new.rvg.core (g.S.Shelf.meaning c.write_group.new.rvg.shelf) c.in_ok-write_group.field-0
+    (subst (λ b. LoggedAs beside (durable_of n) (let w : Write = record { volume = u.vol; start = u.block; bytes = b } in w) (g.S.Shelf.meaning c.args.rvg.now.shelf) c.write_group.new.rvg.core (g.S.Shelf.meaning c.write_group.new.rvg.shelf) (Ok c.in_ok-write_group.field-0)) c.as_bytes-bytes.ensures.bytes
     (c.in_ok-write_group.ensures.wrote beside (durable_of n) up (subst (λ b. CanLog (durable_of n) u.vol u.block (blocks_in b)) (sym c.as_bytes-bytes.ensures.bytes) able)
     (subst (λ b. HasRoom beside.links (durable_of n) c.head-last.result (blocks_in b)) (sym c.as_bytes-bytes.ensures.bytes) room))))
 
 pub write_group-requires-clause-volume : goal.write_group-requires-clause-volume
 write_group-requires-clause-volume g c κs within =
-    (can_parts c.args.rvg.now.core (g.R.Shelf.meaning c.args.rvg.now.shelf).size c.in-Some.update.now (c.requires.waits.fits 0 c.in-Some.update.now (sym c.in-Some.ensures))).0
+    (can_parts c.args.rvg.now.core (g.S.Shelf.meaning c.args.rvg.now.shelf).size c.in-Some.update.now (c.requires.waits.fits 0 c.in-Some.update.now (sym c.in-Some.ensures))).0
 
 pub returns-in_err-write_group-clause-blames : goal.returns-in_err-write_group-clause-blames
 returns-in_err-write_group-clause-blames g c =

@@ -3,4 +3,4 @@ use Rattle.vx_diskset.proofs.Reaching.{LoggedSo}
 use Rattle.vx_diskset.proofs.receivers.log_waiting.Given as goal
 
 abbrev pub invariant-loop : goal.invariant-loop
-invariant-loop g l = LoggedSo l.initial.waiting l.counter l.initial.rvg.core l.rvg.core (g.R.Shelf.meaning l.initial.rvg.shelf) (g.R.Shelf.meaning l.rvg.shelf) l.waiting
+invariant-loop g l = LoggedSo l.initial.waiting l.counter l.initial.rvg.core l.rvg.core (g.S.Shelf.meaning l.initial.rvg.shelf) (g.S.Shelf.meaning l.rvg.shelf) l.waiting

@@ -1,5 +1,5 @@
 -- `make_group`: clauses made and failing; what `create` asks.
-use Rattle.std.proofs.Common.{◌*◌, ◌≤◌, ℕ, subst, sym, refl, rules, arith}
+use Rattle.std.proofs.Common.{◌*◌, ◌≤◌, ℕ, subst, sym, refl, rules, arith, ap}
 use Rattle.vx_disk.specs.Maps.{maps_of}
 use Rattle.vx_model.specs.declared.units.Units.{Units}
 use Rattle.vx_model.specs.declared.limits.TheConstants.{LINK_PLACES}
@@ -12,6 +12,10 @@ use Rattle.vx_diskset.proofs.Laying.{maps_fit}
 use Rattle.vx_diskset.proofs.StaysUp.{never_both}
 use Rattle.vx_diskset.proofs.starting.make_group.Goals as goal
 use Rattle.vx_diskset.proofs.starting.make_group.Goals.{then-disks-lt-LEAST_RAW_DISKS-via-then-disks-lt-LEAST_RAW_DISKS, then-disks-lt-LEAST_RAW_DISKS-via-else-disks-lt-LEAST_RAW_DISKS+then-disks-gt-MOST_DISKS, then-disks-lt-LEAST_RAW_DISKS-via-else-disks-lt-LEAST_RAW_DISKS+else-disks-gt-MOST_DISKS+then-not-has_maps}
+use Rattle.vx_diskset.proofs.RawSets.{raw_alone}
+use Rattle.vx_diskset.specs.Holds.{site_alone}
+use Rattle.vx_history.specs.World.{Node}
+use Rattle.vx_history.specs.Steps.{raw_set}
 
 pub create-requires : goal.create-requires
 create-requires g c = record {
@@ -23,10 +27,12 @@ create-requires g c = record {
 }
 
 pub returns-in-Ok-clause-made : goal.returns-in-Ok-clause-made
-returns-in-Ok-clause-made g c = λ n bare some.
-    made_stands c.args.site c.units-disks.result n c.in-Ok.rvg.core c.raw_units.result c.first.result (g.R.Shelf.meaning c.args.rack) (g.R.Shelf.meaning c.in-Ok.rvg.shelf)
-    c.raw_units.ensures c.first.ensures c.units-disks.ensures ((g.met.R.Shelf g.world.𝓛 g.world.𝓜 g.world.𝓡 ((λ s x. x), (λ x. x), (λ x. x), λ x. x)).lawful c.in-Ok.rvg.shelf) c.in-Ok.rvg.sound.log_unit
-    bare some c.in-Ok.ensures.core c.in-Ok.ensures.moves c.in-Ok.ensures.stands
+returns-in-Ok-clause-made g c = λ n bare some. (
+  raw_alone site_alone (raw_set c.args.site n) refl (ap (λ (k : Node). k.group) bare.is),
+  made_stands c.args.site c.units-disks.result n c.in-Ok.rvg.core c.raw_units.result c.first.result (g.R.Shelf.meaning c.args.rack) (g.R.Shelf.meaning c.in-Ok.rvg.shelf)
+      c.raw_units.ensures c.first.ensures c.units-disks.ensures ((g.met.R.Shelf g.world.𝓛 g.world.𝓜 g.world.𝓡 ((λ s x. x), (λ x. x), (λ x. x), λ x. x)).lawful c.in-Ok.rvg.shelf) c.in-Ok.rvg.sound.log_unit
+      bare some c.in-Ok.ensures.core c.in-Ok.ensures.moves c.in-Ok.ensures.stands,
+)
 
 pub returns-in-Err-clause-made : goal.returns-in-Err-clause-made
 returns-in-Err-clause-made g c = λ n bare some.

@@ -8,8 +8,9 @@ use Rattle.vx_group.proofs.MissLemmas.{count_volumes, knows_later, narrows_reads
 use Rattle.vx_group.proofs.OpeningLemmas.{later_may, may_less, may_room, may_volume, present}
 use Rattle.vx_group.proofs.Standing.{some_active, sound_of}
 use Rattle.vx_group.proofs.ThroughLemmas.{held_other, holds_first, released_active, released_attaches, through_attaches, through_regains}
-use Rattle.vx_group.proofs.FoundThrough.{ahead_finds}
+use Rattle.vx_group.proofs.FoundThrough.{ahead_finds, ahead_told}
 use Rattle.vx_group.proofs.FindingLemmas.{none_finds}
+use Rattle.vx_group.proofs.SettleCalls.{same_told}
 use Rattle.vx_group.proofs.att.att_in.Goals as goal
 use Rattle.vx_group.proofs.TrustStillLemmas.{back_logs, same_logs, then_logs}
 use Rattle.vx_group.proofs.LoseLemmas.{none_parts}
@@ -132,3 +133,27 @@ returns-in-Ok-attach_held-clause-logs g c = then_logs c.args.core.now.inner.conf
 pub returns-in-Err-attach_held-clause-logs : goal.returns-in-Err-attach_held-clause-logs
 returns-in-Err-attach_held-clause-logs g c =
     then_logs c.args.core.now.inner.config c.attach_held.new.core.config c.hold_back.new.core.inner.config (then_logs c.args.core.now.inner.config c.release.new.core.inner.config c.attach_held.new.core.config c.release.ensures.logs c.attach_held.ensures.logs) (back_logs c.args.vol c.args.plex (record { inner = c.attach_held.new.core; held = c.release.new.core.held }) c.hold_back.new.core c.hold_back.ensures)
+
+pub returns-in-Err-clause-settles : goal.returns-in-Err-clause-settles
+returns-in-Err-clause-settles g c =
+    c.release.ensures.finds.settles
+
+pub returns-in-Ok-attach_held-clause-settles : goal.returns-in-Ok-attach_held-clause-settles
+returns-in-Ok-attach_held-clause-settles g c =
+    ahead_told c.args.core.now c.release.new.core (record { inner = c.attach_held.new.core; held = c.release.new.core.held }) c.attach_held.new.core (g.S.Shelf.meaning c.args.shelf.now) (g.S.Shelf.meaning c.release.new.shelf) (g.S.Shelf.meaning c.attach_held.new.shelf) (c.in-Ok.ensures.done (may_less c.args.core.now.inner.config c.args.vol c.args.plex (sym c.refuse.ensures ∙ c.in_default.is))) (wide_none (record { inner = c.attach_held.new.core; held = c.release.new.core.held }) (c.in-Ok.ensures.done (may_less c.args.core.now.inner.config c.args.vol c.args.plex (sym c.refuse.ensures ∙ c.in_default.is)))) c.release.ensures.finds c.attach_held.ensures.settles
+
+pub returns-in-Err-attach_held-clause-settles : goal.returns-in-Err-attach_held-clause-settles
+returns-in-Err-attach_held-clause-settles g c =
+    ahead_told c.args.core.now c.release.new.core c.hold_back.new.core c.attach_held.new.core (g.S.Shelf.meaning c.args.shelf.now) (g.S.Shelf.meaning c.release.new.shelf) (g.S.Shelf.meaning c.attach_held.new.shelf) (c.in-Ok.ensures.done (may_less c.args.core.now.inner.config c.args.vol c.args.plex (sym c.refuse.ensures ∙ c.in_default.is))) (back_wide c.args.vol c.args.plex (record { inner = c.attach_held.new.core; held = c.release.new.core.held }) c.hold_back.new.core (c.in-Ok.ensures.done (may_less c.args.core.now.inner.config c.args.vol c.args.plex (sym c.refuse.ensures ∙ c.in_default.is))) c.hold_back.ensures) c.release.ensures.finds c.attach_held.ensures.settles
+
+pub returns-in-Some-clause-settles : goal.returns-in-Some-clause-settles
+returns-in-Some-clause-settles g c =
+    same_told (wide c.args.core.now) (g.S.Shelf.meaning c.args.shelf.now)
+
+pub returns-then-is_active-clause-settles : goal.returns-then-is_active-clause-settles
+returns-then-is_active-clause-settles g c =
+    same_told (wide c.args.core.now) (g.S.Shelf.meaning c.args.shelf.now)
+
+pub returns-then-is_down-clause-settles : goal.returns-then-is_down-clause-settles
+returns-then-is_down-clause-settles g c =
+    same_told (wide c.args.core.now) (g.S.Shelf.meaning c.args.shelf.now)

@@ -10,6 +10,7 @@ use Rattle.vx_group.proofs.Standing.{sound_of}
 use Rattle.vx_group.proofs.RegainLemmas.{all_holds, then_regains}
 use Rattle.vx_group.proofs.FindingLemmas.{then_finds}
 use Rattle.vx_group.proofs.TrustStillLemmas.{then_logs, volumes_logs}
+use Rattle.vx_group.proofs.SettleCalls.{then_told}
 use Rattle.vx_group.proofs.att.attach_held.Goals as goal
 
 pub regain-requires-clause-more : goal.regain-requires-clause-more
@@ -71,3 +72,9 @@ returns-in-Err-clause-logs g c = volumes_logs c.args.core.now.config c.regain.ne
 pub returns-clause-logs : goal.returns-clause-logs
 returns-clause-logs g c =
     then_logs c.args.core.now.config c.regain.new.core.config c.attach.new.core.config (volumes_logs c.args.core.now.config c.regain.new.core.config c.regain.ensures.volumes) c.attach.ensures.logs
+
+pub returns-in-Err-clause-settles : goal.returns-in-Err-clause-settles
+returns-in-Err-clause-settles g c = c.regain.ensures.settles
+
+pub returns-clause-settles : goal.returns-clause-settles
+returns-clause-settles g c = then_told c.args.core.now c.regain.new.core c.attach.new.core (g.S.Shelf.meaning c.args.shelf.now) (g.S.Shelf.meaning c.regain.new.shelf) (g.S.Shelf.meaning c.attach.new.shelf) c.regain.ensures.settles c.attach.ensures.settles

@@ -14,6 +14,8 @@ use Rattle.vx_group.proofs.Standing.{some_active, sound_of}
 use Rattle.vx_group.proofs.FindingLemmas.{before_ends, behind_finds, stays_finds, then_finds}
 use Rattle.vx_kept.specs.Cleans.{at_serial}
 use Rattle.vx_group.specs.declared.inner.Inner.{Inner}
+use Rattle.vx_group.proofs.SettleCalls.{headers_missed}
+use Rattle.vx_group.proofs.SettleMore.{copied_ends, copied_missed, copy_less}
 use Rattle.vx_group.proofs.attaching.attach.Goals as goal
 use Rattle.vx_group.proofs.TrustStillLemmas.{then_logs, volumes_logs}
 use Rattle.vx_group.proofs.LoseLemmas.{but_parts}
@@ -144,3 +146,23 @@ returns-in-Err-copy_to-clause-missed g c = λ was. inl (inl was)
 
 pub returns-clause-missed : goal.returns-clause-missed
 returns-clause-missed g c = λ was. c.commit_open.ensures.missed
+
+pub returns-in-Err-clause-settles : goal.returns-in-Err-clause-settles
+returns-in-Err-clause-settles g c =
+    headers_missed c.args.core.now c.settle_headers.new.core (g.S.Shelf.meaning c.args.shelf.now) (g.S.Shelf.meaning c.settle_headers.new.shelf) c.requires.stands c.settle_headers.ensures.narrows c.settle_headers.ensures.serial c.settle_headers.ensures.less c.in-Err.ensures.missed
+
+pub returns-in-Err-copy_to-clause-settles : goal.returns-in-Err-copy_to-clause-settles
+returns-in-Err-copy_to-clause-settles g c =
+    copied_missed c.args.core.now c.settle_headers.new.core (g.S.Shelf.meaning c.args.shelf.now) (g.S.Shelf.meaning c.settle_headers.new.shelf) (g.S.Shelf.meaning c.copy_to.new.shelf) c.requires.stands c.settle_headers.ensures.narrows c.settle_headers.ensures.less c.settle_headers.ensures.stands
+    (copy_less c.settle_headers.new.core.config c.args.vol c.args.plex (option_copied c.args.fmr)
+    (present c.settle_headers.new.core.config c.args.vol c.args.plex (same_may c.args.core.now.config c.settle_headers.new.core.config c.args.vol c.args.plex c.settle_headers.ensures.volumes c.settle_headers.ensures.serial c.requires.may)) (sound_of c.settle_headers.new.core (g.S.Shelf.meaning c.settle_headers.new.shelf) c.settle_headers.ensures.stands)
+    (active_volumes c.settle_headers.new.core.config c.args.core.now.config c.settle_headers.ensures.volumes c.args.vol c.args.plex ∙ c.requires.off) (g.S.Shelf.meaning c.settle_headers.new.shelf) (g.S.Shelf.meaning c.copy_to.new.shelf) c.copy_to.ensures.attaches.acts) c.copy_to.ensures.less
+    c.copy_to.new.core c.requires.up (c.copy_to.ensures.serial ∙ c.settle_headers.ensures.serial)
+
+pub returns-clause-settles : goal.returns-clause-settles
+returns-clause-settles g c =
+    copied_ends c.args.core.now c.settle_headers.new.core (g.S.Shelf.meaning c.args.shelf.now) (g.S.Shelf.meaning c.settle_headers.new.shelf) (g.S.Shelf.meaning c.copy_to.new.shelf) c.requires.stands c.settle_headers.ensures.narrows c.settle_headers.ensures.less c.settle_headers.ensures.stands
+    (copy_less c.settle_headers.new.core.config c.args.vol c.args.plex (option_copied c.args.fmr)
+    (present c.settle_headers.new.core.config c.args.vol c.args.plex (same_may c.args.core.now.config c.settle_headers.new.core.config c.args.vol c.args.plex c.settle_headers.ensures.volumes c.settle_headers.ensures.serial c.requires.may)) (sound_of c.settle_headers.new.core (g.S.Shelf.meaning c.settle_headers.new.shelf) c.settle_headers.ensures.stands)
+    (active_volumes c.settle_headers.new.core.config c.args.core.now.config c.settle_headers.ensures.volumes c.args.vol c.args.plex ∙ c.requires.off) (g.S.Shelf.meaning c.settle_headers.new.shelf) (g.S.Shelf.meaning c.copy_to.new.shelf) c.copy_to.ensures.attaches.acts) c.copy_to.ensures.less
+    c.commit_open.new.core (g.S.Shelf.meaning c.commit_open.new.shelf) c.requires.may.more c.commit_open.ensures.settles

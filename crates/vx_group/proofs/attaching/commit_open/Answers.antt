@@ -8,6 +8,7 @@ use Rattle.vx_group.proofs.FailingLemmas.{then_failing}
 use Rattle.vx_group.proofs.Standing.{some_active}
 use Rattle.vx_group.proofs.FindingLemmas.{ends_then}
 use Rattle.vx_group.proofs.TrustStillLemmas.{then_logs}
+use Rattle.vx_group.proofs.SettleMore.{ends_kept}
 use Rattle.vx_group.proofs.attaching.commit_open.Goals as goal
 
 pub detach-requires-clause-left : goal.detach-requires-clause-left
@@ -78,3 +79,12 @@ returns-then-is_down-clause-missed g c = c.take_back.ensures.missed c.in-Err.ens
 
 pub returns-else-is_down-clause-missed : goal.returns-else-is_down-clause-missed
 returns-else-is_down-clause-missed g c = c.take_back.ensures.missed c.in-Err.ensures.missed
+
+pub returns-in-Ok-clause-settles : goal.returns-in-Ok-clause-settles
+returns-in-Ok-clause-settles g c = c.detach.ensures.settles
+
+pub returns-then-is_down-clause-settles : goal.returns-then-is_down-clause-settles
+returns-then-is_down-clause-settles g c = ends_kept c.detach.new.core c.take_back.new.core (g.S.Shelf.meaning c.args.shelf.now) (g.S.Shelf.meaning c.detach.new.shelf) (g.S.Shelf.meaning c.take_back.new.shelf) c.detach.ensures.settles c.take_back.ensures.settles
+
+pub returns-else-is_down-clause-settles : goal.returns-else-is_down-clause-settles
+returns-else-is_down-clause-settles g c = ends_kept c.detach.new.core c.take_back.new.core (g.S.Shelf.meaning c.args.shelf.now) (g.S.Shelf.meaning c.detach.new.shelf) (g.S.Shelf.meaning c.take_back.new.shelf) c.detach.ensures.settles c.take_back.ensures.settles

@@ -8,6 +8,7 @@ use Rattle.vx_group.proofs.SourcesLemmas.{no_attaches}
 use Rattle.vx_group.proofs.FailingLemmas.{no_failing, then_failing}
 use Rattle.vx_group.proofs.Standing.{sound_of}
 use Rattle.vx_group.proofs.FindingLemmas.{behind_finds, none_finds}
+use Rattle.vx_group.proofs.SettleMore.{behind_kept, missed_kept, still_kept}
 use Rattle.vx_group.proofs.attaching.take_back.Goals as goal
 use Rattle.vx_group.proofs.TrustStillLemmas.{same_logs, then_logs, volumes_logs}
 use Rattle.vx_group.proofs.LoseLemmas.{but_parts}
@@ -106,3 +107,15 @@ returns-in-Ok-detach-clause-missed g c = λ was. inr c.in-Ok-detach.ensures.comm
 
 pub returns-in-Err-detach-clause-missed : goal.returns-in-Err-detach-clause-missed
 returns-in-Err-detach-clause-missed g c = λ was. inl c.in-Err-detach.ensures.missed
+
+pub returns-then-is_down-clause-settles : goal.returns-then-is_down-clause-settles
+returns-then-is_down-clause-settles g c = still_kept c.args.core.now (g.S.Shelf.meaning c.args.shelf.now)
+
+pub returns-in-Err-clause-settles : goal.returns-in-Err-clause-settles
+returns-in-Err-clause-settles g c = missed_kept c.args.core.now c.settle_headers.new.core (g.S.Shelf.meaning c.args.shelf.now) (g.S.Shelf.meaning c.settle_headers.new.shelf) c.requires.stands c.settle_headers.ensures.narrows c.settle_headers.ensures.less c.in-Err.ensures.missed
+
+pub returns-in-Ok-detach-clause-settles : goal.returns-in-Ok-detach-clause-settles
+returns-in-Ok-detach-clause-settles g c = behind_kept c.args.core.now c.settle_headers.new.core c.detach.new.core (g.S.Shelf.meaning c.args.shelf.now) (g.S.Shelf.meaning c.settle_headers.new.shelf) (g.S.Shelf.meaning c.detach.new.shelf) c.requires.stands c.settle_headers.ensures.narrows c.settle_headers.ensures.less c.detach.ensures.settles
+
+pub returns-in-Err-detach-clause-settles : goal.returns-in-Err-detach-clause-settles
+returns-in-Err-detach-clause-settles g c = behind_kept c.args.core.now c.settle_headers.new.core c.detach.new.core (g.S.Shelf.meaning c.args.shelf.now) (g.S.Shelf.meaning c.settle_headers.new.shelf) (g.S.Shelf.meaning c.detach.new.shelf) c.requires.stands c.settle_headers.ensures.narrows c.settle_headers.ensures.less c.detach.ensures.settles

@@ -2,6 +2,8 @@
 use Rattle.std.proofs.Common.{◌∙◌, Err, arith}
 use Rattle.vx_group.proofs.DeportLemmas.{back_flushed, blames_stop, closes_later, settled_back, stops_later}
 use Rattle.vx_group.proofs.FindingLemmas.{then_finds}
+use Rattle.vx_group.proofs.SettleCalls.{headers_missed, settled_behind}
+use Rattle.vx_group.proofs.SettleDeport.{closed_told, leaves_sure, reads_behind}
 use Rattle.vx_group.proofs.deporting.close.Goals as goal
 use Rattle.vx_group.proofs.TrustStillLemmas.{then_logs, volumes_logs}
 use Rattle.vx_group.proofs.TrustLemmas.{ok_from, err_from}
@@ -63,6 +65,20 @@ returns-in-Err-flush_volumes-clause-logs g c =
 pub returns-clause-logs : goal.returns-clause-logs
 returns-clause-logs g c =
     err_from c.commit_closed.result (λ last. then_logs c.args.core.now.config c.flush_volumes.new.core.config c.commit_closed.new.core.config (then_logs c.args.core.now.config c.settle_headers.new.core.config c.flush_volumes.new.core.config (volumes_logs c.args.core.now.config c.settle_headers.new.core.config c.settle_headers.ensures.volumes) c.flush_volumes.ensures.logs) last) c.commit_closed.ensures.logs
+
+pub returns-in-Err-clause-settles : goal.returns-in-Err-clause-settles
+returns-in-Err-clause-settles g c = λ reads.
+    headers_missed c.args.core.now c.settle_headers.new.core (g.S.Shelf.meaning c.args.shelf.now) (g.S.Shelf.meaning c.settle_headers.new.shelf) c.requires.stands c.settle_headers.ensures.narrows c.settle_headers.ensures.serial c.settle_headers.ensures.less c.in-Err.ensures.missed
+
+pub returns-in-Err-flush_volumes-clause-settles : goal.returns-in-Err-flush_volumes-clause-settles
+returns-in-Err-flush_volumes-clause-settles g c = λ reads.
+    settled_behind c.args.core.now c.settle_headers.new.core c.flush_volumes.new.core (g.S.Shelf.meaning c.args.shelf.now) (g.S.Shelf.meaning c.settle_headers.new.shelf) (g.S.Shelf.meaning c.flush_volumes.new.shelf) c.requires.stands c.requires.more c.settle_headers.ensures.narrows c.settle_headers.ensures.less c.in-Err-flush_volumes.ensures.settles
+
+pub returns-clause-settles : goal.returns-clause-settles
+returns-clause-settles g c = λ reads.
+    err_from c.commit_closed.result (λ closes.
+    closed_told c.args.core.now c.settle_headers.new.core c.flush_volumes.new.core c.commit_closed.new.core (g.S.Shelf.meaning c.args.shelf.now) (g.S.Shelf.meaning c.settle_headers.new.shelf) (g.S.Shelf.meaning c.flush_volumes.new.shelf) (g.S.Shelf.meaning c.commit_closed.new.shelf) c.requires.stands c.requires.more c.settle_headers.ensures.narrows c.settle_headers.ensures.less c.flush_volumes.ensures.alikes
+    (leaves_sure c.settle_headers.new.core c.flush_volumes.new.core (g.S.Shelf.meaning c.settle_headers.new.shelf) (g.S.Shelf.meaning c.flush_volumes.new.shelf) c.in-Ok-flush_volumes.ensures.ends (reads_behind c.args.core.now c.settle_headers.new.core (g.S.Shelf.meaning c.args.shelf.now) (g.S.Shelf.meaning c.settle_headers.new.shelf) c.requires.stands c.settle_headers.ensures.narrows c.in-Ok.ensures.cause reads)) closes) c.commit_closed.ensures.settles
 
 pub returns-in-Err-clause-agreed : goal.returns-in-Err-clause-agreed
 returns-in-Err-clause-agreed g c = λ is. c.settle_headers.ensures.agreed ∙ c.requires.stands.trusts.both is

@@ -14,6 +14,7 @@ use Rattle.vx_group.proofs.DetachLemmas.{stop_sure}
 use Rattle.vx_group.proofs.Standing.{kept_of, tidy_of}
 use Rattle.vx_group.proofs.FindingLemmas.{ends_finds, left_ends}
 use Rattle.vx_group.proofs.TrustStillLemmas.{volumes_logs}
+use Rattle.vx_group.proofs.SettleDeport.{closed_settled}
 use Rattle.vx_group.proofs.deporting.commit_closed.Goals as goal
 
 pub commit_clean-requires-clause-kept : goal.commit_clean-requires-clause-kept
@@ -56,6 +57,12 @@ returns-then-is_down-clause-logs g c = volumes_logs c.args.core.now.config c.com
 
 pub returns-else-is_down-clause-logs : goal.returns-else-is_down-clause-logs
 returns-else-is_down-clause-logs g c = volumes_logs c.args.core.now.config c.commit_clean.new.config c.in-Err.ensures.ends.volumes
+
+pub returns-then-is_down-clause-settles : goal.returns-then-is_down-clause-settles
+returns-then-is_down-clause-settles g c = closed_settled c.args.core.now _ (g.S.Shelf.meaning c.args.shelf.now) (g.S.Shelf.meaning c.commit_clean.new.shelf) c.requires.stands c.commit_clean.ensures.acts c.commit_clean.ensures.finds refl
+
+pub returns-else-is_down-clause-settles : goal.returns-else-is_down-clause-settles
+returns-else-is_down-clause-settles g c = closed_settled c.args.core.now _ (g.S.Shelf.meaning c.args.shelf.now) (g.S.Shelf.meaning c.commit_clean.new.shelf) c.requires.stands c.commit_clean.ensures.acts c.commit_clean.ensures.finds refl
 
 pub returns-then-is_down-clause-agreed : goal.returns-then-is_down-clause-agreed
 returns-then-is_down-clause-agreed g c = λ is. is

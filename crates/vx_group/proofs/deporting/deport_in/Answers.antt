@@ -1,5 +1,5 @@
 -- `deport_in`: clauses ends and back; what `close` asks.
-use Rattle.std.proofs.Common.{sym, arith}
+use Rattle.std.proofs.Common.{sym, arith, subst}
 use Rattle.vx_disk.specs.Shelf.{Nothing}
 use Rattle.vx_disk.proofs.Runs.{same_Goes}
 use Rattle.vx_group.specs.Holding.{wide}
@@ -7,9 +7,14 @@ use Rattle.vx_group.specs.Stands.{inner_meaning}
 use Rattle.vx_group.proofs.BehindLemmas.{back_goes, behind_back, behind_deported, released_back}
 use Rattle.vx_group.proofs.HoldLemmas.{from_none, wide_none}
 use Rattle.vx_group.proofs.ThroughLemmas.{released_goes, through_goes}
-use Rattle.vx_group.proofs.FindingLemmas.{still_group}
-use Rattle.vx_group.proofs.FoundThrough.{second_finds}
+use Rattle.vx_group.proofs.FindingLemmas.{images_of, still_images}
+use Rattle.vx_group.proofs.FoundThrough.{ahead_told, second_images}
 use Rattle.vx_group.proofs.TrustStillLemmas.{same_logs, then_logs}
+use Rattle.vx_group.proofs.SettleCalls.{same_told}
+use Rattle.vx_group.proofs.SettleDeport.{reads_behind}
+use Rattle.vx_group.specs.Settles.{ReadsSure}
+use Rattle.vx_group.specs.declared.inner.Inner.{Inner}
+use Rattle.vx_group.proofs.CallLemmas.{not_down}
 use Rattle.vx_group.proofs.deporting.deport_in.Goals as goal
 
 pub returns-in-Err-clause-ends : goal.returns-in-Err-clause-ends
@@ -46,19 +51,19 @@ returns-in-Err-close-clause-back g c =
 
 pub returns-then-core-clause-finds : goal.returns-then-core-clause-finds
 returns-then-core-clause-finds g c =
-    still_group c.args.core.now (g.S.Shelf.meaning c.args.shelf.now)
+    still_images c.args.core.now (g.S.Shelf.meaning c.args.shelf.now)
 
 pub returns-then-is_down-clause-finds : goal.returns-then-is_down-clause-finds
 returns-then-is_down-clause-finds g c =
-    still_group c.args.core.now (g.S.Shelf.meaning c.args.shelf.now)
+    still_images c.args.core.now (g.S.Shelf.meaning c.args.shelf.now)
 
 pub returns-in-Err-clause-finds : goal.returns-in-Err-clause-finds
 returns-in-Err-clause-finds g c =
-    c.release.ensures.finds
+    images_of c.args.core.now c.release.new.core (g.S.Shelf.meaning c.args.shelf.now) (g.S.Shelf.meaning c.release.new.shelf) c.release.ensures.finds
 
 pub returns-in-Err-close-clause-finds : goal.returns-in-Err-close-clause-finds
 returns-in-Err-close-clause-finds g c =
-    second_finds c.args.core.now c.release.new.core c.close.new.core (g.S.Shelf.meaning c.args.shelf.now) (g.S.Shelf.meaning c.release.new.shelf) (g.S.Shelf.meaning c.close.new.shelf) (c.in-Ok.ensures.done (let le = c.if-core.false in omega (arith, le))) c.release.ensures.finds c.in-Err-close.ensures.finds
+    second_images c.args.core.now c.release.new.core c.close.new.core (g.S.Shelf.meaning c.args.shelf.now) (g.S.Shelf.meaning c.release.new.shelf) (g.S.Shelf.meaning c.close.new.shelf) (c.in-Ok.ensures.done (let le = c.if-core.false in omega (arith, le))) c.release.ensures.finds c.in-Err-close.ensures.finds
 
 pub returns-then-core-clause-logs : goal.returns-then-core-clause-logs
 returns-then-core-clause-logs g c = same_logs c.args.core.now.inner.config
@@ -71,6 +76,21 @@ returns-in-Err-clause-logs g c = c.release.ensures.logs
 
 pub returns-in-Err-close-clause-logs : goal.returns-in-Err-close-clause-logs
 returns-in-Err-close-clause-logs g c = then_logs c.args.core.now.inner.config c.release.new.core.inner.config c.close.new.core.config c.release.ensures.logs c.in-Err-close.ensures.logs
+
+pub returns-then-core-clause-settles : goal.returns-then-core-clause-settles
+returns-then-core-clause-settles g c = λ reads. same_told (wide c.args.core.now) (g.S.Shelf.meaning c.args.shelf.now)
+
+pub returns-then-is_down-clause-settles : goal.returns-then-is_down-clause-settles
+returns-then-is_down-clause-settles g c = λ reads. same_told (wide c.args.core.now) (g.S.Shelf.meaning c.args.shelf.now)
+
+pub returns-in-Err-clause-settles : goal.returns-in-Err-clause-settles
+returns-in-Err-clause-settles g c = λ reads. c.release.ensures.finds.settles
+
+pub returns-in-Err-close-clause-settles : goal.returns-in-Err-close-clause-settles
+returns-in-Err-close-clause-settles g c = λ reads.
+    let none = c.in-Ok.ensures.done (let le = c.if-core.false in omega (arith, le)) in
+    ahead_told c.args.core.now c.release.new.core (record { inner = c.close.new.core; held = c.release.new.core.held }) c.close.new.core (g.S.Shelf.meaning c.args.shelf.now) (g.S.Shelf.meaning c.release.new.shelf) (g.S.Shelf.meaning c.close.new.shelf) none (wide_none (record { inner = c.close.new.core; held = c.release.new.core.held }) none) c.release.ensures.finds
+    (c.in-Err-close.ensures.settles (subst (λ (i : Inner). ReadsSure i (g.S.Shelf.meaning c.release.new.shelf)) (wide_none c.release.new.core none) (reads_behind (wide c.args.core.now) (wide c.release.new.core) (g.S.Shelf.meaning c.args.shelf.now) (g.S.Shelf.meaning c.release.new.shelf) c.requires.stands.stands c.release.ensures.narrows c.in-Ok.ensures.cause (reads (not_down c.is_down.result (g.S.Shelf.meaning c.args.shelf.now).down c.is_down.ensures c.if-is_down.false)))))
 
 pub returns-then-core-clause-agreed : goal.returns-then-core-clause-agreed
 returns-then-core-clause-agreed g c = c.requires.stands.stands.trusts.both

@@ -7,6 +7,7 @@ use Rattle.vx_group.proofs.FoundThrough.{alone_finds}
 use Rattle.vx_group.proofs.GiveLemmas.{kept_or_down}
 use Rattle.vx_group.proofs.HoldLemmas.{from_none, none_Stands}
 use Rattle.vx_group.proofs.TrustStillLemmas.{same_logs}
+use Rattle.vx_group.proofs.UnsureMarks.{same_unsure}
 use Rattle.vx_group.proofs.det.det_alone.Goals as goal
 
 pub detach_plex-requires-clause-stands : goal.detach_plex-requires-clause-stands
@@ -61,7 +62,7 @@ pub returns-in-Ok-clause-free : goal.returns-in-Ok-clause-free
 returns-in-Ok-clause-free g c = c.requires.none
 
 pub returns-in-Ok-clause-finds : goal.returns-in-Ok-clause-finds
-returns-in-Ok-clause-finds g c = alone_finds c.args.core.now (record { inner = c.detach_plex.new.core; held = c.args.core.now.held }) (g.S.Shelf.meaning c.args.shelf.now) (g.S.Shelf.meaning c.detach_plex.new.shelf) c.requires.none c.requires.none c.detach_plex.ensures.finds
+returns-in-Ok-clause-finds g c = alone_finds c.args.core.now (record { inner = c.detach_plex.new.core; held = c.args.core.now.held }) (g.S.Shelf.meaning c.args.shelf.now) (g.S.Shelf.meaning c.detach_plex.new.shelf) c.requires.none c.requires.none c.detach_plex.ensures.finds c.detach_plex.ensures.settles (same_unsure c.args.core.now.inner.unsure c.detach_plex.new.core.unsure c.detach_plex.ensures.narrows.unsure)
 
 pub returns-in-Ok-clause-logs : goal.returns-in-Ok-clause-logs
 returns-in-Ok-clause-logs g c = c.detach_plex.ensures.logs
@@ -88,7 +89,7 @@ pub returns-in-Err-clause-free : goal.returns-in-Err-clause-free
 returns-in-Err-clause-free g c = c.requires.none
 
 pub returns-in-Err-clause-finds : goal.returns-in-Err-clause-finds
-returns-in-Err-clause-finds g c = alone_finds c.args.core.now (record { inner = c.detach_plex.new.core; held = c.args.core.now.held }) (g.S.Shelf.meaning c.args.shelf.now) (g.S.Shelf.meaning c.detach_plex.new.shelf) c.requires.none c.requires.none c.detach_plex.ensures.finds
+returns-in-Err-clause-finds g c = alone_finds c.args.core.now (record { inner = c.detach_plex.new.core; held = c.args.core.now.held }) (g.S.Shelf.meaning c.args.shelf.now) (g.S.Shelf.meaning c.detach_plex.new.shelf) c.requires.none c.requires.none c.detach_plex.ensures.finds c.detach_plex.ensures.settles (same_unsure c.args.core.now.inner.unsure c.detach_plex.new.core.unsure c.detach_plex.ensures.narrows.unsure)
 
 pub returns-in-Err-clause-logs : goal.returns-in-Err-clause-logs
 returns-in-Err-clause-logs g c = c.detach_plex.ensures.logs

@@ -12,6 +12,7 @@ use Rattle.vx_group.proofs.FailingLemmas.{then_failing}
 use Rattle.vx_group.proofs.FoundThrough.{second_finds}
 use Rattle.vx_group.proofs.FindingLemmas.{still_group}
 use Rattle.vx_group.proofs.TrustStillLemmas.{same_logs, then_logs}
+use Rattle.vx_group.proofs.UnsureMarks.{same_unsure}
 use Rattle.vx_group.proofs.det.det_in.Goals as goal
 
 pub returns-in-Err-clause-goes : goal.returns-in-Err-clause-goes
@@ -94,12 +95,12 @@ returns-in-Err-clause-finds g c =
 pub returns-in-Ok-detach_plex-clause-finds : goal.returns-in-Ok-detach_plex-clause-finds
 returns-in-Ok-detach_plex-clause-finds g c =
     second_finds c.args.core.now c.release.new.core c.detach_plex.new.core (g.S.Shelf.meaning c.args.shelf.now) (g.S.Shelf.meaning c.release.new.shelf) (g.S.Shelf.meaning c.detach_plex.new.shelf) (c.in-Ok.ensures.done (may_serial c.args.core.now.inner.config c.args.vol c.args.plex (sym c.refuse_det.ensures ∙ c.in_default.is)))
-    c.release.ensures.finds c.detach_plex.ensures.finds
+    c.release.ensures.finds c.detach_plex.ensures.finds c.detach_plex.ensures.settles (same_unsure c.release.new.core.inner.unsure c.detach_plex.new.core.unsure c.detach_plex.ensures.narrows.unsure)
 
 pub returns-in-Err-detach_plex-clause-finds : goal.returns-in-Err-detach_plex-clause-finds
 returns-in-Err-detach_plex-clause-finds g c =
     second_finds c.args.core.now c.release.new.core c.detach_plex.new.core (g.S.Shelf.meaning c.args.shelf.now) (g.S.Shelf.meaning c.release.new.shelf) (g.S.Shelf.meaning c.detach_plex.new.shelf) (c.in-Ok.ensures.done (may_serial c.args.core.now.inner.config c.args.vol c.args.plex (sym c.refuse_det.ensures ∙ c.in_default.is)))
-    c.release.ensures.finds c.detach_plex.ensures.finds
+    c.release.ensures.finds c.detach_plex.ensures.finds c.detach_plex.ensures.settles (same_unsure c.release.new.core.inner.unsure c.detach_plex.new.core.unsure c.detach_plex.ensures.narrows.unsure)
 
 pub returns-in-Some-clause-finds : goal.returns-in-Some-clause-finds
 returns-in-Some-clause-finds g c =

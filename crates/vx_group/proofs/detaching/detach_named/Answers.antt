@@ -1,7 +1,9 @@
 -- `detach_named`: clauses stands, narrows, off, cause, sure, others, parts and 10 more; what `commit_stale` asks.
 use Rattle.std.proofs.Common.{inl, inr, false, true, length, ap, ◌∙◌, refl, sym, subst, Err, arith}
 use Rattle.vx_disk.specs.declared.shelf.ShelfError.{ShelfError}
+use Rattle.vx_kept.specs.Commits.{Member}
 use Rattle.vx_kept.specs.States.{staled}
+use Rattle.vx_kept.proofs.Narrower.{staled_on}
 use Rattle.vx_kept.proofs.StateLemmas.{is_staled}
 use Rattle.vx_group.specs.Blames.{Blames, BlamesOr}
 use Rattle.vx_group.proofs.LoseLemmas.{staled_lies}
@@ -10,7 +12,8 @@ use Rattle.vx_group.proofs.CallLemmas.{not_down}
 use Rattle.vx_group.proofs.DetachLemmas.{left_Narrows, left_Stands, left_others, staled_less, staled_some, stop_blames, stop_sure, taken_Narrows, taken_Stands, taken_off, taken_others}
 use Rattle.vx_group.proofs.FailingLemmas.{failing_from, few_serial, no_failing}
 use Rattle.vx_group.proofs.GiveLemmas.{keeps_volumes, none_changed}
-use Rattle.vx_group.proofs.Standing.{kept_of, tidy_of}
+use Rattle.vx_group.proofs.SettleCalls.{done_settled, left_settled, less_acts}
+use Rattle.vx_group.proofs.Standing.{apart_of_core, kept_of, sound_of, tidy_of}
 use Rattle.vx_group.proofs.TrustLemmas.{committed_or, stays_committed}
 use Rattle.vx_group.proofs.FindingLemmas.{done_ends, left_ends}
 use Rattle.vx_group.proofs.TrustStillLemmas.{kept_logs, volumes_logs}
@@ -191,3 +194,23 @@ returns-else-is_down-2-clause-logs g c = volumes_logs c.args.core.now.config c.c
 
 pub returns-else-is_down-clause-room : goal.returns-else-is_down-clause-room
 returns-else-is_down-clause-room g c = let later = c.in-Ok.ensures.ends.later in let top = c.commit_stale.ensures.can.serial in let was = (is_staled c.args.vol c.args.failed.set 8 c.args.core.now.config).serial in omega (arith, later, top, was)
+
+pub returns-then-is_down-clause-settles : goal.returns-then-is_down-clause-settles
+returns-then-is_down-clause-settles g c = done_settled _ (g.S.Shelf.meaning c.args.shelf.now) (g.S.Shelf.meaning c.commit_stale.new.shelf) c.commit_stale.ensures.on (record { finds = c.in-Ok.ensures.ends.finds })
+
+pub returns-else-is_down-clause-settles : goal.returns-else-is_down-clause-settles
+returns-else-is_down-clause-settles g c = done_settled _ (g.S.Shelf.meaning c.args.shelf.now) (g.S.Shelf.meaning c.commit_stale.new.shelf) c.commit_stale.ensures.on (record { finds = c.in-Ok.ensures.ends.finds })
+
+pub returns-then-is_down-2-clause-settles : goal.returns-then-is_down-2-clause-settles
+returns-then-is_down-2-clause-settles g c =
+    let m = g.S.Shelf.meaning c.args.shelf.now in
+    left_settled (staled c.args.vol c.args.failed.set c.args.core.now.config 8) c.args.core.now.config (Member c.args.core.now.good m) _ (g.S.Shelf.meaning c.args.shelf.now) (g.S.Shelf.meaning c.commit_stale.new.shelf)
+    (staled_on c.args.vol c.args.failed.set c.args.core.now.config c.requires.left (sound_of c.args.core.now m c.requires.stands) c.requires.stands.on) c.requires.stands.kept
+    (less_acts c.args.core.now.config _ (g.S.Shelf.meaning c.args.shelf.now) (g.S.Shelf.meaning c.commit_stale.new.shelf) (apart_of_core c.args.core.now m c.requires.stands) c.commit_stale.ensures.acts) c.commit_stale.ensures.finds refl
+
+pub returns-else-is_down-2-clause-settles : goal.returns-else-is_down-2-clause-settles
+returns-else-is_down-2-clause-settles g c =
+    let m = g.S.Shelf.meaning c.args.shelf.now in
+    left_settled (staled c.args.vol c.args.failed.set c.args.core.now.config 8) c.args.core.now.config (Member c.args.core.now.good m) _ (g.S.Shelf.meaning c.args.shelf.now) (g.S.Shelf.meaning c.commit_stale.new.shelf)
+    (staled_on c.args.vol c.args.failed.set c.args.core.now.config c.requires.left (sound_of c.args.core.now m c.requires.stands) c.requires.stands.on) c.requires.stands.kept
+    (less_acts c.args.core.now.config _ (g.S.Shelf.meaning c.args.shelf.now) (g.S.Shelf.meaning c.commit_stale.new.shelf) (apart_of_core c.args.core.now m c.requires.stands) c.commit_stale.ensures.acts) c.commit_stale.ensures.finds refl

@@ -18,6 +18,8 @@ use Rattle.vx_group.proofs.TrustStillLemmas.{same_logs, through_logs}
 use Rattle.vx_config.specs.Table.{greatest}
 use Rattle.vx_group.specs.declared.group_core.GroupCore.{GroupCore}
 use Rattle.vx_group.specs.declared.inner.Inner.{Inner}
+use Rattle.vx_group.proofs.SettleCalls.{as_told}
+use Rattle.vx_group.proofs.UnsureMarks.{done_unsure, error_unsure, then_unsure}
 use Rattle.vx_group.proofs.UnsureLemmas.{through_marks, unsure_then}
 use Rattle.vx_group.specs.GivesUp.{MissesNone}
 use Rattle.vx_group.proofs.flushing.flush_group.Goals as goal
@@ -92,6 +94,8 @@ pub returns-in-Err-clause-finds : goal.returns-in-Err-clause-finds
 returns-in-Err-clause-finds g c =
     record {
       core = as_finds (wide c.args.core.now) (wide c.release.new.core) _ (g.S.Shelf.meaning c.args.shelf.now) (g.S.Shelf.meaning c.release.new.shelf) refl refl refl c.release.ensures.finds.core;
+      settles = as_told (wide c.args.core.now) (wide c.release.new.core) _ (g.S.Shelf.meaning c.args.shelf.now) (g.S.Shelf.meaning c.release.new.shelf) refl refl c.release.ensures.finds.settles;
+      unsure = then_unsure c.args.core.now.inner.unsure c.release.new.core.inner.unsure c.give_up.new.unsure c.release.ensures.finds.unsure (error_unsure c.in-Err.error c.args.vol c.release.new.core.inner.unsure c.give_up.new.unsure c.give_up.ensures.marks);
       free = c.release.ensures.finds.free;
     }
 
@@ -99,7 +103,8 @@ pub returns-clause-finds : goal.returns-clause-finds
 returns-clause-finds g c =
     through_finds c.args.core.now c.release.new.core (record { inner = c.flush_in-result.new.core; held = c.open_held-held.new.core.held }) c.close_held.new.core c.open_held-held.new.core.inner c.flush_in-result.new.core (g.S.Shelf.meaning c.args.shelf.now) (g.S.Shelf.meaning c.release.new.shelf) (g.S.Shelf.meaning c.flush_in-result.new.shelf) c.open_held-held.ensures.inner
     (new_wide c.args.core.now c.release.new.core (record { inner = c.flush_in-result.new.core; held = c.open_held-held.new.core.held }) c.close_held.new.core c.open_held-held.new.core.inner (g.S.Shelf.meaning c.args.shelf.now) (g.S.Shelf.meaning c.release.new.shelf) (g.S.Shelf.meaning c.flush_in-result.new.shelf) c.requires.stands c.release.ensures.stands c.release.ensures.narrows c.release.ensures.volumes c.open_held-held.result c.open_held-held.ensures.held c.open_held-held.ensures.inner c.open_held-held.ensures.none c.close_held.ensures)
-    c.open_held-held.result c.open_held-held.ensures.held c.open_held-held.ensures.none c.close_held.ensures c.release.ensures.finds c.flush_in-result.ensures.finds
+    c.open_held-held.result c.open_held-held.ensures.held c.open_held-held.ensures.none c.close_held.ensures c.release.ensures.finds c.flush_in-result.ensures.finds c.flush_in-result.ensures.settles
+    (done_unsure c.args.vol c.open_held-held.new.core.inner.unsure c.flush_in-result.new.core.unsure c.flush_in-result.result c.flush_in-result.ensures.marks)
 
 pub returns-then-is_down-clause-logs : goal.returns-then-is_down-clause-logs
 returns-then-is_down-clause-logs g c = same_logs c.args.core.now.inner.config

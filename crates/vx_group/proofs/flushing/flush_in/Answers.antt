@@ -11,6 +11,7 @@ use Rattle.vx_kept.proofs.PlexActing.{none_PlexActs}
 use Rattle.vx_group.proofs.ActsLemmas.{narrow_PlexActs, then_PlexActs}
 use Rattle.vx_group.proofs.FindingLemmas.{as_finds, none_finds, then_finds}
 use Rattle.vx_group.proofs.TrustStillLemmas.{same_logs, then_logs, volumes_logs}
+use Rattle.vx_group.proofs.SettleCalls.{as_told, same_told, then_told}
 use Rattle.vx_group.proofs.flushing.flush_in.Goals as goal
 
 pub returns-in-Err-clause-goes : goal.returns-in-Err-clause-goes
@@ -141,6 +142,20 @@ returns-in-Err-flush_plexes-clause-full g c = λ full. tt
 
 pub returns-in-Ok-flush_plexes-clause-full : goal.returns-in-Ok-flush_plexes-clause-full
 returns-in-Ok-flush_plexes-clause-full g c = λ full. c.in-Ok-flush_plexes.ensures.full (c.make_ready.ensures.full full) ∙ c.make_ready.ensures.volumes
+
+pub returns-then-is_down-clause-settles : goal.returns-then-is_down-clause-settles
+returns-then-is_down-clause-settles g c = same_told c.args.core.now (g.S.Shelf.meaning c.args.shelf.now)
+
+pub returns-in-Err-clause-settles : goal.returns-in-Err-clause-settles
+returns-in-Err-clause-settles g c = as_told c.args.core.now c.make_ready.new.core _ (g.S.Shelf.meaning c.args.shelf.now) (g.S.Shelf.meaning c.make_ready.new.shelf) refl refl c.make_ready.ensures.settles
+
+pub returns-in-Ok-flush_plexes-clause-settles : goal.returns-in-Ok-flush_plexes-clause-settles
+returns-in-Ok-flush_plexes-clause-settles g c = then_told c.args.core.now c.make_ready.new.core c.flush_plexes.new.core (g.S.Shelf.meaning c.args.shelf.now) (g.S.Shelf.meaning c.make_ready.new.shelf) (g.S.Shelf.meaning c.flush_plexes.new.shelf) c.make_ready.ensures.settles c.flush_plexes.ensures.settles
+
+pub returns-in-Err-flush_plexes-clause-settles : goal.returns-in-Err-flush_plexes-clause-settles
+returns-in-Err-flush_plexes-clause-settles g c =
+    as_told c.args.core.now c.flush_plexes.new.core _ (g.S.Shelf.meaning c.args.shelf.now) (g.S.Shelf.meaning c.flush_plexes.new.shelf) refl refl
+    (then_told c.args.core.now c.make_ready.new.core c.flush_plexes.new.core (g.S.Shelf.meaning c.args.shelf.now) (g.S.Shelf.meaning c.make_ready.new.shelf) (g.S.Shelf.meaning c.flush_plexes.new.shelf) c.make_ready.ensures.settles c.flush_plexes.ensures.settles)
 
 pub returns-then-is_down-clause-ready : goal.returns-then-is_down-clause-ready
 returns-then-is_down-clause-ready g c = tt

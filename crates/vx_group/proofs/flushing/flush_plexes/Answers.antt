@@ -1,5 +1,6 @@
 -- `flush_plexes`: clauses stands, goes, ok, all, cause, narrows, spent and 2 more; what `flush_all` and `detach` ask.
-use Rattle.std.proofs.Common.{inr, Err, refl, sym, subst, arith, ◌≡◌, ◌∙◌, true, false}
+use Rattle.std.proofs.Common.{Err, arith, false, inr, refl, subst, sym, true, ◌∙◌, ◌≡◌}
+use Rattle.vx_kept.specs.Commits.{Member}
 use Rattle.vx_group.proofs.LoseLemmas.{loses_detach}
 use Rattle.vx_group.proofs.CopyLemmas.{spent_by, spent_none}
 use Rattle.vx_group.proofs.CallLemmas.{blames_by, ends_blame, left_done, ok_by}
@@ -14,6 +15,7 @@ use Rattle.vx_group.proofs.WriteLemmas.{no_commit, flushed_Goes, flushed_Stands,
 use Rattle.vx_group.proofs.FindingLemmas.{stays_finds, before_ends, ends_finds}
 use Rattle.vx_group.proofs.TrustStillLemmas.{same_logs}
 use Rattle.vx_group.proofs.TrustLemmas.{ok_from}
+use Rattle.vx_group.proofs.SettleCalls.{idle_told, wrote_told}
 use Rattle.vx_group.proofs.flushing.flush_plexes.Goals as goal
 
 pub flush_all-requires-clause-some : goal.flush_all-requires-clause-some
@@ -159,6 +161,26 @@ returns-in-Err-clause-full g c = λ full. tt
 
 pub returns-else-core-clause-full : goal.returns-else-core-clause-full
 returns-else-core-clause-full g c = λ full. ok_from c.detach.result (λ less. absurd (omega (arith, full, less))) c.detach.ensures.room
+
+pub returns-then-failed-eq0-clause-settles : goal.returns-then-failed-eq0-clause-settles
+returns-then-failed-eq0-clause-settles g c =
+    idle_told c.args.core.now c.args.core.now (Member c.args.core.now.good (g.S.Shelf.meaning c.args.shelf.now)) (g.S.Shelf.meaning c.args.shelf.now) (g.S.Shelf.meaning c.flush_all.new.shelf) refl refl c.requires.stands.kept c.flush_all.ensures.goes
+    (flushed_finds c.args.core.now c.args.vol (g.S.Shelf.meaning c.args.shelf.now) (g.S.Shelf.meaning c.flush_all.new.shelf) (g.met.S.Shelf.lawful c.args.shelf.now) (g.met.S.Shelf.lawful c.flush_all.new.shelf) c.requires.stands c.flush_all.ensures.goes)
+
+pub returns-then-core-clause-settles : goal.returns-then-core-clause-settles
+returns-then-core-clause-settles g c =
+    idle_told c.args.core.now c.args.core.now (Member c.args.core.now.good (g.S.Shelf.meaning c.args.shelf.now)) (g.S.Shelf.meaning c.args.shelf.now) (g.S.Shelf.meaning c.flush_all.new.shelf) refl refl c.requires.stands.kept c.flush_all.ensures.goes
+    (flushed_finds c.args.core.now c.args.vol (g.S.Shelf.meaning c.args.shelf.now) (g.S.Shelf.meaning c.flush_all.new.shelf) (g.met.S.Shelf.lawful c.args.shelf.now) (g.met.S.Shelf.lawful c.flush_all.new.shelf) c.requires.stands c.flush_all.ensures.goes)
+
+pub returns-in-Err-clause-settles : goal.returns-in-Err-clause-settles
+returns-in-Err-clause-settles g c =
+    idle_told c.args.core.now c.args.core.now (Member c.args.core.now.good (g.S.Shelf.meaning c.args.shelf.now)) (g.S.Shelf.meaning c.args.shelf.now) (g.S.Shelf.meaning c.flush_all.new.shelf) refl refl c.requires.stands.kept c.flush_all.ensures.goes
+    (flushed_finds c.args.core.now c.args.vol (g.S.Shelf.meaning c.args.shelf.now) (g.S.Shelf.meaning c.flush_all.new.shelf) (g.met.S.Shelf.lawful c.args.shelf.now) (g.met.S.Shelf.lawful c.flush_all.new.shelf) c.requires.stands c.flush_all.ensures.goes)
+
+pub returns-else-core-clause-settles : goal.returns-else-core-clause-settles
+returns-else-core-clause-settles g c =
+    wrote_told c.args.core.now c.detach.new.core (g.S.Shelf.meaning c.args.shelf.now) (g.S.Shelf.meaning c.flush_all.new.shelf) (g.S.Shelf.meaning c.detach.new.shelf) c.requires.up c.if-core.false
+    (flushed_finds c.args.core.now c.args.vol (g.S.Shelf.meaning c.args.shelf.now) (g.S.Shelf.meaning c.flush_all.new.shelf) (g.met.S.Shelf.lawful c.args.shelf.now) (g.met.S.Shelf.lawful c.flush_all.new.shelf) c.requires.stands c.flush_all.ensures.goes) c.detach.ensures.settles
 
 pub returns-then-failed-eq0-clause-ready : goal.returns-then-failed-eq0-clause-ready
 returns-then-failed-eq0-clause-ready g c = λ was. was

@@ -1,4 +1,4 @@
--- `name_rvg`: what `commit_rvg` asks; clauses goes, narrows, volumes, site, disks, ends and stands.
+-- `name_rvg`: what `commit_rvg` asks; clauses goes, narrows, volumes, site, disks, ends, later, finds and stands.
 use Rattle.std.proofs.Common.{ℕ, List, ap, sym, ◌∙◌, arith}
 use Rattle.vx_disk.specs.Shelf.{Nothing}
 use Rattle.vx_config.specs.Checks.{is_group}
@@ -6,8 +6,11 @@ use Rattle.vx_config.specs.declared.entry.VolumeEntry.{VolumeEntry}
 use Rattle.vx_group.specs.Stands.{volume_faults}
 use Rattle.vx_group.proofs.CallLemmas.{narrows_Goes}
 use Rattle.vx_group.proofs.FailingLemmas.{then_failing}
+use Rattle.vx_group.proofs.FindingLemmas.{still_group}
+use Rattle.vx_group.proofs.FoundThrough.{second_finds}
 use Rattle.vx_group.proofs.HoldLemmas.{from_none, none_Stands, wide_none}
 use Rattle.vx_group.proofs.ThroughLemmas.{released_goes, released_narrows, second_narrows, through_goes}
+use Rattle.vx_group.proofs.UnsureMarks.{same_unsure}
 use Rattle.vx_group.proofs.grouping.name_rvg.Goals as goal
 
 pub returns-in-Err-clause-goes : goal.returns-in-Err-clause-goes
@@ -79,3 +82,31 @@ returns-in-Err-commit_rvg-clause-disks g c = then_failing (g.S.Shelf.meaning c.a
 
 pub returns-in-Err-commit_rvg-clause-ends : goal.returns-in-Err-commit_rvg-clause-ends
 returns-in-Err-commit_rvg-clause-ends g c = c.in-Err-commit_rvg.ensures.ends ∙ c.release.ensures.parts.rvg
+
+pub returns-in-Ok-commit_rvg-clause-up : goal.returns-in-Ok-commit_rvg-clause-up
+returns-in-Ok-commit_rvg-clause-up g c = c.in-Ok-commit_rvg.ensures.cause
+
+pub returns-then-is_down-clause-finds : goal.returns-then-is_down-clause-finds
+returns-then-is_down-clause-finds g c = still_group c.args.core.now (g.S.Shelf.meaning c.args.shelf.now)
+
+pub returns-in-Err-clause-finds : goal.returns-in-Err-clause-finds
+returns-in-Err-clause-finds g c = c.release.ensures.finds
+
+pub returns-in-Err-clause-later : goal.returns-in-Err-clause-later
+returns-in-Err-clause-later g c = c.release.ensures.parts.later
+
+pub returns-in-Ok-commit_rvg-clause-finds : goal.returns-in-Ok-commit_rvg-clause-finds
+returns-in-Ok-commit_rvg-clause-finds g c =
+    second_finds c.args.core.now c.release.new.core c.commit_rvg.new.core (g.S.Shelf.meaning c.args.shelf.now) (g.S.Shelf.meaning c.release.new.shelf) (g.S.Shelf.meaning c.commit_rvg.new.shelf) (c.in-Ok.ensures.done (let room = c.requires.more in omega (arith, room)))
+    c.release.ensures.finds c.commit_rvg.ensures.finds c.commit_rvg.ensures.settles (same_unsure c.release.new.core.inner.unsure c.commit_rvg.new.core.unsure c.commit_rvg.ensures.narrows.unsure)
+
+pub returns-in-Ok-commit_rvg-clause-later : goal.returns-in-Ok-commit_rvg-clause-later
+returns-in-Ok-commit_rvg-clause-later g c = let one = c.release.ensures.parts.later in let two = c.commit_rvg.ensures.later in omega (arith, one, two)
+
+pub returns-in-Err-commit_rvg-clause-finds : goal.returns-in-Err-commit_rvg-clause-finds
+returns-in-Err-commit_rvg-clause-finds g c =
+    second_finds c.args.core.now c.release.new.core c.commit_rvg.new.core (g.S.Shelf.meaning c.args.shelf.now) (g.S.Shelf.meaning c.release.new.shelf) (g.S.Shelf.meaning c.commit_rvg.new.shelf) (c.in-Ok.ensures.done (let room = c.requires.more in omega (arith, room)))
+    c.release.ensures.finds c.commit_rvg.ensures.finds c.commit_rvg.ensures.settles (same_unsure c.release.new.core.inner.unsure c.commit_rvg.new.core.unsure c.commit_rvg.ensures.narrows.unsure)
+
+pub returns-in-Err-commit_rvg-clause-later : goal.returns-in-Err-commit_rvg-clause-later
+returns-in-Err-commit_rvg-clause-later g c = let one = c.release.ensures.parts.later in let two = c.commit_rvg.ensures.later in omega (arith, one, two)

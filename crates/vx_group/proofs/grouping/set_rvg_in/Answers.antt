@@ -6,11 +6,13 @@ use Rattle.vx_config.specs.Checks.{is_group}
 use Rattle.vx_config.specs.declared.config.Config.{Config}
 use Rattle.vx_copies.specs.Commits.{MoreFailed}
 use Rattle.vx_group.specs.Calls.{GroupNarrows}
+use Rattle.vx_group.specs.Finds.{GroupFinds}
 use Rattle.vx_group.specs.Holding.{GroupStands, wide}
 use Rattle.vx_group.specs.Rvgs.{RvgEnds}
 use Rattle.vx_group.specs.Stands.{inner_meaning}
 use Rattle.vx_group.specs.declared.group_core.GroupCore.{GroupCore}
 use Rattle.vx_group.proofs.FailingLemmas.{no_failing}
+use Rattle.vx_group.proofs.FindingLemmas.{still_group}
 use Rattle.vx_group.proofs.HoldLemmas.{narrow_sound}
 use Rattle.vx_group.proofs.RvgLemmas.{late_refusal, no_narrows, no_refusal, none_some, refused_as, same_core, small_refusal}
 use Rattle.vx_group.proofs.grouping.set_rvg_in.Goals as goal
@@ -90,3 +92,24 @@ returns-clause-disks g c = subst (λ (k : GroupCore). MoreFailed (g.S.Shelf.mean
 
 pub returns-clause-ends : goal.returns-clause-ends
 returns-clause-ends g c = subst (λ (k : GroupCore). RvgEnds c.args.units.now k.inner.config c.name_rvg.new.core.inner.config (g.S.Shelf.meaning c.name_rvg.new.shelf) c.name_rvg.result) (same_core c.args.core.now c.may_name.new.config c.may_name.ensures.same) c.name_rvg.ensures.ends
+
+pub returns-clause-up : goal.returns-clause-up
+returns-clause-up g c = c.name_rvg.ensures.up
+
+pub returns-then-core-clause-finds : goal.returns-then-core-clause-finds
+returns-then-core-clause-finds g c = still_group c.args.core.now (g.S.Shelf.meaning c.args.shelf.now)
+
+pub returns-then-core-clause-later : goal.returns-then-core-clause-later
+returns-then-core-clause-later g c = omega arith
+
+pub returns-then-not-may_name-clause-finds : goal.returns-then-not-may_name-clause-finds
+returns-then-not-may_name-clause-finds g c = subst (λ (k : GroupCore). GroupFinds c.args.core.now k (g.S.Shelf.meaning c.args.shelf.now) (g.S.Shelf.meaning c.args.shelf.now)) (sym (same_core c.args.core.now c.may_name.new.config c.may_name.ensures.same)) (still_group c.args.core.now (g.S.Shelf.meaning c.args.shelf.now))
+
+pub returns-then-not-may_name-clause-later : goal.returns-then-not-may_name-clause-later
+returns-then-not-may_name-clause-later g c = let same = ap (λ (x : Config). x.serial) c.may_name.ensures.same in omega (arith, same)
+
+pub returns-clause-finds : goal.returns-clause-finds
+returns-clause-finds g c = subst (λ (k : GroupCore). GroupFinds k c.name_rvg.new.core (g.S.Shelf.meaning c.args.shelf.now) (g.S.Shelf.meaning c.name_rvg.new.shelf)) (same_core c.args.core.now c.may_name.new.config c.may_name.ensures.same) c.name_rvg.ensures.finds
+
+pub returns-clause-later : goal.returns-clause-later
+returns-clause-later g c = let same = ap (λ (x : Config). x.serial) c.may_name.ensures.same in let more = c.name_rvg.ensures.later in omega (arith, same, more)

@@ -6,6 +6,7 @@ use Rattle.vx_group.proofs.FailingLemmas.{then_failing, few_nine}
 use Rattle.vx_group.proofs.GiveLemmas.{keeps_volumes}
 use Rattle.vx_group.proofs.LoseLemmas.{but_parts, then_parts}
 use Rattle.vx_group.proofs.LostLemmas.{later_keeps, left_plexes}
+use Rattle.vx_group.proofs.SettleCalls.{headers_missed, settled_behind}
 use Rattle.vx_group.proofs.TrustLemmas.{err_from, ok_from}
 use Rattle.vx_group.proofs.FindingLemmas.{behind_finds}
 use Rattle.vx_group.proofs.TrustStillLemmas.{still_but, then_but, volumes_logs}
@@ -84,3 +85,11 @@ returns-clause-logs g c =
 
 pub returns-clause-few : goal.returns-clause-few
 returns-clause-few g c = few_nine c.lose_settled.result c.args.core.now.config.serial c.settle_headers.new.core.config.serial c.lose_settled.new.core.config.serial (length c.settle_headers.new.core.config.disks) c.lose_settled.ensures.few c.settle_headers.ensures.serial c.as_slice-disks.ensures.few
+
+pub returns-in-Err-clause-settles : goal.returns-in-Err-clause-settles
+returns-in-Err-clause-settles g c =
+    headers_missed c.args.core.now c.settle_headers.new.core (g.S.Shelf.meaning c.args.shelf.now) (g.S.Shelf.meaning c.settle_headers.new.shelf) c.requires.stands c.settle_headers.ensures.narrows c.settle_headers.ensures.serial c.settle_headers.ensures.less c.in-Err.ensures.missed
+
+pub returns-clause-settles : goal.returns-clause-settles
+returns-clause-settles g c =
+    settled_behind c.args.core.now c.settle_headers.new.core c.lose_settled.new.core (g.S.Shelf.meaning c.args.shelf.now) (g.S.Shelf.meaning c.settle_headers.new.shelf) (g.S.Shelf.meaning c.lose_settled.new.shelf) c.requires.stands c.requires.more c.settle_headers.ensures.narrows c.settle_headers.ensures.less c.lose_settled.ensures.settles

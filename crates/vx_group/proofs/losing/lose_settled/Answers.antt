@@ -2,6 +2,8 @@
 use Rattle.std.proofs.Common.{Err, ap, length, refl, subst, sym, true}
 use Rattle.vx_disk.specs.declared.shelf.ShelfError.{ShelfError}
 use Rattle.vx_config.specs.Changes.{lost}
+use Rattle.vx_kept.specs.Commits.{Member}
+use Rattle.vx_kept.proofs.LosingLemmas.{lost_on, made_plexes}
 use Rattle.vx_kept.proofs.RunLemmas.{logs_volumes}
 use Rattle.vx_group.specs.Blames.{Blames}
 use Rattle.vx_group.proofs.CallLemmas.{not_down}
@@ -9,7 +11,8 @@ use Rattle.vx_group.proofs.DetachLemmas.{left_Narrows, left_Stands, stop_sure}
 use Rattle.vx_group.proofs.FailingLemmas.{failing_from, no_failing, few_serial}
 use Rattle.vx_group.proofs.GiveLemmas.{keeps_volumes}
 use Rattle.vx_group.proofs.LostLemmas.{gone_Narrows, gone_Stands, gone_off, gone_others, gone_plexes, left_plexes}
-use Rattle.vx_group.proofs.Standing.{kept_of, tidy_of}
+use Rattle.vx_group.proofs.SettleCalls.{done_settled, left_settled, less_acts}
+use Rattle.vx_group.proofs.Standing.{apart_of_core, kept_of, tidy_of}
 use Rattle.vx_group.proofs.TrustLemmas.{stays_committed}
 use Rattle.vx_group.proofs.FindingLemmas.{done_ends, left_ends}
 use Rattle.vx_group.proofs.TrustStillLemmas.{but_logs, still_but, volumes_logs}
@@ -180,3 +183,23 @@ returns-else-is_down-2-clause-logs g c =
 
 pub returns-else-is_down-clause-few : goal.returns-else-is_down-clause-few
 returns-else-is_down-clause-few g c = few_serial c.args.core.now.config (lost c.args.vol c.args.log true c.args.core.now.config) c.commit_lost.new.config refl refl c.in-Ok.ensures.ends.few
+
+pub returns-then-is_down-clause-settles : goal.returns-then-is_down-clause-settles
+returns-then-is_down-clause-settles g c = done_settled _ (g.S.Shelf.meaning c.args.shelf.now) (g.S.Shelf.meaning c.commit_lost.new.shelf) c.commit_lost.ensures.on (record { finds = c.in-Ok.ensures.ends.finds })
+
+pub returns-else-is_down-clause-settles : goal.returns-else-is_down-clause-settles
+returns-else-is_down-clause-settles g c = done_settled _ (g.S.Shelf.meaning c.args.shelf.now) (g.S.Shelf.meaning c.commit_lost.new.shelf) c.commit_lost.ensures.on (record { finds = c.in-Ok.ensures.ends.finds })
+
+pub returns-then-is_down-2-clause-settles : goal.returns-then-is_down-2-clause-settles
+returns-then-is_down-2-clause-settles g c =
+    let m = g.S.Shelf.meaning c.args.shelf.now in
+    left_settled (lost c.args.vol c.args.log true c.args.core.now.config) c.args.core.now.config (Member c.args.core.now.good m) _ (g.S.Shelf.meaning c.args.shelf.now) (g.S.Shelf.meaning c.commit_lost.new.shelf)
+    (lost_on c.args.core.now.config (lost c.args.vol c.args.log true c.args.core.now.config) (made_plexes c.args.vol c.args.log c.args.core.now.config _ refl) c.requires.stands.on) c.requires.stands.kept
+    (less_acts c.args.core.now.config _ (g.S.Shelf.meaning c.args.shelf.now) (g.S.Shelf.meaning c.commit_lost.new.shelf) (apart_of_core c.args.core.now m c.requires.stands) c.commit_lost.ensures.acts) c.commit_lost.ensures.finds refl
+
+pub returns-else-is_down-2-clause-settles : goal.returns-else-is_down-2-clause-settles
+returns-else-is_down-2-clause-settles g c =
+    let m = g.S.Shelf.meaning c.args.shelf.now in
+    left_settled (lost c.args.vol c.args.log true c.args.core.now.config) c.args.core.now.config (Member c.args.core.now.good m) _ (g.S.Shelf.meaning c.args.shelf.now) (g.S.Shelf.meaning c.commit_lost.new.shelf)
+    (lost_on c.args.core.now.config (lost c.args.vol c.args.log true c.args.core.now.config) (made_plexes c.args.vol c.args.log c.args.core.now.config _ refl) c.requires.stands.on) c.requires.stands.kept
+    (less_acts c.args.core.now.config _ (g.S.Shelf.meaning c.args.shelf.now) (g.S.Shelf.meaning c.commit_lost.new.shelf) (apart_of_core c.args.core.now m c.requires.stands) c.commit_lost.ensures.acts) c.commit_lost.ensures.finds refl

@@ -1,7 +1,7 @@
 -- `lose_attached`: what `lose_up` asks; clauses stands, attaches, ends, failing, finds and logs.
 use Rattle.std.proofs.Common.{◌∙◌, refl}
 use Rattle.vx_kept.proofs.StateLemmas.{same_shape}
-use Rattle.vx_group.proofs.AloneLemmas.{alone_attaches, alone_core, back_failing}
+use Rattle.vx_group.proofs.AloneLemmas.{alone_attaches, alone_core, back_failing, alone_told}
 use Rattle.vx_group.proofs.HoldLemmas.{back_Stands, back_gone, back_others, back_parts, back_shape, back_wide, from_none, none_Stands, wide_none}
 use Rattle.vx_group.proofs.LoseLemmas.{none_parts}
 use Rattle.vx_group.proofs.TrustStillLemmas.{back_logs, but_then}
@@ -63,3 +63,11 @@ returns-in-Err-clause-finds g c =
 pub returns-in-Err-clause-logs : goal.returns-in-Err-clause-logs
 returns-in-Err-clause-logs g c =
     but_then c.args.vol c.args.log c.args.core.now.inner.config c.lose_up.new.core.config c.hold_back.new.core.inner.config c.lose_up.ensures.logs (back_logs c.args.vol c.args.plex (record { inner = c.lose_up.new.core; held = c.args.core.now.held }) c.hold_back.new.core c.hold_back.ensures)
+
+pub returns-in-Ok-clause-settles : goal.returns-in-Ok-clause-settles
+returns-in-Ok-clause-settles g c =
+    alone_told c.args.core.now (record { inner = c.lose_up.new.core; held = c.args.core.now.held }) c.lose_up.new.core (g.S.Shelf.meaning c.args.shelf.now) (g.S.Shelf.meaning c.lose_up.new.shelf) c.requires.alone (wide_none (record { inner = c.lose_up.new.core; held = c.args.core.now.held }) c.requires.alone) c.lose_up.ensures.settles
+
+pub returns-in-Err-clause-settles : goal.returns-in-Err-clause-settles
+returns-in-Err-clause-settles g c =
+    alone_told c.args.core.now c.hold_back.new.core c.lose_up.new.core (g.S.Shelf.meaning c.args.shelf.now) (g.S.Shelf.meaning c.lose_up.new.shelf) c.requires.alone (back_wide c.args.vol c.args.plex (record { inner = c.lose_up.new.core; held = c.args.core.now.held }) c.hold_back.new.core c.requires.alone c.hold_back.ensures) c.lose_up.ensures.settles

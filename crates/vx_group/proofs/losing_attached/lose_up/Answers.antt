@@ -11,6 +11,7 @@ use Rattle.vx_group.proofs.FindingLemmas.{none_finds}
 use Rattle.vx_group.proofs.LostLemmas.{active_plexes}
 use Rattle.vx_group.proofs.SourcesLemmas.{no_attaches}
 use Rattle.vx_group.proofs.TrustStillLemmas.{same_logs, still_but}
+use Rattle.vx_group.proofs.SettleCalls.{same_told}
 use Rattle.vx_group.proofs.losing_attached.lose_up.Goals as goal
 
 pub returns-then-is_down-clause-attaches : goal.returns-then-is_down-clause-attaches
@@ -48,3 +49,9 @@ returns-then-is_down-clause-logs g c = still_but c.args.vol c.args.log c.args.co
 
 pub returns-clause-logs : goal.returns-clause-logs
 returns-clause-logs g c = c.lose_log.ensures.logs
+
+pub returns-then-is_down-clause-settles : goal.returns-then-is_down-clause-settles
+returns-then-is_down-clause-settles g c = same_told c.args.core.now (g.S.Shelf.meaning c.args.shelf.now)
+
+pub returns-clause-settles : goal.returns-clause-settles
+returns-clause-settles g c = c.lose_log.ensures.settles

@@ -10,6 +10,7 @@ use Rattle.vx_group.proofs.LoseLemmas.{loses_plexes, loses_same}
 use Rattle.vx_group.proofs.LostLemmas.{error_to}
 use Rattle.vx_group.proofs.FindingLemmas.{as_finds, none_finds}
 use Rattle.vx_group.proofs.TrustStillLemmas.{same_logs, still_but}
+use Rattle.vx_group.proofs.SettleCalls.{as_told, same_told}
 use Rattle.vx_group.proofs.UnsureLemmas.{misses_by, unsure_then}
 use Rattle.vx_group.proofs.losing_group.lose_in.Goals as goal
 
@@ -102,6 +103,18 @@ returns-then-core-ge-MOST_NUMBER-clause-few g c = omega arith
 
 pub returns-in-Ok-clause-few : goal.returns-in-Ok-clause-few
 returns-in-Ok-clause-few g c = c.in-Ok.ensures.few
+
+pub returns-then-is_down-clause-settles : goal.returns-then-is_down-clause-settles
+returns-then-is_down-clause-settles g c = same_told c.args.core.now (g.S.Shelf.meaning c.args.shelf.now)
+
+pub returns-then-core-ge-MOST_NUMBER-clause-settles : goal.returns-then-core-ge-MOST_NUMBER-clause-settles
+returns-then-core-ge-MOST_NUMBER-clause-settles g c = same_told c.args.core.now (g.S.Shelf.meaning c.args.shelf.now)
+
+pub returns-in-Ok-clause-settles : goal.returns-in-Ok-clause-settles
+returns-in-Ok-clause-settles g c = c.lose_log.ensures.settles
+
+pub returns-in-Err-clause-settles : goal.returns-in-Err-clause-settles
+returns-in-Err-clause-settles g c = as_told c.args.core.now c.lose_log.new.core _ (g.S.Shelf.meaning c.args.shelf.now) (g.S.Shelf.meaning c.lose_log.new.shelf) refl refl c.lose_log.ensures.settles
 
 pub returns-in-Ok-clause-marks : goal.returns-in-Ok-clause-marks
 returns-in-Ok-clause-marks g c = c.lose_log.ensures.narrows.unsure

@@ -10,6 +10,8 @@ use Rattle.vx_group.proofs.MissingLemmas.{mark_Stands, mark_finds, mark_stay}
 use Rattle.vx_group.proofs.FailingLemmas.{then_failing}
 use Rattle.vx_group.proofs.FindingLemmas.{then_finds}
 use Rattle.vx_group.proofs.TrustStillLemmas.{then_logs, volumes_logs}
+use Rattle.vx_group.proofs.SettleCalls.{headers_missed}
+use Rattle.vx_group.proofs.SettleMore.{made_marked, made_missed, made_told}
 use Rattle.vx_group.proofs.making.add.Goals as goal
 
 pub returns-in-Err-clause-stays : goal.returns-in-Err-clause-stays
@@ -226,3 +228,16 @@ returns-else-unsettled-clause-cause g c =
 
 pub returns-in-Err-clause-missed : goal.returns-in-Err-clause-missed
 returns-in-Err-clause-missed g c = λ was. c.in-Err.ensures.missed
+
+pub returns-in-Err-clause-settles : goal.returns-in-Err-clause-settles
+returns-in-Err-clause-settles g c =
+    headers_missed c.args.core.now c.settle_headers.new.core (g.S.Shelf.meaning c.args.shelf.now) (g.S.Shelf.meaning c.settle_headers.new.shelf) c.requires.stands c.settle_headers.ensures.narrows c.settle_headers.ensures.serial c.settle_headers.ensures.less c.in-Err.ensures.missed
+
+pub returns-in-Ok-add_last-clause-settles : goal.returns-in-Ok-add_last-clause-settles
+returns-in-Ok-add_last-clause-settles g c = made_told c.args.core.now c.settle_headers.new.core _ (g.S.Shelf.meaning c.args.shelf.now) (g.S.Shelf.meaning c.settle_headers.new.shelf) (g.S.Shelf.meaning c.add_last.new.shelf) c.requires.stands c.requires.up c.requires.more c.settle_headers.ensures.narrows c.settle_headers.ensures.less c.add_last.ensures.alikes c.in-Ok-add_last.ensures.dones
+
+pub returns-then-unsettled-clause-settles : goal.returns-then-unsettled-clause-settles
+returns-then-unsettled-clause-settles g c = made_marked c.args.core.now c.settle_headers.new.core _ (g.S.Shelf.meaning c.args.shelf.now) (g.S.Shelf.meaning c.settle_headers.new.shelf) (g.S.Shelf.meaning c.add_last.new.shelf) c.requires.stands c.requires.up c.requires.more c.settle_headers.ensures.narrows c.settle_headers.ensures.less c.add_last.ensures.alikes refl
+
+pub returns-else-unsettled-clause-settles : goal.returns-else-unsettled-clause-settles
+returns-else-unsettled-clause-settles g c = made_missed c.args.core.now c.settle_headers.new.core _ (g.S.Shelf.meaning c.args.shelf.now) (g.S.Shelf.meaning c.settle_headers.new.shelf) (g.S.Shelf.meaning c.add_last.new.shelf) c.requires.stands c.requires.up c.requires.more c.settle_headers.ensures.narrows c.settle_headers.ensures.less c.add_last.ensures.alikes c.if-unsettled.false c.add_last.ensures.nones

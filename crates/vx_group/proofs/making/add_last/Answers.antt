@@ -1,11 +1,11 @@
 -- `add_last`: clauses stands, stays, adds, beside, cause and whole; what `zero_volume` and `commit_next` ask.
-use Rattle.std.proofs.Common.{ℕ, length, Err, refl, ap, sym, subst, arith}
+use Rattle.std.proofs.Common.{◌≡◌, ℕ, true, false, length, Err, refl, ap, sym, subst, arith}
 use Rattle.vx_disk.specs.Shelf.{Goes, Meaning}
 use Rattle.vx_disk.specs.declared.shelf.ShelfError.{ShelfError}
 use Rattle.vx_volume.specs.Plexes.{SomeActive}
 use Rattle.vx_group.specs.Blames.{StopsByDevice, fault_of as fault_is}
 use Rattle.vx_group.specs.Makes.{AreZero, ZerosOn}
-use Rattle.vx_group.proofs.AddLemmas.{added, added_Stands, added_stay, missed_Stands, missed_blames, missed_stay, next_can, next_count, next_fit, next_follows, next_on, next_some, next_tidy, next_wanted, whole_beside, zero_Stands, zero_beside, zero_stay, zero_finds}
+use Rattle.vx_group.proofs.AddLemmas.{added, added_Stands, added_stay, missed_Stands, missed_blames, missed_stay, next_can, next_count, next_fit, next_follows, next_on, next_some, next_tidy, next_wanted, whole_beside, zero_Stands, zero_beside, zero_stay, zero_finds, left_alike, zero_alike}
 use Rattle.vx_group.proofs.CallLemmas.{not_down}
 use Rattle.vx_group.proofs.DeportLemmas.{blames_stop, stops_later}
 use Rattle.vx_group.proofs.LoseLemmas.{grown_parts, none_parts, then_parts}
@@ -16,6 +16,8 @@ use Rattle.vx_config.specs.declared.config.Config.{Config}
 use Rattle.vx_group.proofs.FailingLemmas.{no_failing, then_failing}
 use Rattle.vx_group.proofs.FindingLemmas.{before_ends, done_ends, ends_finds, left_ends, stays_finds}
 use Rattle.vx_group.proofs.TrustStillLemmas.{added_logs, same_logs, volumes_logs}
+use Rattle.vx_group.proofs.SettleFinds.{none_done, none_still}
+use Rattle.vx_group.proofs.SettleMore.{none_alikes}
 use Rattle.vx_group.proofs.making.add_last.Goals as goal
 
 pub zero_volume-requires-clause-checked : goal.zero_volume-requires-clause-checked
@@ -199,3 +201,30 @@ returns-then-is_down-clause-off g c = λ off. refl
 
 pub returns-else-is_down-clause-off : goal.returns-else-is_down-clause-off
 returns-else-is_down-clause-off g c = λ off. refl
+
+pub returns-in-Err-clause-alikes : goal.returns-in-Err-clause-alikes
+returns-in-Err-clause-alikes g c = zero_alike c.args.core.now c.args.next (g.S.Shelf.meaning c.args.shelf.now) c.requires.stands c.requires.is_next (g.S.Shelf.meaning c.zero_volume.new.shelf) (g.met.S.Shelf.lawful c.args.shelf.now) (g.met.S.Shelf.lawful c.zero_volume.new.shelf) (subst (λ (k : ℕ). Goes (ZerosOn c.args.next k) (g.S.Shelf.meaning c.args.shelf.now) (g.S.Shelf.meaning c.zero_volume.new.shelf)) (ap length c.as_slice.ensures.volumes) c.zero_volume.ensures.goes)
+
+pub returns-in-Err-clause-nones : goal.returns-in-Err-clause-nones
+returns-in-Err-clause-nones g c = λ was off v. none_still v (g.S.Shelf.meaning c.args.shelf.now) (g.S.Shelf.meaning c.zero_volume.new.shelf) (zero_finds c.args.core.now c.args.next (g.S.Shelf.meaning c.args.shelf.now) c.requires.stands c.requires.is_next (g.S.Shelf.meaning c.zero_volume.new.shelf) (g.met.S.Shelf.lawful c.args.shelf.now) (g.met.S.Shelf.lawful c.zero_volume.new.shelf) (subst (λ (k : ℕ). Goes (ZerosOn c.args.next k) (g.S.Shelf.meaning c.args.shelf.now) (g.S.Shelf.meaning c.zero_volume.new.shelf)) (ap length c.as_slice.ensures.volumes) c.zero_volume.ensures.goes)) (was v)
+
+pub returns-in-Ok-commit_next-clause-alikes : goal.returns-in-Ok-commit_next-clause-alikes
+returns-in-Ok-commit_next-clause-alikes g c = none_alikes (g.S.Shelf.meaning c.args.shelf.now) (g.S.Shelf.meaning c.commit_next.new.shelf) (λ v. none_done _ v (g.S.Shelf.meaning c.commit_next.new.shelf) c.commit_next.ensures.on (record { finds = c.in-Ok-commit_next.ensures.ends.finds }))
+
+pub returns-in-Ok-commit_next-clause-nones : goal.returns-in-Ok-commit_next-clause-nones
+returns-in-Ok-commit_next-clause-nones g c = λ was off. (λ v. none_done _ v (g.S.Shelf.meaning c.commit_next.new.shelf) c.commit_next.ensures.on (record { finds = c.in-Ok-commit_next.ensures.ends.finds }))
+
+pub returns-in-Ok-commit_next-clause-dones : goal.returns-in-Ok-commit_next-clause-dones
+returns-in-Ok-commit_next-clause-dones g c = λ v. none_done _ v (g.S.Shelf.meaning c.commit_next.new.shelf) c.commit_next.ensures.on (record { finds = c.in-Ok-commit_next.ensures.ends.finds })
+
+pub returns-then-is_down-clause-alikes : goal.returns-then-is_down-clause-alikes
+returns-then-is_down-clause-alikes g c = left_alike c.args.core.now c.args.next (g.S.Shelf.meaning c.args.shelf.now) c.requires.stands c.requires.is_next (g.S.Shelf.meaning c.zero_volume.new.shelf) (g.met.S.Shelf.lawful c.args.shelf.now) (g.met.S.Shelf.lawful c.zero_volume.new.shelf) (subst (λ (k : ℕ). Goes (ZerosOn c.args.next k) (g.S.Shelf.meaning c.args.shelf.now) (g.S.Shelf.meaning c.zero_volume.new.shelf)) (ap length c.as_slice.ensures.volumes) c.zero_volume.ensures.goes) (g.S.Shelf.meaning c.commit_next.new.shelf) c.commit_next.ensures.acts c.commit_next.ensures.finds
+
+pub returns-then-is_down-clause-nones : goal.returns-then-is_down-clause-nones
+returns-then-is_down-clause-nones g c = λ was off. absurd (let clash : true ≡ false = off in cc)
+
+pub returns-else-is_down-clause-alikes : goal.returns-else-is_down-clause-alikes
+returns-else-is_down-clause-alikes g c = left_alike c.args.core.now c.args.next (g.S.Shelf.meaning c.args.shelf.now) c.requires.stands c.requires.is_next (g.S.Shelf.meaning c.zero_volume.new.shelf) (g.met.S.Shelf.lawful c.args.shelf.now) (g.met.S.Shelf.lawful c.zero_volume.new.shelf) (subst (λ (k : ℕ). Goes (ZerosOn c.args.next k) (g.S.Shelf.meaning c.args.shelf.now) (g.S.Shelf.meaning c.zero_volume.new.shelf)) (ap length c.as_slice.ensures.volumes) c.zero_volume.ensures.goes) (g.S.Shelf.meaning c.commit_next.new.shelf) c.commit_next.ensures.acts c.commit_next.ensures.finds
+
+pub returns-else-is_down-clause-nones : goal.returns-else-is_down-clause-nones
+returns-else-is_down-clause-nones g c = λ was off. absurd (let clash : true ≡ false = off in cc)

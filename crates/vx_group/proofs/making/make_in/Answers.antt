@@ -16,6 +16,7 @@ use Rattle.vx_group.proofs.FailingLemmas.{no_failing, then_failing}
 use Rattle.vx_group.proofs.FindingLemmas.{still_group}
 use Rattle.vx_group.proofs.FoundThrough.{second_finds}
 use Rattle.vx_group.proofs.TrustStillLemmas.{same_logs, then_logs}
+use Rattle.vx_group.proofs.UnsureMarks.{same_unsure}
 use Rattle.vx_group.proofs.making.make_in.Goals as goal
 
 pub returns-in-Some-clause-stays : goal.returns-in-Some-clause-stays
@@ -175,11 +176,11 @@ returns-in-Err-release-clause-finds g c =
 
 pub returns-in-Ok-add-clause-finds : goal.returns-in-Ok-add-clause-finds
 returns-in-Ok-add-clause-finds g c =
-    second_finds c.args.core.now c.release.new.core c.add.new.core (g.S.Shelf.meaning c.args.shelf.now) (g.S.Shelf.meaning c.release.new.shelf) (g.S.Shelf.meaning c.add.new.shelf) (c.in-Ok-release.ensures.done (may_make c.args.core.now.inner.config c.args.name.now c.args.want.now c.plan.ensures.may).serial) c.release.ensures.finds c.add.ensures.finds
+    second_finds c.args.core.now c.release.new.core c.add.new.core (g.S.Shelf.meaning c.args.shelf.now) (g.S.Shelf.meaning c.release.new.shelf) (g.S.Shelf.meaning c.add.new.shelf) (c.in-Ok-release.ensures.done (may_make c.args.core.now.inner.config c.args.name.now c.args.want.now c.plan.ensures.may).serial) c.release.ensures.finds c.add.ensures.finds c.add.ensures.settles (same_unsure c.release.new.core.inner.unsure c.add.new.core.unsure c.add.ensures.stays.unsure)
 
 pub returns-in-Err-add-clause-finds : goal.returns-in-Err-add-clause-finds
 returns-in-Err-add-clause-finds g c =
-    second_finds c.args.core.now c.release.new.core c.add.new.core (g.S.Shelf.meaning c.args.shelf.now) (g.S.Shelf.meaning c.release.new.shelf) (g.S.Shelf.meaning c.add.new.shelf) (c.in-Ok-release.ensures.done (may_make c.args.core.now.inner.config c.args.name.now c.args.want.now c.plan.ensures.may).serial) c.release.ensures.finds c.add.ensures.finds
+    second_finds c.args.core.now c.release.new.core c.add.new.core (g.S.Shelf.meaning c.args.shelf.now) (g.S.Shelf.meaning c.release.new.shelf) (g.S.Shelf.meaning c.add.new.shelf) (c.in-Ok-release.ensures.done (may_make c.args.core.now.inner.config c.args.name.now c.args.want.now c.plan.ensures.may).serial) c.release.ensures.finds c.add.ensures.finds c.add.ensures.settles (same_unsure c.release.new.core.inner.unsure c.add.new.core.unsure c.add.ensures.stays.unsure)
 
 pub returns-in-Some-clause-logs : goal.returns-in-Some-clause-logs
 returns-in-Some-clause-logs g c = same_logs c.args.core.now.inner.config

@@ -13,6 +13,8 @@ use Rattle.vx_group.proofs.WriteLemmas.{flushed_Narrows, flushed_Stands, flushed
 use Rattle.vx_group.proofs.FindingLemmas.{as_finds, before_ends, ends_finds, stays_finds}
 use Rattle.vx_group.proofs.TrustLemmas.{err_all}
 use Rattle.vx_group.proofs.TrustStillLemmas.{same_logs}
+use Rattle.vx_group.proofs.SettleCalls.{idle_alike}
+use Rattle.vx_group.proofs.SettleMore.{alike_ends, as_ends, ends_alike, leaves_settled}
 use Rattle.vx_group.proofs.quiescing.flush_one.Goals as goal
 
 pub flush_all-requires-clause-checked : goal.flush_all-requires-clause-checked
@@ -97,6 +99,62 @@ returns-in-Err-detach-clause-logs g c = c.detach.ensures.logs
 
 pub returns-in-Err-clause-logs : goal.returns-in-Err-clause-logs
 returns-in-Err-clause-logs g c = same_logs c.args.core.now.config
+
+pub returns-then-failed-eq0-clause-alikes : goal.returns-then-failed-eq0-clause-alikes
+returns-then-failed-eq0-clause-alikes g c =
+    idle_alike c.args.core.now (g.S.Shelf.meaning c.args.shelf.now) (g.S.Shelf.meaning c.flush_all.new.shelf) c.requires.stands c.flush_all.ensures.goes
+    (flushed_finds c.args.core.now c.args.vol (g.S.Shelf.meaning c.args.shelf.now) (g.S.Shelf.meaning c.flush_all.new.shelf) (g.met.S.Shelf.lawful c.args.shelf.now) (g.met.S.Shelf.lawful c.flush_all.new.shelf) c.requires.stands c.flush_all.ensures.goes)
+
+pub returns-then-core-ge-MOST_NUMBER-clause-alikes : goal.returns-then-core-ge-MOST_NUMBER-clause-alikes
+returns-then-core-ge-MOST_NUMBER-clause-alikes g c =
+    ends_alike c.detach.new.core (g.S.Shelf.meaning c.args.shelf.now) (g.S.Shelf.meaning c.detach.new.shelf)
+    (alike_ends c.detach.new.core (g.S.Shelf.meaning c.args.shelf.now) (g.S.Shelf.meaning c.flush_all.new.shelf) (g.S.Shelf.meaning c.detach.new.shelf)
+    (idle_alike c.args.core.now (g.S.Shelf.meaning c.args.shelf.now) (g.S.Shelf.meaning c.flush_all.new.shelf) c.requires.stands c.flush_all.ensures.goes
+    (flushed_finds c.args.core.now c.args.vol (g.S.Shelf.meaning c.args.shelf.now) (g.S.Shelf.meaning c.flush_all.new.shelf) (g.met.S.Shelf.lawful c.args.shelf.now) (g.met.S.Shelf.lawful c.flush_all.new.shelf) c.requires.stands c.flush_all.ensures.goes))
+    c.detach.ensures.settles)
+
+pub returns-then-core-ge-MOST_NUMBER-clause-settles : goal.returns-then-core-ge-MOST_NUMBER-clause-settles
+returns-then-core-ge-MOST_NUMBER-clause-settles g c =
+    alike_ends c.detach.new.core (g.S.Shelf.meaning c.args.shelf.now) (g.S.Shelf.meaning c.flush_all.new.shelf) (g.S.Shelf.meaning c.detach.new.shelf)
+    (idle_alike c.args.core.now (g.S.Shelf.meaning c.args.shelf.now) (g.S.Shelf.meaning c.flush_all.new.shelf) c.requires.stands c.flush_all.ensures.goes
+    (flushed_finds c.args.core.now c.args.vol (g.S.Shelf.meaning c.args.shelf.now) (g.S.Shelf.meaning c.flush_all.new.shelf) (g.met.S.Shelf.lawful c.args.shelf.now) (g.met.S.Shelf.lawful c.flush_all.new.shelf) c.requires.stands c.flush_all.ensures.goes))
+    c.detach.ensures.settles
+
+pub returns-else-core-ge-MOST_NUMBER-clause-alikes : goal.returns-else-core-ge-MOST_NUMBER-clause-alikes
+returns-else-core-ge-MOST_NUMBER-clause-alikes g c =
+    ends_alike c.detach.new.core (g.S.Shelf.meaning c.args.shelf.now) (g.S.Shelf.meaning c.detach.new.shelf)
+    (alike_ends c.detach.new.core (g.S.Shelf.meaning c.args.shelf.now) (g.S.Shelf.meaning c.flush_all.new.shelf) (g.S.Shelf.meaning c.detach.new.shelf)
+    (idle_alike c.args.core.now (g.S.Shelf.meaning c.args.shelf.now) (g.S.Shelf.meaning c.flush_all.new.shelf) c.requires.stands c.flush_all.ensures.goes
+    (flushed_finds c.args.core.now c.args.vol (g.S.Shelf.meaning c.args.shelf.now) (g.S.Shelf.meaning c.flush_all.new.shelf) (g.met.S.Shelf.lawful c.args.shelf.now) (g.met.S.Shelf.lawful c.flush_all.new.shelf) c.requires.stands c.flush_all.ensures.goes))
+    c.detach.ensures.settles)
+
+pub returns-in-Err-detach-clause-alikes : goal.returns-in-Err-detach-clause-alikes
+returns-in-Err-detach-clause-alikes g c =
+    ends_alike c.detach.new.core (g.S.Shelf.meaning c.args.shelf.now) (g.S.Shelf.meaning c.detach.new.shelf)
+    (alike_ends c.detach.new.core (g.S.Shelf.meaning c.args.shelf.now) (g.S.Shelf.meaning c.flush_all.new.shelf) (g.S.Shelf.meaning c.detach.new.shelf)
+    (idle_alike c.args.core.now (g.S.Shelf.meaning c.args.shelf.now) (g.S.Shelf.meaning c.flush_all.new.shelf) c.requires.stands c.flush_all.ensures.goes
+    (flushed_finds c.args.core.now c.args.vol (g.S.Shelf.meaning c.args.shelf.now) (g.S.Shelf.meaning c.flush_all.new.shelf) (g.met.S.Shelf.lawful c.args.shelf.now) (g.met.S.Shelf.lawful c.flush_all.new.shelf) c.requires.stands c.flush_all.ensures.goes))
+    c.detach.ensures.settles)
+
+pub returns-in-Err-detach-clause-settles : goal.returns-in-Err-detach-clause-settles
+returns-in-Err-detach-clause-settles g c =
+    as_ends c.detach.new.core _ (g.S.Shelf.meaning c.args.shelf.now) (g.S.Shelf.meaning c.detach.new.shelf) refl
+    (alike_ends c.detach.new.core (g.S.Shelf.meaning c.args.shelf.now) (g.S.Shelf.meaning c.flush_all.new.shelf) (g.S.Shelf.meaning c.detach.new.shelf)
+    (idle_alike c.args.core.now (g.S.Shelf.meaning c.args.shelf.now) (g.S.Shelf.meaning c.flush_all.new.shelf) c.requires.stands c.flush_all.ensures.goes
+    (flushed_finds c.args.core.now c.args.vol (g.S.Shelf.meaning c.args.shelf.now) (g.S.Shelf.meaning c.flush_all.new.shelf) (g.met.S.Shelf.lawful c.args.shelf.now) (g.met.S.Shelf.lawful c.flush_all.new.shelf) c.requires.stands c.flush_all.ensures.goes))
+    c.detach.ensures.settles)
+
+pub returns-in-Err-clause-alikes : goal.returns-in-Err-clause-alikes
+returns-in-Err-clause-alikes g c =
+    idle_alike c.args.core.now (g.S.Shelf.meaning c.args.shelf.now) (g.S.Shelf.meaning c.flush_all.new.shelf) c.requires.stands c.flush_all.ensures.goes
+    (flushed_finds c.args.core.now c.args.vol (g.S.Shelf.meaning c.args.shelf.now) (g.S.Shelf.meaning c.flush_all.new.shelf) (g.met.S.Shelf.lawful c.args.shelf.now) (g.met.S.Shelf.lawful c.flush_all.new.shelf) c.requires.stands c.flush_all.ensures.goes)
+
+pub returns-in-Err-clause-settles : goal.returns-in-Err-clause-settles
+returns-in-Err-clause-settles g c =
+    leaves_settled _ (g.S.Shelf.meaning c.args.shelf.now) (g.S.Shelf.meaning c.flush_all.new.shelf) c.fault_of.result c.leave_unsure.result c.leave_unsure.ensures.goes_on
+    (subst (λ (e : ShelfError). Blames {T = Unit {0}} (g.S.Shelf.meaning c.args.shelf.now) (g.S.Shelf.meaning c.flush_all.new.shelf) (Err e)) (sym c.fault_of.ensures) (ends_blame c.args.core.now.config c.args.vol (λ p. PlexFlushed c.args.core.now.config c.args.vol p (g.S.Shelf.meaning c.args.shelf.now) (g.S.Shelf.meaning c.flush_all.new.shelf)) (g.S.Shelf.meaning c.args.shelf.now) (g.S.Shelf.meaning c.flush_all.new.shelf) c.in-Err.no 0 c.in-Err.ensures.ends))
+    (idle_alike c.args.core.now (g.S.Shelf.meaning c.args.shelf.now) (g.S.Shelf.meaning c.flush_all.new.shelf) c.requires.stands c.flush_all.ensures.goes
+    (flushed_finds c.args.core.now c.args.vol (g.S.Shelf.meaning c.args.shelf.now) (g.S.Shelf.meaning c.flush_all.new.shelf) (g.met.S.Shelf.lawful c.args.shelf.now) (g.met.S.Shelf.lawful c.flush_all.new.shelf) c.requires.stands c.flush_all.ensures.goes))
 
 pub returns-then-core-ge-MOST_NUMBER-clause-agreed : goal.returns-then-core-ge-MOST_NUMBER-clause-agreed
 returns-then-core-ge-MOST_NUMBER-clause-agreed g c = λ is. c.detach.ensures.stands.trusts.both (c.in-Ok-detach.ensures.trust is)

@@ -5,6 +5,7 @@ use Rattle.vx_group.proofs.DetachLemmas.{zero_bit}
 use Rattle.vx_group.proofs.LoseLemmas.{but_parts, then_parts}
 use Rattle.vx_group.proofs.Standing.{some_active}
 use Rattle.vx_group.proofs.FindingLemmas.{before_ends}
+use Rattle.vx_group.proofs.SettleCalls.{ends_behind, headers_ended}
 use Rattle.vx_group.proofs.regaining.recommit.Goals as goal
 
 pub detach_named-requires-clause-left : goal.detach_named-requires-clause-left
@@ -66,3 +67,22 @@ returns-then-lies_on_failed-clause-finds g c =
 pub returns-clause-finds : goal.returns-clause-finds
 returns-clause-finds g c =
     before_ends c.detach_named.new.core (g.S.Shelf.meaning c.args.shelf.now) (g.S.Shelf.meaning c.settle_named.new.shelf) (g.S.Shelf.meaning c.detach_named.new.shelf) c.settle_named.ensures.less c.detach_named.ensures.finds
+
+pub returns-in-Err-clause-settles : goal.returns-in-Err-clause-settles
+returns-in-Err-clause-settles g c = headers_ended c.args.core.now c.settle_named.new.core (g.S.Shelf.meaning c.args.shelf.now) (g.S.Shelf.meaning c.settle_named.new.shelf) c.requires.stands c.settle_named.ensures.narrows c.settle_named.ensures.less c.in-Err.ensures.missed
+
+pub returns-in-Err-detach_named-clause-settles : goal.returns-in-Err-detach_named-clause-settles
+returns-in-Err-detach_named-clause-settles g c =
+    ends_behind c.args.core.now c.settle_named.new.core c.detach_named.new.core (g.S.Shelf.meaning c.args.shelf.now) (g.S.Shelf.meaning c.settle_named.new.shelf) (g.S.Shelf.meaning c.detach_named.new.shelf) c.requires.stands c.settle_named.ensures.narrows c.settle_named.ensures.less c.detach_named.ensures.settles
+
+pub returns-then-missed-clause-settles : goal.returns-then-missed-clause-settles
+returns-then-missed-clause-settles g c =
+    ends_behind c.args.core.now c.settle_named.new.core c.detach_named.new.core (g.S.Shelf.meaning c.args.shelf.now) (g.S.Shelf.meaning c.settle_named.new.shelf) (g.S.Shelf.meaning c.detach_named.new.shelf) c.requires.stands c.settle_named.ensures.narrows c.settle_named.ensures.less c.detach_named.ensures.settles
+
+pub returns-then-lies_on_failed-clause-settles : goal.returns-then-lies_on_failed-clause-settles
+returns-then-lies_on_failed-clause-settles g c =
+    ends_behind c.args.core.now c.settle_named.new.core c.detach_named.new.core (g.S.Shelf.meaning c.args.shelf.now) (g.S.Shelf.meaning c.settle_named.new.shelf) (g.S.Shelf.meaning c.detach_named.new.shelf) c.requires.stands c.settle_named.ensures.narrows c.settle_named.ensures.less c.detach_named.ensures.settles
+
+pub returns-clause-settles : goal.returns-clause-settles
+returns-clause-settles g c =
+    ends_behind c.args.core.now c.settle_named.new.core c.detach_named.new.core (g.S.Shelf.meaning c.args.shelf.now) (g.S.Shelf.meaning c.settle_named.new.shelf) (g.S.Shelf.meaning c.detach_named.new.shelf) c.requires.stands c.settle_named.ensures.narrows c.settle_named.ensures.less c.detach_named.ensures.settles

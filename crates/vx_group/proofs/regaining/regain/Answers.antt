@@ -6,6 +6,7 @@ use Rattle.vx_group.proofs.CallLemmas.{both_Narrows}
 use Rattle.vx_group.proofs.RegainLemmas.{back_narrows, flags_back, regained_Narrows, regained_Stands, none_holds, regained_held, regained_regains, same_narrows, same_regains, then_regains}
 use Rattle.vx_group.proofs.FindingLemmas.{as_finds, none_finds, ends_finds}
 use Rattle.vx_group.proofs.FoundThrough.{back_finds, recommit_finds}
+use Rattle.vx_group.proofs.SettleCalls.{as_told, ends_told, same_told}
 use Rattle.vx_group.proofs.regaining.regain.Goals as goal
 use Rattle.vx_group.proofs.LoseLemmas.{but_parts, then_parts}
 
@@ -122,3 +123,18 @@ returns-then-not-core-clause-finds g c =
 pub returns-else-not-core-clause-finds : goal.returns-else-not-core-clause-finds
 returns-else-not-core-clause-finds g c =
     back_finds c.args.core.now (record { config = c.hold_plex.new.config; good = c.args.core.now.good; room = c.args.core.now.room; unsettled = true; committed = c.args.core.now.committed; agreed = c.args.core.now.agreed; next = c.args.core.now.next; faults = c.args.core.now.faults; unsure = c.args.core.now.unsure }) c.recommit.new.core c.copy-kept.result (g.S.Shelf.meaning c.args.shelf.now) (g.S.Shelf.meaning c.recommit.new.shelf) c.in-Err.ensures.finds
+
+pub returns-then-not-hold_plex-clause-settles : goal.returns-then-not-hold_plex-clause-settles
+returns-then-not-hold_plex-clause-settles g c =
+    as_told c.args.core.now c.args.core.now _ (g.S.Shelf.meaning c.args.shelf.now) (g.S.Shelf.meaning c.args.shelf.now) (ap (λ (x : Config). x.serial) (c.hold_plex.ensures.regained.none c.if-not-hold_plex.true)) refl (same_told c.args.core.now (g.S.Shelf.meaning c.args.shelf.now))
+
+pub returns-in-Ok-clause-settles : goal.returns-in-Ok-clause-settles
+returns-in-Ok-clause-settles g c = ends_told c.args.core.now c.recommit.new.core (g.S.Shelf.meaning c.args.shelf.now) (g.S.Shelf.meaning c.recommit.new.shelf) (λ lacks. let more = c.requires.more in let spent = lacks.spent in omega (arith, more, spent)) c.recommit.ensures.settles
+
+pub returns-then-not-core-clause-settles : goal.returns-then-not-core-clause-settles
+returns-then-not-core-clause-settles g c = ends_told c.args.core.now c.recommit.new.core (g.S.Shelf.meaning c.args.shelf.now) (g.S.Shelf.meaning c.recommit.new.shelf) (λ lacks. let more = c.requires.more in let spent = lacks.spent in omega (arith, more, spent)) c.recommit.ensures.settles
+
+pub returns-else-not-core-clause-settles : goal.returns-else-not-core-clause-settles
+returns-else-not-core-clause-settles g c =
+    as_told c.args.core.now c.recommit.new.core _ (g.S.Shelf.meaning c.args.shelf.now) (g.S.Shelf.meaning c.recommit.new.shelf) refl refl
+    (ends_told c.args.core.now c.recommit.new.core (g.S.Shelf.meaning c.args.shelf.now) (g.S.Shelf.meaning c.recommit.new.shelf) (λ lacks. let more = c.requires.more in let spent = lacks.spent in omega (arith, more, spent)) c.recommit.ensures.settles)

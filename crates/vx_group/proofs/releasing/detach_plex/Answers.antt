@@ -10,6 +10,7 @@ use Rattle.vx_group.proofs.GiveLemmas.{keeps_volumes}
 use Rattle.vx_group.proofs.HoldLemmas.{one_kept}
 use Rattle.vx_group.proofs.LostLemmas.{later_keeps}
 use Rattle.vx_group.proofs.Standing.{sound_of}
+use Rattle.vx_group.proofs.SettleCalls.{headers_missed, settled_behind}
 use Rattle.vx_group.proofs.TrustLemmas.{err_from, ok_from}
 use Rattle.vx_group.proofs.FindingLemmas.{behind_finds}
 use Rattle.vx_group.proofs.TrustStillLemmas.{then_logs, volumes_logs}
@@ -102,3 +103,11 @@ returns-in-Err-clause-logs g c = volumes_logs c.args.core.now.config c.settle_he
 pub returns-clause-logs : goal.returns-clause-logs
 returns-clause-logs g c =
     then_logs c.args.core.now.config c.settle_headers.new.core.config c.detach.new.core.config (volumes_logs c.args.core.now.config c.settle_headers.new.core.config c.settle_headers.ensures.volumes) c.detach.ensures.logs
+
+pub returns-in-Err-clause-settles : goal.returns-in-Err-clause-settles
+returns-in-Err-clause-settles g c =
+    headers_missed c.args.core.now c.settle_headers.new.core (g.S.Shelf.meaning c.args.shelf.now) (g.S.Shelf.meaning c.settle_headers.new.shelf) c.requires.stands c.settle_headers.ensures.narrows c.settle_headers.ensures.serial c.settle_headers.ensures.less c.in-Err.ensures.missed
+
+pub returns-clause-settles : goal.returns-clause-settles
+returns-clause-settles g c =
+    settled_behind c.args.core.now c.settle_headers.new.core c.detach.new.core (g.S.Shelf.meaning c.args.shelf.now) (g.S.Shelf.meaning c.settle_headers.new.shelf) (g.S.Shelf.meaning c.detach.new.shelf) c.requires.stands c.requires.more c.settle_headers.ensures.narrows c.settle_headers.ensures.less c.detach.ensures.settles

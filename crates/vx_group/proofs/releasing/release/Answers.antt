@@ -1,14 +1,17 @@
 -- `release`: clauses stands, narrows, volumes and parts; what `detach_plex-result` asks.
-use Rattle.std.proofs.Common.{arith, ◌∙◌, ◌≡◌, None, Some, refl, sym, subst}
+use Rattle.std.proofs.Common.{arith, ◌∙◌, ◌≡◌, None, Some, ap, refl, sym, subst}
 use Rattle.vx_group.specs.declared.inner.Inner.{Inner}
-use Rattle.vx_group.proofs.HoldLemmas.{back_parts, e_Stands, e_finds, e_narrows, e_volumes, wide_none, x_other}
+use Rattle.vx_group.proofs.HoldLemmas.{back_parts, e_Stands, e_finds, e_narrows, e_volumes, wide_none, x_other, e_told}
 use Rattle.vx_group.proofs.LoseLemmas.{le_same}
+use Rattle.vx_group.specs.Settles.{CoreSettles}
+use Rattle.vx_group.proofs.SettleCalls.{same_told}
+use Rattle.vx_group.proofs.UnsureMarks.{same_unsure}
 use Rattle.vx_group.proofs.releasing.release.Goals as goal
 use Rattle.vx_group.specs.Finds.{CoreFinds}
 use Rattle.vx_group.specs.Holding.{wide}
 use Rattle.vx_group.specs.Loses.{SameParts, TrustsStill}
 use Rattle.vx_group.proofs.TrustStillLemmas.{held_logs, same_logs, volumes_logs}
-use Rattle.vx_group.proofs.FindingLemmas.{none_finds}
+use Rattle.vx_group.proofs.FindingLemmas.{none_finds, still_group}
 
 pub detach_plex-result-requires-clause-other : goal.detach_plex-result-requires-clause-other
 detach_plex-result-requires-clause-other g c = x_other c.args.core.now c.in-Some.held (g.S.Shelf.meaning c.args.shelf.now) c.requires.stands (sym c.open_held.ensures.held ∙ c.in-Some.is) c.open_held.new.core.inner c.open_held.ensures.inner
@@ -44,13 +47,23 @@ returns-in-Some-clause-finds g c =
       core = e_finds c.args.core.now c.in-Some.held (g.S.Shelf.meaning c.args.shelf.now) c.requires.stands (sym c.open_held.ensures.held ∙ c.in-Some.is) c.open_held.new.core.inner c.open_held.ensures.inner
           c.detach_plex-result.new.core c.detach_plex-result.ensures.others _ c.hold_back.new.core refl c.open_held.ensures.none c.hold_back.ensures
           (g.S.Shelf.meaning c.detach_plex-result.new.shelf) c.detach_plex-result.ensures.finds;
+      settles = e_told c.args.core.now c.in-Some.held (g.S.Shelf.meaning c.args.shelf.now) c.requires.stands (sym c.open_held.ensures.held ∙ c.in-Some.is) c.open_held.new.core.inner c.open_held.ensures.inner
+          c.detach_plex-result.new.core c.detach_plex-result.ensures.others _ c.hold_back.new.core refl c.open_held.ensures.none c.hold_back.ensures
+          (g.S.Shelf.meaning c.detach_plex-result.new.shelf) c.detach_plex-result.ensures.settles;
+      unsure = same_unsure c.args.core.now.inner.unsure c.hold_back.new.core.inner.unsure (returns-in-Some-clause-narrows g c).unsure;
       free = λ none. absurd (let clash : None ≡ Some c.in-Some.held = sym none ∙ sym c.open_held.ensures.held ∙ c.in-Some.is in cc);
     }
+
+pub returns-then-core-ge-MOST_NUMBER-clause-finds : goal.returns-then-core-ge-MOST_NUMBER-clause-finds
+returns-then-core-ge-MOST_NUMBER-clause-finds g c = still_group c.args.core.now (g.S.Shelf.meaning c.args.shelf.now)
 
 pub returns-in-None-clause-finds : goal.returns-in-None-clause-finds
 returns-in-None-clause-finds g c = record {
   core = subst (λ (i : Inner). CoreFinds (wide c.args.core.now) i (g.S.Shelf.meaning c.args.shelf.now) (g.S.Shelf.meaning c.args.shelf.now)) (sym (wide_none c.open_held.new.core c.open_held.ensures.none ∙ c.open_held.ensures.inner))
       (none_finds (wide c.args.core.now) (g.S.Shelf.meaning c.args.shelf.now));
+  settles = subst (λ (i : Inner). CoreSettles (wide c.args.core.now) i (g.S.Shelf.meaning c.args.shelf.now) (g.S.Shelf.meaning c.args.shelf.now)) (sym (wide_none c.open_held.new.core c.open_held.ensures.none ∙ c.open_held.ensures.inner))
+      (same_told (wide c.args.core.now) (g.S.Shelf.meaning c.args.shelf.now));
+  unsure = same_unsure c.args.core.now.inner.unsure c.open_held.new.core.inner.unsure (ap (λ (i : Inner). i.unsure) c.open_held.ensures.inner);
   free = λ was. c.open_held.ensures.none;
 }
 

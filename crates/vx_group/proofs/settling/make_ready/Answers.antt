@@ -4,6 +4,7 @@ use Rattle.vx_group.proofs.CallLemmas.{blames_later, both_Narrows}
 use Rattle.vx_group.proofs.DetachLemmas.{zero_bit}
 use Rattle.vx_group.proofs.FailingLemmas.{few_ok, then_failing}
 use Rattle.vx_group.proofs.LoseLemmas.{but_parts, then_parts}
+use Rattle.vx_group.proofs.SettleCalls.{headers_missed, same_told, settled_behind}
 use Rattle.vx_group.proofs.Standing.{some_active}
 use Rattle.vx_group.proofs.TrustLemmas.{err_from, ok_from}
 use Rattle.vx_group.proofs.FindingLemmas.{behind_finds}
@@ -63,6 +64,17 @@ returns-in-Err-clause-full g c = λ full. absurd (let less = c.if-core-ge-MOST_N
 
 pub returns-clause-full : goal.returns-clause-full
 returns-clause-full g c = λ full. absurd (let less = c.if-core-ge-MOST_NUMBER.false in omega (arith, full, less))
+
+pub returns-then-not-core-clause-settles : goal.returns-then-not-core-clause-settles
+returns-then-not-core-clause-settles g c = same_told c.args.core.now (g.S.Shelf.meaning c.args.shelf.now)
+
+pub returns-in-Err-clause-settles : goal.returns-in-Err-clause-settles
+returns-in-Err-clause-settles g c =
+    headers_missed c.args.core.now c.settle_headers.new.core (g.S.Shelf.meaning c.args.shelf.now) (g.S.Shelf.meaning c.settle_headers.new.shelf) c.requires.stands c.settle_headers.ensures.narrows c.settle_headers.ensures.serial c.settle_headers.ensures.less c.in-Err.ensures.missed
+
+pub returns-clause-settles : goal.returns-clause-settles
+returns-clause-settles g c =
+    settled_behind c.args.core.now c.settle_headers.new.core c.detach.new.core (g.S.Shelf.meaning c.args.shelf.now) (g.S.Shelf.meaning c.settle_headers.new.shelf) (g.S.Shelf.meaning c.detach.new.shelf) c.requires.stands c.if-core-ge-MOST_NUMBER.false c.settle_headers.ensures.narrows c.settle_headers.ensures.less c.detach.ensures.settles
 
 pub returns-then-not-core-clause-ready : goal.returns-then-not-core-clause-ready
 returns-then-not-core-clause-ready g c = λ on. absurd (let clash : false ≡ true = sym c.if-not-core.true ∙ on in cc)

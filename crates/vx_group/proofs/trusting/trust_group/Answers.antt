@@ -14,6 +14,7 @@ use Rattle.vx_group.proofs.TrustingLemmas.{still_PlexActs}
 use Rattle.vx_group.proofs.FindingLemmas.{still_group}
 use Rattle.vx_group.proofs.FoundThrough.{alone_finds}
 use Rattle.vx_group.proofs.TrustStillLemmas.{same_logs}
+use Rattle.vx_group.proofs.UnsureMarks.{same_unsure}
 use Rattle.vx_group.proofs.UnsureLemmas.{misses_by}
 use Rattle.vx_group.proofs.trusting.trust_group.Goals as goal
 
@@ -89,11 +90,11 @@ returns-then-core-ge-MOST_NUMBER-clause-finds g c =
 
 pub returns-in-Ok-clause-finds : goal.returns-in-Ok-clause-finds
 returns-in-Ok-clause-finds g c =
-    alone_finds c.args.core.now _ (g.S.Shelf.meaning c.args.shelf.now) (g.S.Shelf.meaning c.trust_log.new.shelf) c.requires.none c.requires.none c.trust_log.ensures.finds
+    alone_finds c.args.core.now _ (g.S.Shelf.meaning c.args.shelf.now) (g.S.Shelf.meaning c.trust_log.new.shelf) c.requires.none c.requires.none c.trust_log.ensures.finds c.trust_log.ensures.settles (same_unsure c.args.core.now.inner.unsure c.trust_log.new.core.unsure c.trust_log.ensures.unsure)
 
 pub returns-in-Err-clause-finds : goal.returns-in-Err-clause-finds
 returns-in-Err-clause-finds g c =
-    alone_finds c.args.core.now _ (g.S.Shelf.meaning c.args.shelf.now) (g.S.Shelf.meaning c.trust_log.new.shelf) c.requires.none c.requires.none c.trust_log.ensures.finds
+    alone_finds c.args.core.now _ (g.S.Shelf.meaning c.args.shelf.now) (g.S.Shelf.meaning c.trust_log.new.shelf) c.requires.none c.requires.none c.trust_log.ensures.finds c.trust_log.ensures.settles (same_unsure c.args.core.now.inner.unsure c.trust_log.new.core.unsure c.trust_log.ensures.unsure)
 
 pub returns-then-is_down-clause-logs : goal.returns-then-is_down-clause-logs
 returns-then-is_down-clause-logs g c = same_logs c.args.core.now.inner.config

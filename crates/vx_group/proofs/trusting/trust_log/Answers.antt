@@ -10,6 +10,7 @@ use Rattle.vx_group.proofs.CallLemmas.{narrows_Goes}
 use Rattle.vx_group.specs.Holding.{with_config}
 use Rattle.vx_group.proofs.Standing.{some_active}
 use Rattle.vx_group.proofs.LoseLemmas.{but_parts, loses_none}
+use Rattle.vx_group.proofs.SettleCalls.{headers_missed, settled_behind}
 use Rattle.vx_group.proofs.TrustingLemmas.{both_acts, both_goes, early_PlexActs, now_Stands, trusted_loses, trusting_plexes}
 use Rattle.vx_group.proofs.FindingLemmas.{behind_finds}
 use Rattle.vx_group.proofs.TrustStillLemmas.{again_logs, then_logs, volumes_logs}
@@ -90,6 +91,14 @@ returns-in-Err-clause-logs g c = volumes_logs c.args.core.now.config c.settle_he
 pub returns-clause-logs : goal.returns-clause-logs
 returns-clause-logs g c =
     then_logs c.args.core.now.config c.settle_headers.new.core.config c.detach.new.core.config (volumes_logs c.args.core.now.config c.settle_headers.new.core.config c.settle_headers.ensures.volumes) (then_logs c.settle_headers.new.core.config c.trust.new.config c.detach.new.core.config (subst (λ (x : Config). TrustsStill c.settle_headers.new.core.config x) (sym c.trust.ensures.changed) (again_logs c.args.vol c.args.log c.settle_headers.new.core.config)) c.detach.ensures.logs)
+
+pub returns-in-Err-clause-settles : goal.returns-in-Err-clause-settles
+returns-in-Err-clause-settles g c =
+    headers_missed c.args.core.now c.settle_headers.new.core (g.S.Shelf.meaning c.args.shelf.now) (g.S.Shelf.meaning c.settle_headers.new.shelf) c.requires.stands c.settle_headers.ensures.narrows c.settle_headers.ensures.serial c.settle_headers.ensures.less c.in-Err.ensures.missed
+
+pub returns-clause-settles : goal.returns-clause-settles
+returns-clause-settles g c =
+    settled_behind c.args.core.now c.settle_headers.new.core c.detach.new.core (g.S.Shelf.meaning c.args.shelf.now) (g.S.Shelf.meaning c.settle_headers.new.shelf) (g.S.Shelf.meaning c.detach.new.shelf) c.requires.stands c.requires.more c.settle_headers.ensures.narrows c.settle_headers.ensures.less c.detach.ensures.settles
 
 pub returns-in-Err-clause-missed : goal.returns-in-Err-clause-missed
 returns-in-Err-clause-missed g c = inl c.in-Err.ensures.missed

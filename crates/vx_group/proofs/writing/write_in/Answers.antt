@@ -12,6 +12,7 @@ use Rattle.vx_kept.proofs.PlexActing.{none_PlexActs, on_wider}
 use Rattle.vx_group.proofs.ActsLemmas.{narrow_PlexActs, ready_PlexActs}
 use Rattle.vx_group.proofs.FindingLemmas.{as_finds, none_finds, then_finds}
 use Rattle.vx_group.proofs.TrustStillLemmas.{same_logs, then_logs, volumes_logs}
+use Rattle.vx_group.proofs.SettleCalls.{as_told, same_told, then_told}
 use Rattle.vx_group.proofs.writing.write_in.Goals as goal
 
 pub returns-in-Err-clause-goes : goal.returns-in-Err-clause-goes
@@ -130,6 +131,23 @@ returns-in-Ok-write_plexes-clause-logs g c =
 pub returns-in-Err-write_plexes-clause-logs : goal.returns-in-Err-write_plexes-clause-logs
 returns-in-Err-write_plexes-clause-logs g c =
     then_logs c.args.core.now.config c.make_ready.new.core.config c.write_plexes.new.core.config (volumes_logs c.args.core.now.config c.make_ready.new.core.config c.make_ready.ensures.volumes) c.write_plexes.ensures.logs
+
+pub write_plexes-requires-clause-ready : goal.write_plexes-requires-clause-ready
+write_plexes-requires-clause-ready g c = c.in-Ok.ensures.ready
+
+pub returns-then-is_down-clause-settles : goal.returns-then-is_down-clause-settles
+returns-then-is_down-clause-settles g c = same_told c.args.core.now (g.S.Shelf.meaning c.args.shelf.now)
+
+pub returns-in-Err-clause-settles : goal.returns-in-Err-clause-settles
+returns-in-Err-clause-settles g c = as_told c.args.core.now c.make_ready.new.core _ (g.S.Shelf.meaning c.args.shelf.now) (g.S.Shelf.meaning c.make_ready.new.shelf) refl refl c.make_ready.ensures.settles
+
+pub returns-in-Ok-write_plexes-clause-settles : goal.returns-in-Ok-write_plexes-clause-settles
+returns-in-Ok-write_plexes-clause-settles g c = then_told c.args.core.now c.make_ready.new.core c.write_plexes.new.core (g.S.Shelf.meaning c.args.shelf.now) (g.S.Shelf.meaning c.make_ready.new.shelf) (g.S.Shelf.meaning c.write_plexes.new.shelf) c.make_ready.ensures.settles c.write_plexes.ensures.settles
+
+pub returns-in-Err-write_plexes-clause-settles : goal.returns-in-Err-write_plexes-clause-settles
+returns-in-Err-write_plexes-clause-settles g c =
+    as_told c.args.core.now c.write_plexes.new.core _ (g.S.Shelf.meaning c.args.shelf.now) (g.S.Shelf.meaning c.write_plexes.new.shelf) refl refl
+    (then_told c.args.core.now c.make_ready.new.core c.write_plexes.new.core (g.S.Shelf.meaning c.args.shelf.now) (g.S.Shelf.meaning c.make_ready.new.shelf) (g.S.Shelf.meaning c.write_plexes.new.shelf) c.make_ready.ensures.settles c.write_plexes.ensures.settles)
 
 pub returns-then-is_down-clause-ready : goal.returns-then-is_down-clause-ready
 returns-then-is_down-clause-ready g c = tt

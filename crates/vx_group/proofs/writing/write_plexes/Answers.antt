@@ -1,5 +1,5 @@
 -- `write_plexes`: clauses stands, goes, ok, all, cause, gave_up, loses and 2 more; what `write_all` and `detach` ask.
-use Rattle.std.proofs.Common.{refl, inr, ◌/◌, length, Err, sym, subst, arith, ◌≡◌, ◌∙◌, true, false}
+use Rattle.std.proofs.Common.{Err, arith, false, inl, inr, length, refl, subst, sym, true, ◌/◌, ◌∙◌, ◌≡◌}
 use Rattle.vx_group.proofs.LoseLemmas.{loses_detach, loses_same}
 use Rattle.vx_group.proofs.CallLemmas.{blames_by, ends_blame, left_done, ok_by}
 use Rattle.vx_disk.specs.declared.shelf.ShelfError.{ShelfError}
@@ -15,6 +15,7 @@ use Rattle.vx_kept.proofs.PlexActing.{only_PlexActs}
 use Rattle.vx_group.proofs.ActsLemmas.{then_PlexActs}
 use Rattle.vx_group.proofs.FindingLemmas.{stays_finds, before_ends, ends_finds}
 use Rattle.vx_group.proofs.TrustStillLemmas.{same_logs}
+use Rattle.vx_group.proofs.SettleCalls.{stays_told, wrote_told}
 use Rattle.vx_group.proofs.TrustLemmas.{ok_from}
 use Rattle.vx_group.proofs.writing.write_plexes.Goals as goal
 
@@ -158,6 +159,26 @@ returns-in-Err-clause-logs g c = same_logs c.args.core.now.config
 
 pub returns-else-core-clause-logs : goal.returns-else-core-clause-logs
 returns-else-core-clause-logs g c = c.detach.ensures.logs
+
+pub returns-then-failed-eq0-clause-settles : goal.returns-then-failed-eq0-clause-settles
+returns-then-failed-eq0-clause-settles g c =
+    stays_told c.args.core.now c.args.core.now (g.S.Shelf.meaning c.args.shelf.now) (g.S.Shelf.meaning c.write_all.new.shelf) refl refl
+    (wrote_finds c.args.core.now c.args.vol c.args.block c.args.bytes.now (g.S.Shelf.meaning c.args.shelf.now) (g.S.Shelf.meaning c.write_all.new.shelf) (g.met.S.Shelf.lawful c.args.shelf.now) (g.met.S.Shelf.lawful c.write_all.new.shelf) c.requires.stands c.requires.fits c.write_all.ensures.goes) c.requires.up (λ on alike. inl (record { missed = on; spent = c.requires.ready on }))
+
+pub returns-then-core-clause-settles : goal.returns-then-core-clause-settles
+returns-then-core-clause-settles g c =
+    stays_told c.args.core.now c.args.core.now (g.S.Shelf.meaning c.args.shelf.now) (g.S.Shelf.meaning c.write_all.new.shelf) refl refl
+    (wrote_finds c.args.core.now c.args.vol c.args.block c.args.bytes.now (g.S.Shelf.meaning c.args.shelf.now) (g.S.Shelf.meaning c.write_all.new.shelf) (g.met.S.Shelf.lawful c.args.shelf.now) (g.met.S.Shelf.lawful c.write_all.new.shelf) c.requires.stands c.requires.fits c.write_all.ensures.goes) c.requires.up (λ on alike. inl (record { missed = on; spent = c.requires.ready on }))
+
+pub returns-in-Err-clause-settles : goal.returns-in-Err-clause-settles
+returns-in-Err-clause-settles g c =
+    stays_told c.args.core.now c.args.core.now (g.S.Shelf.meaning c.args.shelf.now) (g.S.Shelf.meaning c.write_all.new.shelf) refl refl
+    (wrote_finds c.args.core.now c.args.vol c.args.block c.args.bytes.now (g.S.Shelf.meaning c.args.shelf.now) (g.S.Shelf.meaning c.write_all.new.shelf) (g.met.S.Shelf.lawful c.args.shelf.now) (g.met.S.Shelf.lawful c.write_all.new.shelf) c.requires.stands c.requires.fits c.write_all.ensures.goes) c.requires.up (λ on alike. inl (record { missed = on; spent = c.requires.ready on }))
+
+pub returns-else-core-clause-settles : goal.returns-else-core-clause-settles
+returns-else-core-clause-settles g c =
+    wrote_told c.args.core.now c.detach.new.core (g.S.Shelf.meaning c.args.shelf.now) (g.S.Shelf.meaning c.write_all.new.shelf) (g.S.Shelf.meaning c.detach.new.shelf) c.requires.up c.if-core.false
+    (wrote_finds c.args.core.now c.args.vol c.args.block c.args.bytes.now (g.S.Shelf.meaning c.args.shelf.now) (g.S.Shelf.meaning c.write_all.new.shelf) (g.met.S.Shelf.lawful c.args.shelf.now) (g.met.S.Shelf.lawful c.write_all.new.shelf) c.requires.stands c.requires.fits c.write_all.ensures.goes) c.detach.ensures.settles
 
 pub returns-then-failed-eq0-clause-ready : goal.returns-then-failed-eq0-clause-ready
 returns-then-failed-eq0-clause-ready g c = λ was. was

@@ -10,6 +10,7 @@ use Rattle.vx_events.specs.Facts.{seat_of, site_number}
 use Rattle.vx_yard.proofs.ChangeSite.{told_before}
 use Rattle.vx_yard.proofs.Lists.{get-set_same, get_at, length-set}
 use Rattle.vx_yard.proofs.NamedSite.{asks_at, place_at, unbegun_for, unbegun_site}
+use Rattle.vx_yard.proofs.RawSites.{bare_set}
 use Rattle.vx_yard.proofs.OfSites.{recovers_none}
 use Rattle.vx_yard.proofs.Seats.{named_some}
 use Rattle.vx_yard.specs.Yards.{in_files}
@@ -30,9 +31,11 @@ returns-in-Bare-clause-holds g c = λ d stands is.
     let one = get_at y.facts.items s c.index.result.now c.site_of-site.ensures.fact c.index.ensures in
     let place = place_at d y c.args.name.now s stands seat in
     let bare = state_of d y c.args.name.now s c.index.result.now stands seat one ∙ c.in-Bare.is in
-    untold_now d y _ c.args.name.now s before c.has_label.new.self c.has_label.result place.number bare
+    let stood = stands.disk_sets.sites s before place.below there in
+    untold_now d y _ c.args.name.now s before c.has_label.new.self c.has_label.result place.number bare (bare_set (beside_of d s) (d.world.nodes s) before stood bare)
+    (bare_set (beside_of d s) (d.world.nodes s) c.has_label.new.self (c.has_label.ensures.stands (beside_of d s) (d.world.nodes s) stood) bare)
     (record { there = there; later = c.has_label.ensures.later; disk_sets = refl; racks = refl })
-    (c.has_label.ensures.none (beside_of d s) (d.world.nodes s) (stands.disk_sets.sites s before place.below there) bare)
+    (c.has_label.ensures.none (beside_of d s) (d.world.nodes s) stood bare)
     (get-set_same y.disk_sets.items s c.has_label.new.self (slice_get_within y.disk_sets.items s before there)) is
 
 pub returns-in_default-clause-holds : goal.returns-in_default-clause-holds

@@ -15,6 +15,7 @@ use Rattle.vx_grouped.proofs.CarryLemmas.{carried, carried_two}
 use Rattle.vx_grouped.proofs.FindLemmas.{untold_can}
 use Rattle.vx_grouped.proofs.PlainMapLemmas.{parts_same}
 use Rattle.vx_grouped.proofs.SinceReturns.{return_at, return_calls, return_dark, return_then}
+use Rattle.vx_loggroup.specs.Settled.{SettledFact}
 use Rattle.vx_grouped.proofs.finding.find_from.Goals as goal
 
 pub returns-in-Ok-clause-leaves : goal.returns-in-Ok-clause-leaves
@@ -46,7 +47,7 @@ pub returns-in-Err-clause-told : goal.returns-in-Err-clause-told
 returns-in-Err-clause-told g c = λ told. sym c.into_shelf.ensures.since.tells ∙ told
 
 pub import_group-requires : goal.import_group-requires
-import_group-requires g c = record { can = untold_can (g.R.Shelf.meaning c.over.result.shelf); tells = untold_tells c.none.result (untold (g.R.Shelf.meaning c.over.result.shelf)) (λ i each. each 0 0) }
+import_group-requires g c = record { can = untold_can (g.R.Shelf.meaning c.over.result.shelf); tells = untold_tells c.found.result (untold (g.R.Shelf.meaning c.over.result.shelf)) (λ i each. each 0 0) }
 
 pub together-requires-clause-stands : goal.together-requires-clause-stands
 together-requires-clause-stands g c =
@@ -65,3 +66,6 @@ returns-in-Ok-clause-maps g c =
           (c.dimmed.ensures.alike ∙ c.together.ensures.alike ∙ c.apart-watched.ensures.alike) (c.dimmed.ensures.stopped ∙ c.together.ensures.stopped ∙ c.apart-watched.ensures.stopped)))
           some.1,
     )
+
+pub together-requires-clause-settles : goal.together-requires-clause-settles
+together-requires-clause-settles g c = subst (λ s. SettledFact c.apart-watched.result.1.core c.apart-watched.result.1.alike (untold (g.R.Shelf.meaning s))) (sym c.into_shelf-rack.ensures.shelf) c.apart-watched.ensures.settles

@@ -1,6 +1,8 @@
 -- An import, as the site notes the group: it is up, or its disks are handed back.
+use Rattle.vx_grouped.proofs.BringLemmas.{opened_brings}
 use Rattle.vx_grouped.proofs.OpenedLemmas.{opened_returns}
 use Rattle.vx_grouped.proofs.ReturnLemmas.{import_left}
+use Rattle.vx_group.proofs.HoldLemmas.{narrow_on}
 use Rattle.vx_loggroup.proofs.FactLemmas.{from_logged}
 use Rattle.vx_grouped.proofs.ImportMapLemmas.{parts_came}
 use Rattle.vx_grouped.proofs.importing.import_group.Goals as goal
@@ -8,6 +10,7 @@ use Rattle.vx_grouped.proofs.importing.import_group.Goals as goal
 pub returns-in-Ok-clause-leaves : goal.returns-in-Ok-clause-leaves
 returns-in-Ok-clause-leaves g c = λ n note last away.
     opened_returns n note last (g.S.Shelf.meaning c.args.shelf) (g.met.S.Shelf.lawful c.args.shelf) away g.S.Shelf.meaning c.args.rested.now c.in-Ok.group.core c.in-Ok.group.logs.items c.in-Ok.group.alike c.in-Ok.group.stopped (g.S.Shelf.meaning c.in-Ok.group.shelf) c.requires.can c.in-Ok.ensures.imported c.in-Ok.group.stands.group.stands.trusts.both
+    (narrow_on c.in-Ok.group.core (g.S.Shelf.meaning c.in-Ok.group.shelf) (from_logged c.in-Ok.group.core c.in-Ok.group.logs.items c.in-Ok.group.alike c.in-Ok.group.stopped (g.S.Shelf.meaning c.in-Ok.group.shelf) c.in-Ok.group.stands).group)
 
 pub returns-in-Err-clause-leaves : goal.returns-in-Err-clause-leaves
 returns-in-Err-clause-leaves g c = λ n note last away.
@@ -24,3 +27,8 @@ returns-in-Ok-clause-maps g c =
 
 pub returns-in-Err-clause-maps : goal.returns-in-Err-clause-maps
 returns-in-Err-clause-maps g c = tt
+
+pub returns-in-Ok-clause-brings : goal.returns-in-Ok-clause-brings
+returns-in-Ok-clause-brings g c =
+    opened_brings (g.S.Shelf.meaning c.args.shelf) (g.met.S.Shelf.lawful c.args.shelf) g.S.Shelf.meaning g.met.S.Shelf.lawful c.args.rested.now c.in-Ok.group.core c.in-Ok.group.logs.items c.in-Ok.group.alike c.in-Ok.group.stopped (g.S.Shelf.meaning c.in-Ok.group.shelf)
+    c.requires.can c.in-Ok.ensures.imported

@@ -37,6 +37,7 @@ returns-in-Ok-clause-can g c = λ is. c.in-Ok.ensures.can (inl is)
 
 pub returns-then-is_down-clause-moves : goal.returns-then-is_down-clause-moves
 returns-then-is_down-clause-moves g c = record {
+  goes = c.in-Err.ensures.back;
   loses = c.in-Err.ensures.ends.quiesces.loses;
   on = both_on c.args.group.core c.in-Err.group.core (g.S.Shelf.meaning c.args.group.shelf) (g.S.Shelf.meaning c.in-Err.group.shelf) c.args.group.stands.group c.in-Err.group.stands.group;
   agrees = c.in-Err.ensures.agreed;
@@ -44,6 +45,7 @@ returns-then-is_down-clause-moves g c = record {
 
 pub returns-else-is_down-clause-moves : goal.returns-else-is_down-clause-moves
 returns-else-is_down-clause-moves g c = record {
+  goes = c.in-Err.ensures.back;
   loses = c.in-Err.ensures.ends.quiesces.loses;
   on = both_on c.args.group.core c.in-Err.group.core (g.S.Shelf.meaning c.args.group.shelf) (g.S.Shelf.meaning c.in-Err.group.shelf) c.args.group.stands.group c.in-Err.group.stands.group;
   agrees = c.in-Err.ensures.agreed;

@@ -4,15 +4,18 @@ use Rattle.std.specs.Prelude.{nat_le, nat_lt, not}
 use Rattle.std.specs.List.{list_any}
 use Rattle.vx_config.specs.Table.{greatest}
 use Rattle.vx_group.specs.Dets.{margin}
+use Rattle.vx_group.specs.Holding.{wide}
 use Rattle.vx_group.specs.Makes.{VolumeMade, has_name, is_shape, make_refusal}
+use Rattle.vx_group.specs.Stands.{inner_meaning}
 use Rattle.vx_group.proofs.CallLemmas.{not_down}
 use Rattle.vx_model.specs.declared.limits.TheConstants.{MOST_PLEXES, MOST_VOLUMES}
 use Rattle.vx_model.specs.declared.no.Counted.TheVariants.{Number, Plexes, Volumes}
 use Rattle.vx_model.specs.declared.errors.Stop.TheVariants.{No as Refused}
 use Rattle.vx_model.specs.declared.no.No.TheVariants as refusal
-use Rattle.vx_grouped.proofs.AddedLemmas.{err_one, made_by, made_leaves, make_not_down, stop_volumes, volume_cut, volume_up}
+use Rattle.vx_grouped.proofs.AddedLemmas.{added_goes, err_one, made_by, made_leaves, make_not_down, refused_volumes, same_goes, stop_volumes, volume_cut, volume_up}
 use Rattle.vx_grouped.proofs.KeepLemmas.{never_fell, same_at}
 use Rattle.vx_grouped.proofs.BothLemmas.{still_by}
+use Rattle.vx_grouped.proofs.VolumeLemmas.{none_go}
 use Rattle.vx_loggroup.specs.LoggedVolumes.{is_alike}
 use Rattle.vx_loggroup.proofs.FactLemmas.{from_logged}
 use Rattle.vx_grouped.proofs.AddMapLemmas.{added_parts, none_parts, volumes_kept}
@@ -90,3 +93,19 @@ returns-else-is_down-clause-maps g c = λ was now. (
       stay_left c.args.group.now.core.inner.config c.make_volume.new.self.core.inner.config c.args.group.now.logs.items c.make_volume.new.self.logs.items c.args.group.now.alike c.make_volume.new.self.alike c.args.group.now.stopped c.make_volume.new.self.stopped
       c.make_volume.ensures.left c.make_volume.ensures.flags c.make_volume.ensures.stopped (ap (λ x. x.inner.config) same.0)) c.in-Err.ensures.unmoved,
 )
+
+pub returns-in-Ok-clause-volumes : goal.returns-in-Ok-clause-volumes
+returns-in-Ok-clause-volumes g c =
+    added_goes c.args.group.now.core c.make_volume.new.self.core (g.S.Shelf.meaning c.args.group.now.shelf) (g.S.Shelf.meaning c.make_volume.new.self.shelf) c.make_volume.new.self.stands.group (g.met.S.Shelf.lawful c.make_volume.new.self.shelf) c.make_volume.ensures.stays c.in-Ok.ensures.held
+
+pub returns-then-is_down-clause-volumes : goal.returns-then-is_down-clause-volumes
+returns-then-is_down-clause-volumes g c =
+    none_go (inner_meaning (wide c.args.group.now.core) (g.S.Shelf.meaning c.args.group.now.shelf)) (inner_meaning (wide c.make_volume.new.self.core) (g.S.Shelf.meaning c.make_volume.new.self.shelf))
+    (same_goes c.args.group.now.core c.make_volume.new.self.core (g.S.Shelf.meaning c.args.group.now.shelf) (g.S.Shelf.meaning c.make_volume.new.self.shelf) c.make_volume.new.self.stands.group (g.met.S.Shelf.lawful c.make_volume.new.self.shelf) c.make_volume.ensures.stays
+    (refused_volumes c.args.name.now c.args.want.now c.args.group.now.core c.make_volume.new.self.core (g.S.Shelf.meaning c.args.group.now.shelf) (g.S.Shelf.meaning c.make_volume.new.self.shelf) c.in-Err.stop (make_refusal c.args.group.now.core.inner.config c.args.name.now c.args.want.now) c.in-Err.ensures.ends (λ why is. (c.in-Err.ensures.refused why is).1)))
+
+pub returns-else-is_down-clause-volumes : goal.returns-else-is_down-clause-volumes
+returns-else-is_down-clause-volumes g c =
+    none_go (inner_meaning (wide c.args.group.now.core) (g.S.Shelf.meaning c.args.group.now.shelf)) (inner_meaning (wide c.make_volume.new.self.core) (g.S.Shelf.meaning c.make_volume.new.self.shelf))
+    (same_goes c.args.group.now.core c.make_volume.new.self.core (g.S.Shelf.meaning c.args.group.now.shelf) (g.S.Shelf.meaning c.make_volume.new.self.shelf) c.make_volume.new.self.stands.group (g.met.S.Shelf.lawful c.make_volume.new.self.shelf) c.make_volume.ensures.stays
+    (refused_volumes c.args.name.now c.args.want.now c.args.group.now.core c.make_volume.new.self.core (g.S.Shelf.meaning c.args.group.now.shelf) (g.S.Shelf.meaning c.make_volume.new.self.shelf) c.in-Err.stop (make_refusal c.args.group.now.core.inner.config c.args.name.now c.args.want.now) c.in-Err.ensures.ends (λ why is. (c.in-Err.ensures.refused why is).1)))

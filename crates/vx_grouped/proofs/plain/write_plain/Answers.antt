@@ -100,3 +100,12 @@ returns-in-Err-flush_run-clause-maps g c =
     c.flush_run.ensures.goes.falls c.flush_run.ensures.loses.parts.later c.write.ensures.full c.write.ensures.keeps c.flush_run.ensures.keeps c.write.ensures.comes c.flush_run.ensures.comes
     c.flush_run.ensures.gone c.write.ensures.rests c.in-Ok.ensures.free c.flush_run.ensures.rests c.flush_run.ensures.flags c.in-Ok.ensures.alike
     c.in-Ok.ensures.moves (λ going. c.in-Err-flush_run.ensures.moves going (let some = c.requires.fits.some in let whole = c.requires.fits.whole in omega (arith, some, whole)))
+
+pub returns-in-Err-clause-goes : goal.returns-in-Err-clause-goes
+returns-in-Err-clause-goes g c = c.write.ensures.goes
+
+pub returns-in-Ok-flush_run-clause-goes : goal.returns-in-Ok-flush_run-clause-goes
+returns-in-Ok-flush_run-clause-goes g c = then_nothing (Written c.args.vol c.args.block c.args.bytes.now) (inner_meaning (wide c.args.group.now.core) (g.S.Shelf.meaning c.args.group.now.shelf)) (inner_meaning (wide c.write.new.self.core) (g.S.Shelf.meaning c.write.new.self.shelf)) (inner_meaning (wide c.flush_run.new.self.core) (g.S.Shelf.meaning c.flush_run.new.self.shelf)) c.write.ensures.goes c.flush_run.ensures.goes
+
+pub returns-in-Err-flush_run-clause-goes : goal.returns-in-Err-flush_run-clause-goes
+returns-in-Err-flush_run-clause-goes g c = then_nothing (Written c.args.vol c.args.block c.args.bytes.now) (inner_meaning (wide c.args.group.now.core) (g.S.Shelf.meaning c.args.group.now.shelf)) (inner_meaning (wide c.write.new.self.core) (g.S.Shelf.meaning c.write.new.self.shelf)) (inner_meaning (wide c.flush_run.new.self.core) (g.S.Shelf.meaning c.flush_run.new.self.shelf)) c.write.ensures.goes c.flush_run.ensures.goes

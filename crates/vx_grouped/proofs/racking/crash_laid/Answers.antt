@@ -6,6 +6,7 @@ use Rattle.vx_disk.specs.Disks.{Crashed}
 use Rattle.vx_disk.specs.Racks.{Stopped}
 use Rattle.vx_group.specs.Holding.{GroupStands}
 use Rattle.vx_group.specs.Resumes.{CanImport}
+use Rattle.vx_group.specs.Settles.{LacksCommit}
 use Rattle.vx_group.specs.declared.group_core.GroupCore.{GroupCore}
 use Rattle.vx_group.proofs.HoldLemmas.{narrow_some}
 use Rattle.vx_logimport.specs.Rests.{LogsTell}
@@ -49,7 +50,7 @@ of-requires-clause-can g c = λ κs within agreed. carried_off (λ m. CanImport 
 pub of-requires-clause-tells : goal.of-requires-clause-tells
 of-requires-clause-tells g c = λ κs within r agreed is.
     let it = c.rested_of.ensures.none r is in
-    carried_off (λ m. LogsTell r m) c.untraced.result c.crash_whole.new.rack c.untraced.ensures.shade (c.crash_whole.ensures.tells it.0 r it.1)
+    carried_off (λ m. LogsTell r m) c.untraced.result c.crash_whole.new.rack c.untraced.ensures.shade (c.crash_whole.ensures.tells it.0 r it.2)
 
 pub returns-clause-maps : goal.returns-clause-maps
 returns-clause-maps g c = λ w noted.
@@ -60,4 +61,9 @@ returns-clause-maps g c = λ w noted.
     (λ i. found_same (shade_meaning g.R.Shelf.meaning c.args.laid.shelf) (shade_meaning g.R.Shelf.meaning c.of.result.rack) fell.units fell.size (λ u. true) i)
 
 pub returns-clause-rests : goal.returns-clause-rests
-returns-clause-rests g c = record { none = λ r is. (c.rested_of.ensures.none r (sym c.of.ensures.rested ∙ is)).1 }
+returns-clause-rests g c = record { none = λ r is. (c.rested_of.ensures.none r (sym c.of.ensures.rested ∙ is)).2 }
+
+pub returns-clause-lacking : goal.returns-clause-lacking
+returns-clause-lacking g c = λ r is it.
+    c.lacks_commit.ensures.free (c.rested_of.ensures.none r (sym c.of.ensures.rested ∙ is)).1
+    (subst (λ (x : GroupCore). LacksCommit x.inner) (sym (c.apart-shelf.ensures.core ∙ c.trace.ensures.core)) it)

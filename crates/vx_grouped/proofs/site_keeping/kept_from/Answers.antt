@@ -11,7 +11,7 @@ returns-clause-works g c =
     c.args.group.core c.together-group.result.core c.together.result.core c.kept_plain-answer.new.group.core c.args.group.shelf c.together-group.result.shelf.shelf c.together.result.shelf c.kept_plain-answer.new.group.shelf.shelf
     (c.together-group.ensures.core ∙ c.apart-rack.ensures.core) (shelf_of _ _ c.together-group.ensures.shelf ∙ c.over-watched.ensures ∙ c.apart-rack.ensures.shelf)
     (c.together.ensures.core ∙ c.apart-watched.ensures.core) (c.together.ensures.shelf ∙ c.into_shelf-rack.ensures.shelf ∙ shelf_of _ _ c.apart-watched.ensures.shelf)
-    (record { kept = c.kept_plain-answer.ensures.kept; stays = c.kept_plain-answer.ensures.stays; same = c.kept_plain-answer.ensures.same; cause = c.kept_plain-answer.ensures.cause })
+    (record { kept = c.kept_plain-answer.ensures.kept; stays = c.kept_plain-answer.ensures.stays; goes = c.kept_plain-answer.ensures.goes; same = c.kept_plain-answer.ensures.same; cause = c.kept_plain-answer.ensures.cause })
 
 pub returns-clause-maps : goal.returns-clause-maps
 returns-clause-maps g c =

@@ -3,6 +3,8 @@ use Rattle.std.proofs.Common.{subst}
 use Rattle.vx_untold.specs.Shades.{shade_meaning}
 use Rattle.vx_grouped.specs.SiteKeeps.{PlainKeeps}
 use Rattle.vx_grouped.proofs.SiteKeepLemmas.{kept_done, kept_failed}
+use Rattle.vx_grouped.proofs.VolumeLemmas.{none_go, same_go}
+use Rattle.vx_grouped.specs.Volumes.{laid_seen}
 use Rattle.vx_grouped.proofs.UpMapLemmas.{read_maps}
 use Rattle.vx_grouped.proofs.site_keeping.kept_site.Goals as goal
 
@@ -21,3 +23,12 @@ returns-in-Ok-clause-maps g c = λ n note up fits. read_maps c.args.laid c.kept_
 
 pub returns-in-Err-clause-maps : goal.returns-in-Err-clause-maps
 returns-in-Err-clause-maps g c = λ n note up fits. read_maps c.args.laid c.kept_watched-laid.result.0 c.kept_watched-laid.ensures.maps
+
+pub returns-in-Ok-clause-volumes : goal.returns-in-Ok-clause-volumes
+returns-in-Ok-clause-volumes g c = none_go (laid_seen c.args.laid) (laid_seen c.kept_watched-laid.result.0) c.kept_watched-laid.ensures.works.goes
+
+pub returns-in-Err-clause-volumes : goal.returns-in-Err-clause-volumes
+returns-in-Err-clause-volumes g c = none_go (laid_seen c.args.laid) (laid_seen c.kept_watched-laid.result.0) c.kept_watched-laid.ensures.works.goes
+
+pub returns-then-not-fits-clause-volumes : goal.returns-then-not-fits-clause-volumes
+returns-then-not-fits-clause-volumes g c = same_go (laid_seen c.args.laid)

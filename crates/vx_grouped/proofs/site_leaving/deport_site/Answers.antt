@@ -1,11 +1,16 @@
 -- A site's group that is deported: what it leaves of the site and of its disks.
 use Rattle.std.proofs.Common.{◌∙◌, Option, sym, subst}
 use Rattle.vx_disk.specs.Disks.{Crashed}
+use Rattle.vx_disk.specs.Moves.{Nowhere}
+use Rattle.vx_group.specs.Deports.{DeportedBy}
+use Rattle.vx_group.specs.Holding.{wide}
 use Rattle.vx_logimport.specs.declared.rested.Rested.{Rested}
 use Rattle.vx_untold.specs.Shades.{rack_of, shade_meaning, shade_rack}
 use Rattle.vx_watched.specs.Since.{CalledSince}
 use Rattle.vx_watched.specs.Traces.{TellsLess}
 use Rattle.vx_watched.proofs.SinceLemmas.{since_stop}
+use Rattle.vx_grouped.specs.Volumes.{laid_seen}
+use Rattle.vx_grouped.proofs.VolumeLemmas.{fell_behind, none_go, same_go}
 use Rattle.vx_grouped.proofs.GivenUpLemmas.{rest_tells}
 use Rattle.vx_grouped.specs.PlainMaps.{PartsLeft, laid_parts, PartsStay}
 use Rattle.vx_grouped.specs.SiteMaps.{MapsLike, StaysMapped}
@@ -70,3 +75,15 @@ returns-else-is_down_stop-clause-maps g c = λ n note up.
     let racks = shade_rack g.R.Shelf.meaning is_rack in
     let maps = (c.in-Err.ensures.maps (racks c.args.laid.shelf) (racks c.in-Err.laid.shelf)) in
     (up_maps MapsLike c.args.laid c.in-Err.laid (call_still (Unit {0}) n note c.in-Err.laid.core (shade_meaning g.R.Shelf.meaning c.in-Err.laid.shelf) c.in-Err.stop (sym c.is_down_stop.ensures ∙ c.if-is_down_stop.false) (c.in-Err.ensures.leaves n note up.at)) maps.0, quiet_map (PartsStay (laid_parts c.args.laid) (laid_parts c.in-Err.laid)) (StaysMapped (Up c.args.laid) (Up c.in-Err.laid)) c.in-Err.stop (stays_up c.args.laid c.in-Err.laid) maps.1)
+
+pub returns-then-is_down-clause-volumes : goal.returns-then-is_down-clause-volumes
+returns-then-is_down-clause-volumes g c = same_go (laid_seen c.args.laid)
+
+pub returns-else-is_down_stop-clause-volumes : goal.returns-else-is_down_stop-clause-volumes
+returns-else-is_down_stop-clause-volumes g c = none_go (laid_seen c.args.laid) (laid_seen c.in-Err.laid) c.in-Err.ensures.moves.goes
+
+pub returns-then-is_down_stop-clause-volumes : goal.returns-then-is_down_stop-clause-volumes
+returns-then-is_down_stop-clause-volumes g c = fell_behind Nowhere c.args.laid c.in-Err.laid c.crash.result (none_go (laid_seen c.args.laid) (laid_seen c.in-Err.laid) c.in-Err.ensures.moves.goes) c.crash.ensures.stopped c.crash.ensures.agreed c.crash.ensures.lacking
+
+pub returns-in-Ok-clause-closes : goal.returns-in-Ok-clause-closes
+returns-in-Ok-clause-closes g c = subst (λ s. DeportedBy (wide c.args.laid.core).config c.args.laid.core.inner (shade_meaning g.R.Shelf.meaning c.args.laid.shelf) (shade_meaning g.R.Shelf.meaning s)) (sym c.of.ensures.rack) c.in-Ok.ensures.moves

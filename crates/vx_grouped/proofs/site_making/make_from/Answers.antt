@@ -15,7 +15,7 @@ returns-clause-works g c =
     c.args.group.core c.together-group.result.core c.together.result.core c.make_volume_of-answer.new.group.core c.args.group.shelf c.together-group.result.shelf.shelf c.together.result.shelf c.make_volume_of-answer.new.group.shelf.shelf
     (c.together-group.ensures.core ∙ c.apart-rack.ensures.core) (shelf_of _ _ c.together-group.ensures.shelf ∙ c.over-watched.ensures ∙ c.apart-rack.ensures.shelf)
     (c.together.ensures.core ∙ c.apart-watched.ensures.core) (c.together.ensures.shelf ∙ c.into_shelf-rack.ensures.shelf ∙ shelf_of _ _ c.apart-watched.ensures.shelf)
-    (record { refused = λ why is. (c.make_volume_of-answer.ensures.refused why is).0; leaves = c.make_volume_of-answer.ensures.leaves; ends = c.make_volume_of-answer.ensures.ends; trust = c.make_volume_of-answer.ensures.trust; agreed = c.make_volume_of-answer.ensures.agreed; parts = c.make_volume_of-answer.ensures.parts; disks = c.make_volume_of-answer.ensures.disks })
+    (record { refused = λ why is. (c.make_volume_of-answer.ensures.refused why is).0; leaves = c.make_volume_of-answer.ensures.leaves; ends = c.make_volume_of-answer.ensures.ends; trust = c.make_volume_of-answer.ensures.trust; goes = c.make_volume_of-answer.ensures.volumes; parts = c.make_volume_of-answer.ensures.parts; disks = c.make_volume_of-answer.ensures.disks; agreed = c.make_volume_of-answer.ensures.agreed })
 
 pub returns-clause-still : goal.returns-clause-still
 returns-clause-still g c =

@@ -1,11 +1,14 @@
 -- A volume that is made in a site's group: what it leaves of the site and of its disks.
 use Rattle.std.proofs.Common.{◌≡◌, ◌∙◌, ℕ, subst, sym}
 use Rattle.vx_disk.specs.Disks.{Crashed}
+use Rattle.vx_disk.specs.Moves.{Nowhere}
 use Rattle.vx_untold.specs.Shades.{shade_meaning, shade_rack}
 use Rattle.vx_watched.proofs.SinceLemmas.{since_stop}
 use Rattle.vx_grouped.specs.Added.{IsUnmoved}
 use Rattle.vx_grouped.specs.SiteAdds.{MakesVolume}
 use Rattle.vx_grouped.proofs.SiteAddLemmas.{made_cut, made_done, made_up, made_volume, make_down}
+use Rattle.vx_grouped.specs.Volumes.{laid_seen}
+use Rattle.vx_grouped.proofs.VolumeLemmas.{fell_behind, same_go}
 use Rattle.vx_grouped.specs.PlainMaps.{AddsMaps, laid_parts, PartsStay}
 use Rattle.vx_grouped.specs.SiteMaps.{AddMaps, MapsLike, StaysMapped}
 use Rattle.vx_grouped.proofs.AddMapLemmas.{add_still}
@@ -64,3 +67,15 @@ returns-else-is_down_stop-clause-maps g c = λ n note up.
     let works = (subst (λ r. MakesVolume c.args.name.now c.args.want.now c.args.laid.core (shade_meaning g.R.Shelf.meaning c.args.laid.shelf) c.make_watched-laid.result.0.core (shade_meaning g.R.Shelf.meaning c.make_watched-laid.result.0.shelf) r) c.in-Err.is c.make_watched-laid.ensures.works) in
     let maps = (subst (λ r. AddsMaps (laid_parts c.args.laid) (shade_meaning g.R.Shelf.meaning c.args.laid.shelf) (laid_parts c.make_watched-laid.result.0) (shade_meaning g.R.Shelf.meaning c.make_watched-laid.result.0.shelf) r) c.in-Err.is (c.make_watched-laid.ensures.maps (racks c.args.laid.shelf) (racks c.make_watched-laid.result.0.shelf))) in
     (up_maps MapsLike c.args.laid c.make_watched-laid.result.0 (add_still n note c.args.want.now c.make_watched-laid.result.0.core (shade_meaning g.R.Shelf.meaning c.make_watched-laid.result.0.shelf) c.in-Err.stop (sym c.is_down_stop.ensures ∙ c.if-is_down_stop.false) (works.leaves n note up.at)) maps.0, quiet_map (PartsStay (laid_parts c.args.laid) (laid_parts c.make_watched-laid.result.0)) (StaysMapped (Up c.args.laid) (Up c.make_watched-laid.result.0)) c.in-Err.stop (stays_up c.args.laid c.make_watched-laid.result.0) maps.1)
+
+pub returns-then-is_down-clause-volumes : goal.returns-then-is_down-clause-volumes
+returns-then-is_down-clause-volumes g c = same_go (laid_seen c.args.laid)
+
+pub returns-in-Ok-clause-volumes : goal.returns-in-Ok-clause-volumes
+returns-in-Ok-clause-volumes g c = c.make_watched-laid.ensures.works.goes
+
+pub returns-then-is_down_stop-clause-volumes : goal.returns-then-is_down_stop-clause-volumes
+returns-then-is_down_stop-clause-volumes g c = fell_behind Nowhere c.args.laid c.make_watched-laid.result.0 c.crash.result c.make_watched-laid.ensures.works.goes c.crash.ensures.stopped c.crash.ensures.agreed c.crash.ensures.lacking
+
+pub returns-else-is_down_stop-clause-volumes : goal.returns-else-is_down_stop-clause-volumes
+returns-else-is_down_stop-clause-volumes g c = c.make_watched-laid.ensures.works.goes

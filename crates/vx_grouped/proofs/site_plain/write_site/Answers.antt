@@ -5,6 +5,10 @@ use Rattle.vx_untold.specs.Shades.{shade_meaning, shade_rack}
 use Rattle.vx_watched.proofs.SinceLemmas.{since_stop}
 use Rattle.vx_grouped.specs.Watches.{PlainWrites}
 use Rattle.vx_grouped.proofs.WroteLemmas.{down_by, wrote_cut, wrote_done, wrote_up}
+use Rattle.vx_grouped.proofs.VolumeLemmas.{fell_behind, same_go, wider_go, write_goes}
+use Rattle.vx_grouped.specs.Volumes.{laid_seen}
+use Rattle.vx_disk.specs.Shelf.{Covers}
+use Rattle.vx_disk.specs.Moves.{Nowhere}
 use Rattle.vx_grouped.specs.Ends.{plain_write}
 use Rattle.vx_grouped.specs.PlainMaps.{WritesMaps, laid_parts}
 use Rattle.vx_grouped.specs.SiteMaps.{DoubtMaps, WriteMaps}
@@ -53,3 +57,15 @@ pub returns-else-is_off-clause-maps : goal.returns-else-is_off-clause-maps
 returns-else-is_off-clause-maps g c = λ n note up fits.
     let works = (subst (λ r. PlainWrites c.args.vol c.args.block c.args.bytes.now c.args.laid.core (shade_meaning g.R.Shelf.meaning c.args.laid.shelf) c.write_watched-laid.result.0.core (shade_meaning g.R.Shelf.meaning c.write_watched-laid.result.0.shelf) r) c.in-Err.is c.write_watched-laid.ensures.works) in
     up_maps (DoubtMaps (plain_write c.args.vol c.args.block c.args.bytes.now)) c.args.laid c.write_watched-laid.result.0 (up_still n note (plain_write c.args.vol c.args.block c.args.bytes.now) c.write_watched-laid.result.0.core (shade_meaning g.R.Shelf.meaning c.write_watched-laid.result.0.shelf) c.in-Err.no (sym c.is_off.ensures ∙ c.if-is_off.false) (works.leaves n note up.at)) (subst (λ r. WritesMaps (plain_write c.args.vol c.args.block c.args.bytes.now) (laid_parts c.args.laid) (shade_meaning g.R.Shelf.meaning c.args.laid.shelf) (laid_parts c.write_watched-laid.result.0) (shade_meaning g.R.Shelf.meaning c.write_watched-laid.result.0.shelf) r) c.in-Err.is c.write_watched-laid.ensures.maps)
+
+pub returns-in-Ok-clause-volumes : goal.returns-in-Ok-clause-volumes
+returns-in-Ok-clause-volumes g c = write_goes c.args.vol c.args.block c.args.bytes.now (laid_seen c.args.laid) (laid_seen c.write_watched-laid.result.0) c.write_watched-laid.ensures.works.goes
+
+pub returns-else-is_off-clause-volumes : goal.returns-else-is_off-clause-volumes
+returns-else-is_off-clause-volumes g c = write_goes c.args.vol c.args.block c.args.bytes.now (laid_seen c.args.laid) (laid_seen c.write_watched-laid.result.0) c.write_watched-laid.ensures.works.goes
+
+pub returns-then-is_off-clause-volumes : goal.returns-then-is_off-clause-volumes
+returns-then-is_off-clause-volumes g c = fell_behind (Covers c.args.vol c.args.block c.args.bytes.now) c.args.laid c.write_watched-laid.result.0 c.crash.result (write_goes c.args.vol c.args.block c.args.bytes.now (laid_seen c.args.laid) (laid_seen c.write_watched-laid.result.0) c.write_watched-laid.ensures.works.goes) c.crash.ensures.stopped c.crash.ensures.agreed c.crash.ensures.lacking
+
+pub returns-then-not-fits-clause-volumes : goal.returns-then-not-fits-clause-volumes
+returns-then-not-fits-clause-volumes g c = wider_go Nowhere (Covers c.args.vol c.args.block c.args.bytes.now) (laid_seen c.args.laid) (laid_seen c.args.laid) (λ u b none. absurd none) (same_go (laid_seen c.args.laid))

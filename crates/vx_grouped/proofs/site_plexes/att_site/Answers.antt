@@ -7,6 +7,9 @@ use Rattle.vx_watched.proofs.SinceLemmas.{since_stop}
 use Rattle.vx_grouped.specs.Watches.{PlexAtts}
 use Rattle.vx_grouped.proofs.CalledLemmas.{down_by_stop}
 use Rattle.vx_grouped.proofs.SitePlexLemmas.{att_never_off, att_site_cut, att_site_done, att_site_up}
+use Rattle.vx_grouped.proofs.VolumeLemmas.{fell_behind, none_go, same_go}
+use Rattle.vx_grouped.specs.Volumes.{laid_seen}
+use Rattle.vx_disk.specs.Moves.{Nowhere}
 use Rattle.vx_grouped.specs.PlainMaps.{AttsMaps, laid_parts, PartsStay}
 use Rattle.vx_grouped.specs.SiteMaps.{MapsLike, AttMaps, StaysMapped}
 use Rattle.vx_grouped.proofs.PlexMapLemmas.{call_still}
@@ -63,3 +66,15 @@ returns-else-is_down_stop-clause-maps g c = λ n note up.
     let works = (subst (λ r. PlexAtts c.args.vol c.args.plex c.args.laid.core (shade_meaning g.R.Shelf.meaning c.args.laid.shelf) c.att_watched-laid.result.0.core (shade_meaning g.R.Shelf.meaning c.att_watched-laid.result.0.shelf) r) c.in-Err.is c.att_watched-laid.ensures.works) in
     let maps = (subst (λ r. AttsMaps c.args.vol c.args.plex (laid_parts c.args.laid) (shade_meaning g.R.Shelf.meaning c.args.laid.shelf) (laid_parts c.att_watched-laid.result.0) (shade_meaning g.R.Shelf.meaning c.att_watched-laid.result.0.shelf) r) c.in-Err.is (c.att_watched-laid.ensures.maps (racks c.args.laid.shelf) (racks c.att_watched-laid.result.0.shelf))) in
     (up_maps MapsLike c.args.laid c.att_watched-laid.result.0 (call_still ℕ n note c.att_watched-laid.result.0.core (shade_meaning g.R.Shelf.meaning c.att_watched-laid.result.0.shelf) c.in-Err.stop (sym c.is_down_stop.ensures ∙ c.if-is_down_stop.false) (works.leaves n note up.at)) maps.0, quiet_map (PartsStay (laid_parts c.args.laid) (laid_parts c.att_watched-laid.result.0)) (StaysMapped (Up c.args.laid) (Up c.att_watched-laid.result.0)) c.in-Err.stop (stays_up c.args.laid c.att_watched-laid.result.0) maps.1)
+
+pub returns-then-is_down-clause-volumes : goal.returns-then-is_down-clause-volumes
+returns-then-is_down-clause-volumes g c = same_go (laid_seen c.args.laid)
+
+pub returns-in-Ok-clause-volumes : goal.returns-in-Ok-clause-volumes
+returns-in-Ok-clause-volumes g c = none_go (laid_seen c.args.laid) (laid_seen c.att_watched-laid.result.0) c.att_watched-laid.ensures.works.goes
+
+pub returns-else-is_down_stop-clause-volumes : goal.returns-else-is_down_stop-clause-volumes
+returns-else-is_down_stop-clause-volumes g c = none_go (laid_seen c.args.laid) (laid_seen c.att_watched-laid.result.0) c.att_watched-laid.ensures.works.goes
+
+pub returns-then-is_down_stop-clause-volumes : goal.returns-then-is_down_stop-clause-volumes
+returns-then-is_down_stop-clause-volumes g c = fell_behind Nowhere c.args.laid c.att_watched-laid.result.0 c.crash.result (none_go (laid_seen c.args.laid) (laid_seen c.att_watched-laid.result.0) c.att_watched-laid.ensures.works.goes) c.crash.ensures.stopped c.crash.ensures.agreed c.crash.ensures.lacking

@@ -7,6 +7,9 @@ use Rattle.vx_watched.proofs.SinceLemmas.{since_stop}
 use Rattle.vx_grouped.specs.Watches.{PlexDets}
 use Rattle.vx_grouped.proofs.CalledLemmas.{down_by_stop}
 use Rattle.vx_grouped.proofs.SitePlexLemmas.{det_never_off, det_site_cut, det_site_done, det_site_up}
+use Rattle.vx_grouped.proofs.VolumeLemmas.{fell_behind, none_go, same_go}
+use Rattle.vx_grouped.specs.Volumes.{laid_seen}
+use Rattle.vx_disk.specs.Moves.{Nowhere}
 use Rattle.vx_grouped.specs.PlainMaps.{DetsMaps, laid_parts, PartsStay}
 use Rattle.vx_grouped.specs.SiteMaps.{DetMapsDone, DetMapsFailed, StaysMapped}
 use Rattle.vx_grouped.proofs.PlexMapLemmas.{call_still}
@@ -62,3 +65,15 @@ returns-else-is_down_stop-clause-maps g c = λ n note up.
     let works = (subst (λ r. PlexDets c.args.vol c.args.plex c.args.laid.core (shade_meaning g.R.Shelf.meaning c.args.laid.shelf) c.det_watched-laid.result.0.core (shade_meaning g.R.Shelf.meaning c.det_watched-laid.result.0.shelf) r) c.in-Err.is c.det_watched-laid.ensures.works) in
     let maps = (subst (λ r. DetsMaps c.args.vol c.args.plex (laid_parts c.args.laid) (shade_meaning g.R.Shelf.meaning c.args.laid.shelf) (laid_parts c.det_watched-laid.result.0) (shade_meaning g.R.Shelf.meaning c.det_watched-laid.result.0.shelf) r) c.in-Err.is (c.det_watched-laid.ensures.maps (racks c.args.laid.shelf) (racks c.det_watched-laid.result.0.shelf))) in
     (up_maps (DetMapsFailed c.args.vol c.args.plex) c.args.laid c.det_watched-laid.result.0 (call_still (Unit {0}) n note c.det_watched-laid.result.0.core (shade_meaning g.R.Shelf.meaning c.det_watched-laid.result.0.shelf) c.in-Err.stop (sym c.is_down_stop.ensures ∙ c.if-is_down_stop.false) (works.leaves n note up.at)) maps.0, quiet_map (PartsStay (laid_parts c.args.laid) (laid_parts c.det_watched-laid.result.0)) (StaysMapped (Up c.args.laid) (Up c.det_watched-laid.result.0)) c.in-Err.stop (stays_up c.args.laid c.det_watched-laid.result.0) maps.1)
+
+pub returns-then-is_down-clause-volumes : goal.returns-then-is_down-clause-volumes
+returns-then-is_down-clause-volumes g c = same_go (laid_seen c.args.laid)
+
+pub returns-in-Ok-clause-volumes : goal.returns-in-Ok-clause-volumes
+returns-in-Ok-clause-volumes g c = none_go (laid_seen c.args.laid) (laid_seen c.det_watched-laid.result.0) c.det_watched-laid.ensures.works.goes
+
+pub returns-else-is_down_stop-clause-volumes : goal.returns-else-is_down_stop-clause-volumes
+returns-else-is_down_stop-clause-volumes g c = none_go (laid_seen c.args.laid) (laid_seen c.det_watched-laid.result.0) c.det_watched-laid.ensures.works.goes
+
+pub returns-then-is_down_stop-clause-volumes : goal.returns-then-is_down_stop-clause-volumes
+returns-then-is_down_stop-clause-volumes g c = fell_behind Nowhere c.args.laid c.det_watched-laid.result.0 c.crash.result (none_go (laid_seen c.args.laid) (laid_seen c.det_watched-laid.result.0) c.det_watched-laid.ensures.works.goes) c.crash.ensures.stopped c.crash.ensures.agreed c.crash.ensures.lacking

@@ -6,6 +6,7 @@ use Rattle.vx_logimport.specs.Rests.{LogsTell}
 use Rattle.vx_grouped.specs.Away.{AwayLies}
 use Rattle.vx_grouped.specs.Returns.{GroupReturns, ImportLeft}
 use Rattle.vx_grouped.proofs.CarryLemmas.{carried, carried_two, shelf_of}
+use Rattle.vx_grouped.specs.Brings.{BringsVolumes}
 use Rattle.vx_grouped.specs.PlainMaps.{PartsBack, map_parts}
 use Rattle.vx_grouped.proofs.PlainMapLemmas.{parts_carried, parts_same}
 use Rattle.vx_grouped.proofs.site_returning.import_from.Goals as goal
@@ -50,3 +51,9 @@ returns-in-Ok-clause-maps g c =
 
 pub returns-in-Err-clause-maps : goal.returns-in-Err-clause-maps
 returns-in-Err-clause-maps g c = tt
+
+pub returns-in-Ok-clause-brings : goal.returns-in-Ok-clause-brings
+returns-in-Ok-clause-brings g c =
+    carried (λ x s y t. BringsVolumes (g.R.Shelf.meaning s) y (g.R.Shelf.meaning t))
+    c.in-Ok.group.core c.in-Ok.group.core c.together.result.core c.in-Ok.group.core c.args.rack c.over-watched.result.shelf c.together.result.shelf c.in-Ok.group.shelf.shelf refl c.over-watched.ensures
+    (c.together.ensures.core ∙ c.apart-watched.ensures.core) (c.together.ensures.shelf ∙ c.into_shelf-rack.ensures.shelf ∙ shelf_of _ _ c.apart-watched.ensures.shelf) c.in-Ok.ensures.brings

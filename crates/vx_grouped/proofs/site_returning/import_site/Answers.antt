@@ -8,6 +8,7 @@ use Rattle.vx_grouped.proofs.SiteReturnLemmas.{imported_down, imported_early, im
 use Rattle.vx_grouped.proofs.StopLemmas.{still_can, early_goes}
 use Rattle.vx_grouped.proofs.GivenUpLemmas.{rested_tells}
 use Rattle.vx_grouped.proofs.TellLemmas.{alike_tells, early_tells, none_tells}
+use Rattle.vx_grouped.proofs.BringLemmas.{alike_self}
 use Rattle.std.specs.Prelude.{Some}
 use Rattle.vx_grouped.proofs.ReturnMapLemmas.{came_up, down_late, idle_of, less_idle, never_early}
 use Rattle.vx_grouped.proofs.site_returning.import_site.Goals as goal
@@ -144,3 +145,6 @@ returns-then-fell-clause-maps g c = λ early w x it. let clash : false ≡ true 
 
 pub of-idle-requires-clause-tells : goal.of-idle-requires-clause-tells
 of-idle-requires-clause-tells g c = λ κs lives r agreed is. rested_tells r c.args.rested (shade_meaning g.R.Shelf.meaning c.fallen.result) is (none_tells c.args.rested (shade_meaning g.R.Shelf.meaning c.fallen.result) (c.fallen.ensures.dark refl))
+
+pub returns-in-Ok-clause-brings : goal.returns-in-Ok-clause-brings
+returns-in-Ok-clause-brings g c = record { first = c.args.rack; revived = alike_self (shade_meaning g.R.Shelf.meaning c.args.rack); brings = c.in-Ok.ensures.brings }

@@ -7,6 +7,7 @@ use Rattle.vx_watched.specs.Since.{CalledSince}
 use Rattle.vx_grouped.specs.Away.{AwayLies}
 use Rattle.vx_grouped.specs.Returns.{GroupReturns, ImportLeft}
 use Rattle.vx_grouped.proofs.TraceLemmas.{carried_both, carried_in, carried_off, carried_on, off_means}
+use Rattle.vx_grouped.specs.Brings.{BringsVolumes}
 use Rattle.vx_untold.specs.Shades.{shade_meaning}
 use Rattle.vx_grouped.specs.PlainMaps.{PartsBack, map_parts}
 use Rattle.vx_grouped.proofs.PlainMapLemmas.{parts_carried, parts_same}
@@ -61,3 +62,9 @@ returns-in-Ok-clause-maps g c =
 
 pub returns-in-Err-clause-maps : goal.returns-in-Err-clause-maps
 returns-in-Err-clause-maps g c = tt
+
+pub returns-in-Ok-clause-brings : goal.returns-in-Ok-clause-brings
+returns-in-Ok-clause-brings g c =
+    carried_in (λ x s y t. BringsVolumes s y t)
+    c.in-Ok.group.core c.in-Ok.group.core c.untrace.result.core c.in-Ok.group.core c.args.rack c.traced.result c.untrace.result.shelf c.in-Ok.group.shelf refl c.traced.ensures c.untrace.ensures.core c.untrace.ensures.shelf
+    c.in-Ok.ensures.brings

@@ -8,6 +8,7 @@ use Rattle.vx_grouped.specs.declared.group_site.GroupSite.TheVariants.{Down}
 use Rattle.vx_grouped.proofs.GivenUpLemmas.{given_down}
 use Rattle.vx_grouped.proofs.ReadyLemmas.{recovered_ready, since_ready, told_ready}
 use Rattle.vx_grouped.proofs.SinceReturns.{return_at, return_dark}
+use Rattle.vx_grouped.specs.Brings.{BringsAtSite}
 use Rattle.vx_grouped.proofs.ReturnMapLemmas.{recovered_maps}
 use Rattle.vx_grouped.proofs.site_returning.recover_idle.Goals as goal
 
@@ -35,3 +36,9 @@ returns-in-Some-clause-maps g c = recovered_maps c.args.idle c.into_ready.result
 
 pub returns-in-None-clause-maps : goal.returns-in-None-clause-maps
 returns-in-None-clause-maps g c = λ early w x it. absurd (let clash : false ≡ true = sym (ap stops_early c.too_few.ensures) ∙ early in cc)
+
+pub returns-in-Some-clause-brings : goal.returns-in-Some-clause-brings
+returns-in-Some-clause-brings g c = subst (λ s. BringsAtSite (shade_meaning g.R.Shelf.meaning s) c.recover_site.result.0 c.recover_site.result.1) c.into_ready.ensures.ready c.recover_site.ensures.brings
+
+pub returns-in-Some-clause-comes : goal.returns-in-Some-clause-comes
+returns-in-Some-clause-comes g c = c.recover_site.ensures.comes

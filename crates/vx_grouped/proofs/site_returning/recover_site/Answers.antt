@@ -83,3 +83,6 @@ returns-in-Err-clause-maps g c = λ early w x it.
     (less_down (shade_meaning g.R.Shelf.meaning c.in-Err.rack) (shade_meaning g.R.Shelf.meaning c.fallen.result) fell.units fell.size fell.leaves w x (Some c.args.rested)
     (less_down (shade_meaning g.R.Shelf.meaning c.risen.result) (shade_meaning g.R.Shelf.meaning c.in-Err.rack) goes.units goes.size (λ u b v left. ⊎_elim (λ was. was) (λ none. absurd none) (goes.leaves u b v left)) w x (Some c.args.rested)
     (less_down (shade_meaning g.R.Shelf.meaning c.args.rack) (shade_meaning g.R.Shelf.meaning c.risen.result) alike.units alike.size alike.leaves w x (Some c.args.rested) it))))
+
+pub returns-in-Ok-clause-brings : goal.returns-in-Ok-clause-brings
+returns-in-Ok-clause-brings g c = record { first = c.risen.result; revived = c.risen.ensures.alike; brings = c.in-Ok.ensures.brings }

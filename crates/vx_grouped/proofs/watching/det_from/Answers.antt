@@ -13,7 +13,7 @@ returns-clause-works g c =
     c.args.group.core c.together-group.result.core c.together.result.core c.det_plex-answer.new.group.core c.args.group.shelf c.together-group.result.shelf.shelf c.together.result.shelf c.det_plex-answer.new.group.shelf.shelf
     (c.together-group.ensures.core ∙ c.apart-rack.ensures.core) (shelf_of _ _ c.together-group.ensures.shelf ∙ c.over-watched.ensures ∙ c.apart-rack.ensures.shelf)
     (c.together.ensures.core ∙ c.apart-watched.ensures.core) (c.together.ensures.shelf ∙ c.into_shelf-rack.ensures.shelf ∙ shelf_of _ _ c.apart-watched.ensures.shelf)
-    (record { refused = λ why is. (c.det_plex-answer.ensures.refused why is).0; leaves = c.det_plex-answer.ensures.leaves; off = c.det_plex-answer.ensures.off; undone = c.det_plex-answer.ensures.undone; others = c.det_plex-answer.ensures.others; trust = c.det_plex-answer.ensures.trust; agreed = c.det_plex-answer.ensures.agreed; cause = c.det_plex-answer.ensures.cause; narrows = c.det_plex-answer.ensures.narrows; moves = c.det_plex-answer.ensures.moves })
+    (record { refused = λ why is. (c.det_plex-answer.ensures.refused why is).0; leaves = c.det_plex-answer.ensures.leaves; off = c.det_plex-answer.ensures.off; others = c.det_plex-answer.ensures.others; trust = c.det_plex-answer.ensures.trust; cause = c.det_plex-answer.ensures.cause; narrows = c.det_plex-answer.ensures.narrows; goes = c.det_plex-answer.ensures.goes; moves = c.det_plex-answer.ensures.moves; agreed = c.det_plex-answer.ensures.agreed; undone = c.det_plex-answer.ensures.undone })
 
 pub returns-clause-maps : goal.returns-clause-maps
 returns-clause-maps g c =

@@ -58,10 +58,10 @@ returns-in-Ok-clause-heard g c = λ d p site at target answers one flight listen
     listening link assembly stands state
 
 pub returns-in-Err-clause-called : goal.returns-in-Err-clause-called
-returns-in-Err-clause-called g c = λ beside n stands. c.in-Err.ensures.called beside n stands
+returns-in-Err-clause-called g c = λ beside n stands raw. c.in-Err.ensures.called beside n stands raw
 
 pub returns-in-Ok-clause-called : goal.returns-in-Ok-clause-called
-returns-in-Ok-clause-called g c = λ beside n stands. c.in-Ok.ensures.called beside n stands
+returns-in-Ok-clause-called g c = λ beside n stands raw. c.in-Ok.ensures.called beside n stands raw
 
 pub returns-in-Err-clause-part : goal.returns-in-Err-clause-part
 returns-in-Err-clause-part g c = λ d p site at target answers flight listening link stands state.
@@ -119,7 +119,7 @@ returns-in-Err-clause-rises g c = λ d p site why at target answers flight liste
     listening link stands state
 
 pub returns-in-Ok-clause-headed : goal.returns-in-Ok-clause-headed
-returns-in-Ok-clause-headed g c = λ d p site at target answers flight listening link stands state some.
+returns-in-Ok-clause-headed g c = λ d p site at target answers flight listening link stands state raw some.
     subst
     (λ (t : ℕ). IsListening (d.world.nodes t) (d.world.links t p.source) → c.args.link.now ≡ plain_link p.source (d.world.links t p.source) → SiteStands (beside_of d t) (d.world.nodes t) c.args.disks.now
     → c.args.state.now ≡ state_with (d.world.nodes t) (header_links d.world t)
@@ -131,11 +131,11 @@ returns-in-Ok-clause-headed g c = λ d p site at target answers flight listening
     record { up = listening.up; running = listening.running; keeps = listening.keeps; linked = listening.linked; safe_is = safe; line_is = line } in l) in
     let heard = c.heard_link-heard.ensures d.world p p.target at refl answers flight listens link in
     stores_as c.args.link.now.stored (d.world.links p.target p.source).stored c.heard_link-heard.result.stored ((world_behind d.world c.args.number).links p.target p.source).stored (reply_by (let r : Result Said Stop = Ok c.deliver_answer.result in r))
-    c.args.disks.now c.keep_stored.new.disks (ap (λ (k : PlainLink). k.stored) link) (ap (λ (k : PlainLink). k.stored) heard) (c.in-Ok.ensures.headed (beside_of d p.target) (d.world.nodes p.target) stands (λ is. never_stops tt OutOfMemory is)))
+    c.args.disks.now c.keep_stored.new.disks (ap (λ (k : PlainLink). k.stored) link) (ap (λ (k : PlainLink). k.stored) heard) (c.in-Ok.ensures.headed (beside_of d p.target) (d.world.nodes p.target) stands raw (λ is. never_stops tt OutOfMemory is)))
     listening link stands state
 
 pub returns-in-Err-clause-headed : goal.returns-in-Err-clause-headed
-returns-in-Err-clause-headed g c = λ d p site at target answers flight listening link stands state some.
+returns-in-Err-clause-headed g c = λ d p site at target answers flight listening link stands state raw some.
     subst
     (λ (t : ℕ). IsListening (d.world.nodes t) (d.world.links t p.source) → c.args.link.now ≡ plain_link p.source (d.world.links t p.source) → SiteStands (beside_of d t) (d.world.nodes t) c.args.disks.now
     → c.args.state.now ≡ state_with (d.world.nodes t) (header_links d.world t)
@@ -147,5 +147,5 @@ returns-in-Err-clause-headed g c = λ d p site at target answers flight listenin
     record { up = listening.up; running = listening.running; keeps = listening.keeps; linked = listening.linked; safe_is = safe; line_is = line } in l) in
     let heard = c.heard_link-heard.ensures d.world p p.target at refl answers flight listens link in
     stores_as c.args.link.now.stored (d.world.links p.target p.source).stored c.heard_link-heard.result.stored ((world_behind d.world c.args.number).links p.target p.source).stored (reply_by (let r : Result Said Stop = Err c.in-Err.stop in r))
-    c.args.disks.now c.keep_stored.new.disks (ap (λ (k : PlainLink). k.stored) link) (ap (λ (k : PlainLink). k.stored) heard) (c.in-Err.ensures.headed (beside_of d p.target) (d.world.nodes p.target) stands (λ is. some (stop_under (Unit {0}) Said c.in-Err.stop OutOfMemory is))))
+    c.args.disks.now c.keep_stored.new.disks (ap (λ (k : PlainLink). k.stored) link) (ap (λ (k : PlainLink). k.stored) heard) (c.in-Err.ensures.headed (beside_of d p.target) (d.world.nodes p.target) stands raw (λ is. some (stop_under (Unit {0}) Said c.in-Err.stop OutOfMemory is))))
     listening link stands state

@@ -24,26 +24,26 @@ returns-in-Err-clause-kept g c = λ beside n stands up running apart state less.
     (c.in-Err.ensures.kept beside n stands (subst (λ (s : State). CanKeep beside n s) (sym is) (can_store beside n c.args.to c.args.stored up running apart less)))
 
 pub returns-then-stored-old-clause-called : goal.returns-then-stored-old-clause-called
-returns-then-stored-old-clause-called g c = λ beside n stands. called_none c.args.disks.now
+returns-then-stored-old-clause-called g c = λ beside n stands raw. called_none c.args.disks.now
 
 pub returns-then-stored-gt-MOST_NUMBER-clause-called : goal.returns-then-stored-gt-MOST_NUMBER-clause-called
-returns-then-stored-gt-MOST_NUMBER-clause-called g c = λ beside n stands. called_none c.args.disks.now
+returns-then-stored-gt-MOST_NUMBER-clause-called g c = λ beside n stands raw. called_none c.args.disks.now
 
 pub returns-in-Ok-clause-called : goal.returns-in-Ok-clause-called
-returns-in-Ok-clause-called g c = λ beside n stands. c.in-Ok.ensures.called beside n stands
+returns-in-Ok-clause-called g c = λ beside n stands raw. c.in-Ok.ensures.called beside n stands raw
 
 pub returns-in-Err-clause-called : goal.returns-in-Err-clause-called
-returns-in-Err-clause-called g c = λ beside n stands. c.in-Err.ensures.called beside n stands
+returns-in-Err-clause-called g c = λ beside n stands raw. c.in-Err.ensures.called beside n stands raw
 
 pub returns-then-stored-old-clause-headed : goal.returns-then-stored-old-clause-headed
-returns-then-stored-old-clause-headed g c = λ beside n stands some. stores_none c.args.old c.args.stored c.args.disks.now (omega (arith, c.if-stored-old.true))
+returns-then-stored-old-clause-headed g c = λ beside n stands raw some. stores_none c.args.old c.args.stored c.args.disks.now (omega (arith, c.if-stored-old.true))
 
 pub returns-then-stored-gt-MOST_NUMBER-clause-headed : goal.returns-then-stored-gt-MOST_NUMBER-clause-headed
-returns-then-stored-gt-MOST_NUMBER-clause-headed g c = λ beside n stands some. absurd (some refl)
+returns-then-stored-gt-MOST_NUMBER-clause-headed g c = λ beside n stands raw some. absurd (some refl)
 
 pub returns-in-Ok-clause-headed : goal.returns-in-Ok-clause-headed
-returns-in-Ok-clause-headed g c = λ beside n stands some. stores_more c.args.old c.args.stored Done c.args.disks.now c.keep.new.self (omega (arith, c.if-stored-old.false)) (c.in-Ok.ensures.headed beside n stands)
+returns-in-Ok-clause-headed g c = λ beside n stands raw some. stores_more c.args.old c.args.stored Done c.args.disks.now c.keep.new.self (omega (arith, c.if-stored-old.false)) (c.in-Ok.ensures.headed beside n stands raw)
 
 pub returns-in-Err-clause-headed : goal.returns-in-Err-clause-headed
-returns-in-Err-clause-headed g c = λ beside n stands some.
-    stores_more c.args.old c.args.stored (Refused c.in-Err.no) c.args.disks.now c.keep.new.self (omega (arith, c.if-stored-old.false)) (c.in-Err.ensures.headed beside n stands)
+returns-in-Err-clause-headed g c = λ beside n stands raw some.
+    stores_more c.args.old c.args.stored (Refused c.in-Err.no) c.args.disks.now c.keep.new.self (omega (arith, c.if-stored-old.false)) (c.in-Err.ensures.headed beside n stands raw)

@@ -38,11 +38,11 @@ returns-clause-delivered g c = λ d p k x at target message one flight stands fe
     let s = c.args.secondary.now in
     let new = c.deliver_update.new.secondary in
     let f = g.N.Net.flying c.args.flight.now in
-    let running = sym stands.halted ∙ sym c.halted.ensures ∙ c.in_default.is in
-    let receives = receives_at (w.nodes c.args.site) s.rvg.core s.waiting (g.R.Shelf.meaning s.rvg.shelf) stands running c.args.fed_by.now fed in
-    let line = ap (λ (t : State). t.line) stands.kept in
+    let running = sym stands.1.halted ∙ sym c.halted.ensures ∙ c.in_default.is in
+    let receives = receives_at (w.nodes c.args.site) s.rvg.core s.waiting (g.R.Shelf.meaning s.rvg.shelf) stands.1 running c.args.fed_by.now fed in
+    let line = ap (λ (t : State). t.line) stands.1.kept in
     let done = c.deliver_update.ensures.delivered w p k x at target message one flight receives assembly
-    (λ is. fits_group (w.nodes c.args.site) s.rvg.core (g.R.Shelf.meaning s.rvg.shelf) p.line k x stands.lies stands.units stands.ring (fits (is ∙ line))) in
+    (λ is. fits_group (w.nodes c.args.site) s.rvg.core (g.R.Shelf.meaning s.rvg.shelf) p.line k x stands.1.lies stands.1.units stands.1.ring (fits (is ∙ line))) in
     subst
     (λ (t : ℕ). SiteStands (beside_of d t) (w.nodes t) (Receives s) → (w.nodes t).halted ≡ None → IfOk c.deliver_update.result (λ said. DeliveredAt w t c.args.number new.rvg.core new.waiting c.deliver_update.new.fed_by c.deliver_update.new.assembly (g.N.Net.flying c.deliver_update.new.flight) said)
     → IfOk c.deliver_update.result (λ said. DeliveredTo (delivered w c.args.number (packet_at w.packets c.args.number)) (beside_of d t) t (Receives new) c.deliver_update.new.fed_by c.deliver_update.new.assembly (g.N.Net.flying c.deliver_update.new.flight) said)) target
@@ -88,7 +88,7 @@ returns-clause-took g c = λ d p k x at target message flight stands fed.
     let new = c.deliver_update.new.secondary in
     let f = g.N.Net.flying c.args.flight.now in
     let f' = g.N.Net.flying c.deliver_update.new.flight in
-    let running = sym stands.halted ∙ sym c.halted.ensures ∙ c.in_default.is in
+    let running = sym stands.1.halted ∙ sym c.halted.ensures ∙ c.in_default.is in
     let core = s.rvg.core in
     let fed_by = c.args.fed_by.now in
     let fed_new = c.deliver_update.new.fed_by in

@@ -23,6 +23,7 @@ use Rattle.vx_yard.proofs.FailsStay.{alone_keeps}
 use Rattle.vx_events.specs.declared.said.Said.TheVariants.{Ignored, Refused, Taken}
 use Rattle.vx_yard.specs.OfSites.{TouchesNone}
 use Rattle.vx_link_lines.proofs.DeliverCalls.{no_answer, waits_alone}
+use Rattle.vx_link_lines.proofs.RawParts.{raw_there, takes_raw}
 use Rattle.vx_yard.proofs.OfSites.{all_of_site, all_still, site_still}
 use Rattle.vx_yard.proofs.Lists.{get-set_same, get_at, length-set, set_same}
 use Rattle.vx_link_lines.proofs.deliver.hand_update.Goals as goal
@@ -31,7 +32,7 @@ pub overflow_cast-target : goal.overflow_cast-target
 overflow_cast-target g c = omega (arith, c.requires.few)
 
 pub returns-then-not-receives-clause-leads : goal.returns-then-not-receives-clause-leads
-returns-then-not-receives-clause-leads g c = λ d p k x stands carries good at to below message.
+returns-then-not-receives-clause-leads g c = λ d p k x stands off carries good at to below message.
     let old = c.args.yard.now in
     let t = c.args.target in
     let e = c.index.result.now in
@@ -53,7 +54,7 @@ returns-in-Taken-clause-told g c =
     told_before es c.args.target c.index_mut.result.now c.deliver_update.new.disks (get_at es c.args.target c.index_mut.result.now c.requires.disk_set c.index_mut.ensures.value) c.deliver_update.ensures.later
 
 pub returns-in_err-said-clause-leads : goal.returns-in_err-said-clause-leads
-returns-in_err-said-clause-leads g c = λ d p k x stands carries good at to below message.
+returns-in_err-said-clause-leads g c = λ d p k x stands off carries good at to below message.
     let old = c.args.yard.now in
     let t = c.args.target in
     let before = c.index_mut.result.now in
@@ -70,7 +71,7 @@ returns-in_err-said-clause-leads g c = λ d p k x stands carries good at to belo
     }) (told_before old.disk_sets.items t before after there c.deliver_update.ensures.later)
 
 pub returns-in-Taken-clause-leads : goal.returns-in-Taken-clause-leads
-returns-in-Taken-clause-leads g c = λ d p k x stands carries good at to below message.
+returns-in-Taken-clause-leads g c = λ d p k x stands off carries good at to below message.
     let old = c.args.yard.now in
     let t = c.args.target in
     let before = c.index_mut.result.now in
@@ -83,11 +84,12 @@ returns-in-Taken-clause-leads g c = λ d p k x stands carries good at to below m
     let same_before = some_same (sym (get_at old.disk_sets.items t c.index.result.now c.requires.disk_set c.index.ensures) ∙ there) in
     let here = stands.disk_sets.sites t before below there in
     let role = stands.roles.each t before below there in
+    let takes = takes_raw before (raw_there d old t before stands below there off) in
     let opens = room_receives (beside_of d t) (d.world.nodes t) c.index.result.now c.receives.result c.receives.ensures c.if-not-receives.false (subst (λ e. SiteStands (beside_of d t) (d.world.nodes t) e) (sym same_before) here) in
     let fed = carries.feeders t c.index_mut-2.result.now (get_at old.feeders.items t c.index_mut-2.result.now c.requires.feeder c.index_mut-2.ensures.value) opens.0 opens.1 in
     let told = told_before old.disk_sets.items t before after there c.deliver_update.ensures.later in
     let up = subst (λ (i : ℕ). (d.world.nodes i).state ≡ Up) (sym to) opens.0 in
-    let took = c.in_ok-said.ensures.took d p k x at to message carries.flight here role fed in
+    let took = c.in_ok-said.ensures.took d p k x at to message carries.flight here role takes fed in
     let last = c.received-last.result in
     let seen = c.index_mut-in-Taken.result.now in
     let shown = fact_at d old t seen stands below (receives_apart (beside_of d t) (d.world.nodes t) before here opens.1) (get_at old.facts.items t seen c.requires.site c.index_mut-in-Taken.ensures.value) in
@@ -103,7 +105,7 @@ returns-in-Taken-clause-leads g c = λ d p k x stands carries good at to below m
       exact = λ tells.
           let world = world_good d (good (told tells)) in
           subst (λ r. DeliveredTo (delivered d.world c.args.number (packet_at d.world.packets c.args.number)) (beside_of d t) t after feeder a flight r) c.in-Taken.is
-          (c.in_ok-said.ensures.delivered d p k x at to message (are_one d.world world) carries.flight here role fed
+          (c.in_ok-said.ensures.delivered d p k x at to message (are_one d.world world) carries.flight here role takes fed
           (carries.assemblies (told tells) t was (get_at old.assemblies.items t was c.requires.place c.index_mut-3.ensures.value))
           (subst (λ (i : ℕ). p.line ≡ (d.world.nodes i).line → WriteFits (d.world.nodes i) x) to (update_fits d.world c.args.number p k x world at message up)));
       receives = opens.1;
@@ -121,7 +123,7 @@ returns-in_default g c = record {
     disk_sets = refl;
     did = waits_alone Ignored c.index_mut.result.now c.deliver_update.new.disks (λ why is. let said : Ignored ≡ Refused why = is in cc) c.deliver_update.ensures.still;
   };
-  leads = λ d p k x stands carries good at to below message.
+  leads = λ d p k x stands off carries good at to below message.
       let old = c.args.yard.now in
       let t = c.args.target in
       let before = c.index_mut.result.now in
@@ -134,11 +136,12 @@ returns-in_default g c = record {
       let same_before = some_same (sym (get_at old.disk_sets.items t c.index.result.now c.requires.disk_set c.index.ensures) ∙ there) in
       let here = stands.disk_sets.sites t before below there in
       let role = stands.roles.each t before below there in
+      let takes = takes_raw before (raw_there d old t before stands below there off) in
       let opens = room_receives (beside_of d t) (d.world.nodes t) c.index.result.now c.receives.result c.receives.ensures c.if-not-receives.false (subst (λ e. SiteStands (beside_of d t) (d.world.nodes t) e) (sym same_before) here) in
       let fed = carries.feeders t c.index_mut-2.result.now (get_at old.feeders.items t c.index_mut-2.result.now c.requires.feeder c.index_mut-2.ensures.value) opens.0 opens.1 in
       let told = told_before old.disk_sets.items t before after there c.deliver_update.ensures.later in
       let up = subst (λ (i : ℕ). (d.world.nodes i).state ≡ Up) (sym to) opens.0 in
-      let took = c.in_ok-said.ensures.took d p k x at to message carries.flight here role fed in
+      let took = c.in_ok-said.ensures.took d p k x at to message carries.flight here role takes fed in
       let ignored = took_ignored d.world c.args.number p k (beside_of d t) after feeder was a old.flight flight c.in_ok-said.said took c.in_default.not-Taken in
       behind_ignored d c.args.number p k x old _ before after feeder was a stands at message c.deliver_update.ensures.still t to
       (record {
@@ -150,7 +153,7 @@ returns-in_default g c = record {
         exact = λ tells.
             let world = world_good d (good (told tells)) in
             subst (λ r. DeliveredTo (delivered d.world c.args.number (packet_at d.world.packets c.args.number)) (beside_of d t) t after feeder a flight r) ignored
-            (c.in_ok-said.ensures.delivered d p k x at to message (are_one d.world world) carries.flight here role fed
+            (c.in_ok-said.ensures.delivered d p k x at to message (are_one d.world world) carries.flight here role takes fed
             (carries.assemblies (told tells) t was (get_at old.assemblies.items t was c.requires.place c.index_mut-3.ensures.value))
             (subst (λ (i : ℕ). p.line ≡ (d.world.nodes i).line → WriteFits (d.world.nodes i) x) to (update_fits d.world c.args.number p k x world at message up)));
         receives = opens.1;

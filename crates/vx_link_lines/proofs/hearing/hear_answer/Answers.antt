@@ -24,12 +24,14 @@ use Rattle.vx_linked.specs.Hearings.{Hears}
 use Rattle.vx_world.proofs.Doubting.{world_good}
 use Rattle.vx_yard.specs.Loads.{LetGoBy}
 use Rattle.vx_yard.proofs.ApplySite.{calls_keep}
+use Rattle.vx_yard.proofs.OverGroup.{none_noted}
 use Rattle.vx_link_lines.proofs.Behind.{behind_short}
 use Rattle.vx_yard.proofs.ChangeSite.{told_before}
 use Rattle.vx_link_lines.proofs.HeardLine.{deaf_to, heard_by, refused_by, stays_same, stop_is, stop_none, unheard_stays}
 use Rattle.vx_link_lines.proofs.DeliverCalls.{deaf_calls, deaf_head, heard_head, never_short, never_stopped, refused_head}
 use Rattle.vx_link_lines.proofs.HeardWorld.{answer_says, hears_as, listening, shown_by}
 use Rattle.vx_link_lines.proofs.OverGroups.{over_unlinked}
+use Rattle.vx_link_lines.proofs.RawParts.{raw_there}
 use Rattle.vx_yard.proofs.LinkLines.{listed}
 use Rattle.vx_yard.proofs.Lists.{get_at, set_same}
 use Rattle.vx_yard.specs.OfSites.{heard_calls}
@@ -38,7 +40,7 @@ use Rattle.vx_yard.proofs.OneSite.{role_kept}
 use Rattle.vx_link_lines.proofs.hearing.hear_answer.Goals as goal
 
 pub returns-in_default-clause-leads : goal.returns-in_default-clause-leads
-returns-in_default-clause-leads g c = λ d p stands carries good at to from below answers.
+returns-in_default-clause-leads g c = λ d p stands off carries good at to from below answers.
     let y = c.args.yard.now in
     let t = c.args.target in
     let e = get_there y.disk_sets.items t c.requires.disk_set in
@@ -52,22 +54,22 @@ pub returns-in_default-clause-told : goal.returns-in_default-clause-told
 returns-in_default-clause-told g c = λ told. told
 
 pub returns-in_default-clause-asked : goal.returns-in_default-clause-asked
-returns-in_default-clause-asked g c = λ d stands below. all_still c.args.yard.now _ refl
+returns-in_default-clause-asked g c = λ d stands off below. all_still c.args.yard.now _ refl
 
 pub returns-in_default-state_here-clause-leads : goal.returns-in_default-state_here-clause-leads
-returns-in_default-state_here-clause-leads g c = λ d p stands carries good at to from below answers. stays_same d c.args.yard.now stands
+returns-in_default-state_here-clause-leads g c = λ d p stands off carries good at to from below answers. stays_same d c.args.yard.now stands
 
 pub returns-in_default-state_here-clause-asked : goal.returns-in_default-state_here-clause-asked
-returns-in_default-state_here-clause-asked g c = λ d stands below. all_still c.args.yard.now _ refl
+returns-in_default-state_here-clause-asked g c = λ d stands off below. all_still c.args.yard.now _ refl
 
 pub returns-in_default-state_here-clause-told : goal.returns-in_default-state_here-clause-told
 returns-in_default-state_here-clause-told g c = λ told. told
 
 pub returns-in_default-heard_needs-clause-leads : goal.returns-in_default-heard_needs-clause-leads
-returns-in_default-heard_needs-clause-leads g c = λ d p stands carries good at to from below answers. stays_same d c.args.yard.now stands
+returns-in_default-heard_needs-clause-leads g c = λ d p stands off carries good at to from below answers. stays_same d c.args.yard.now stands
 
 pub returns-in_default-heard_needs-clause-asked : goal.returns-in_default-heard_needs-clause-asked
-returns-in_default-heard_needs-clause-asked g c = λ d stands below. all_still c.args.yard.now _ refl
+returns-in_default-heard_needs-clause-asked g c = λ d stands off below. all_still c.args.yard.now _ refl
 
 pub returns-in_default-heard_needs-clause-told : goal.returns-in_default-heard_needs-clause-told
 returns-in_default-heard_needs-clause-told g c = λ told. told
@@ -88,7 +90,7 @@ returns-in-None-clause-told g c =
     told_before es c.args.target c.index_mut.result.now c.hear-said.new.disks (get_at es c.args.target c.index_mut.result.now c.requires.disk_set c.index_mut.ensures.value) c.hear-said.ensures.later
 
 pub returns-in-Ok-clause-asked : goal.returns-in-Ok-clause-asked
-returns-in-Ok-clause-asked g c = λ d stands below.
+returns-in-Ok-clause-asked g c = λ d stands off below.
     let old = c.args.yard.now in
     let t = c.args.target in
     let before = c.index_mut.result.now in
@@ -99,11 +101,11 @@ returns-in-Ok-clause-asked g c = λ d stands below.
       after = after;
       there = there;
       disk_sets = refl;
-      did = calls_keep NoMore Done before after (c.in-Ok.ensures.called (beside_of d t) (d.world.nodes t) (stands.disk_sets.sites t before below there));
+      did = calls_keep NoMore Done before after (c.in-Ok.ensures.called (beside_of d t) (d.world.nodes t) (stands.disk_sets.sites t before below there) (raw_there d old t before stands below there off));
     })
 
 pub returns-in-Some-refusal-clause-asked : goal.returns-in-Some-refusal-clause-asked
-returns-in-Some-refusal-clause-asked g c = λ d stands below.
+returns-in-Some-refusal-clause-asked g c = λ d stands off below.
     let old = c.args.yard.now in
     let t = c.args.target in
     let before = c.index_mut.result.now in
@@ -114,11 +116,11 @@ returns-in-Some-refusal-clause-asked g c = λ d stands below.
       after = after;
       there = there;
       disk_sets = refl;
-      did = calls_keep NoMore _ before after (c.in-Err.ensures.called (beside_of d t) (d.world.nodes t) (stands.disk_sets.sites t before below there));
+      did = calls_keep NoMore _ before after (c.in-Err.ensures.called (beside_of d t) (d.world.nodes t) (stands.disk_sets.sites t before below there) (raw_there d old t before stands below there off));
     })
 
 pub returns-in-None-clause-asked : goal.returns-in-None-clause-asked
-returns-in-None-clause-asked g c = λ d stands below.
+returns-in-None-clause-asked g c = λ d stands off below.
     let old = c.args.yard.now in
     let t = c.args.target in
     let before = c.index_mut.result.now in
@@ -129,11 +131,11 @@ returns-in-None-clause-asked g c = λ d stands below.
       after = after;
       there = there;
       disk_sets = refl;
-      did = calls_keep NoMore _ before after (c.in-Err.ensures.called (beside_of d t) (d.world.nodes t) (stands.disk_sets.sites t before below there));
+      did = calls_keep NoMore _ before after (c.in-Err.ensures.called (beside_of d t) (d.world.nodes t) (stands.disk_sets.sites t before below there) (raw_there d old t before stands below there off));
     })
 
 pub returns-in-None-clause-leads : goal.returns-in-None-clause-leads
-returns-in-None-clause-leads g c = λ d p stands carries good at to from below answers.
+returns-in-None-clause-leads g c = λ d p stands off carries good at to from below answers.
     let old = c.args.yard.now in
     let t = c.args.target in
     let before = c.index_mut.result.now in
@@ -152,7 +154,7 @@ returns-in-None-clause-leads g c = λ d p stands carries good at to from below a
     }) (told_before old.disk_sets.items t before after there c.hear-said.ensures.later)
 
 pub returns-in-Some-refusal-clause-leads : goal.returns-in-Some-refusal-clause-leads
-returns-in-Some-refusal-clause-leads g c = λ d p stands carries good at to from below answers.
+returns-in-Some-refusal-clause-leads g c = λ d p stands off carries good at to from below answers.
     let old = c.args.yard.now in
     let t = c.args.target in
     let q = p.source in
@@ -161,6 +163,7 @@ returns-in-Some-refusal-clause-leads g c = λ d p stands carries good at to from
     let no = c.in-Some-refusal.no in
     let there = get_at old.disk_sets.items t before c.requires.disk_set c.index_mut.ensures.value in
     let here = stands.disk_sets.sites t before below there in
+    let raw = raw_there d old t before stands below there off in
     let was = get_at old.assemblies.items t c.index_mut-2.result.now c.requires.place c.index_mut-2.ensures.value in
     let hears : Hears d.world t q c.in-Some.l = subst (λ (i : ℕ). Hears d.world t i c.in-Some.l) (sym from) (c.in-Some.ensures.hears d.world c.in-Some.l (c.deref.ensures.value ∙ stands.facts) refl) in
     let listens = listening d t q c.in-Some.l stands.links hears in
@@ -175,10 +178,10 @@ returns-in-Some-refusal-clause-leads g c = λ d p stands carries good at to from
       changed = record { there = there; later = c.hear-said.ensures.later; disk_sets = refl; racks = refl };
       keeps = c.hear-said.ensures.role;
       opens = (listens.up, listens.running);
-      alone = listens.apart;
+      none = none_noted (d.world.nodes t) listens.apart off;
       rises = c.in-Err.ensures.rises d p t no at to answers carries.flight listens link here state as_stop;
       stops = subst (λ (x : Stop). PartHeardAt d t q c.args.number before after c.hear-said.new.link old.flight (Err x)) stop (c.in-Err.ensures.part d p t at to answers carries.flight listens link here state);
-      calls = subst (λ (x : Stop). LeavesFuse NoMore (reply_by (let r : Result EventSaid Stop = Err x in r)) before after) stop (c.in-Err.ensures.called (beside_of d t) (d.world.nodes t) here);
+      calls = subst (λ (x : Stop). LeavesFuse NoMore (reply_by (let r : Result EventSaid Stop = Err x in r)) before after) stop (c.in-Err.ensures.called (beside_of d t) (d.world.nodes t) here raw);
       shown = get_at old.facts.items t seen c.requires.site c.index_mut-in-Some-refusal.ensures.value;
       notes = c.refused.ensures.noted;
       facts = refl;
@@ -191,7 +194,7 @@ returns-in-Some-refusal-clause-leads g c = λ d p stands carries good at to from
     })
 
 pub returns-in-Ok-clause-leads : goal.returns-in-Ok-clause-leads
-returns-in-Ok-clause-leads g c = λ d p stands carries good at to from below answers.
+returns-in-Ok-clause-leads g c = λ d p stands off carries good at to from below answers.
     let old = c.args.yard.now in
     let t = c.args.target in
     let q = p.source in
@@ -203,6 +206,7 @@ returns-in-Ok-clause-leads g c = λ d p stands carries good at to from below ans
     let said = c.in-Ok.said in
     let there = get_at old.disk_sets.items t before c.requires.disk_set c.index_mut.ensures.value in
     let here = stands.disk_sets.sites t before below there in
+    let raw = raw_there d old t before stands below there off in
     let hears : Hears d.world t q c.in-Some.l = subst (λ (i : ℕ). Hears d.world t i c.in-Some.l) (sym from) (c.in-Some.ensures.hears d.world c.in-Some.l (c.deref.ensures.value ∙ stands.facts) refl) in
     let listens = listening d t q c.in-Some.l stands.links hears in
     let link : c.in-Some.l.link ≡ plain_link q (d.world.links t q) = ap (λ (x : LinkFacts). x.link) hears.link.link_is in
@@ -220,9 +224,9 @@ returns-in-Ok-clause-leads g c = λ d p stands carries good at to from below ans
       changed = record { there = there; later = c.hear-said.ensures.later; disk_sets = refl; racks = refl };
       keeps = c.hear-said.ensures.role;
       opens = (listens.up, listens.running);
-      alone = listens.apart;
+      none = none_noted (d.world.nodes t) listens.apart off;
       says = part.0.says;
-      calls = c.in-Ok.ensures.called (beside_of d t) n here;
+      calls = c.in-Ok.ensures.called (beside_of d t) n here raw;
       facts = with_items_is old.facts c.keep_heard.new.sites (c.keep_heard.auto.sites ∙ c.deref_mut.ensures.len)
           ∙ c.keep_heard.ensures.world d.world c.args.number p (event_for p.message) (c.deref_mut.ensures.value ∙ stands.facts) at to from (hears_as d c.args.number p at answers p.message answers) hears.site
           (subst (λ (i : ℕ). (let x : LinkFacts = record { link = c.hear-said.new.link; used = c.in-Some-heard_needs.used } in x) ≡ link_fact n i ((world_behind d.world c.args.number).links t i)) from shown);
@@ -237,7 +241,7 @@ returns-in-Ok-clause-leads g c = λ d p stands carries good at to from below ans
     })
 
 pub returns-in_default-clause-called : goal.returns-in_default-clause-called
-returns-in_default-clause-called g c = λ d p stands carries at to from below answers.
+returns-in_default-clause-called g c = λ d p stands off carries at to from below answers.
     let y = c.args.yard.now in
     let is = deaf_to d c.args.number p at answers stands.links
     (λ small. c.in_default.ensures.deaf d.world p (event_for p.message) (c.deref.ensures.value ∙ stands.facts) refl to from below (subst (λ (i : ℕ). i < d.world.sites) from small)
@@ -246,16 +250,16 @@ returns-in_default-clause-called g c = λ d p stands carries at to from below an
     site_still (HeadUnder (heard_calls d.world c.args.number c.args.target c.args.source) Ignored) c.args.target y _ (λ e. deaf_head (heard_calls d.world c.args.number c.args.target c.args.source) e (deaf_calls d.world c.args.number c.args.target c.args.source is)) c.requires.disk_set refl
 
 pub returns-in_default-state_here-clause-called : goal.returns-in_default-state_here-clause-called
-returns-in_default-state_here-clause-called g c = λ d p stands carries at to from below answers. tt
+returns-in_default-state_here-clause-called g c = λ d p stands off carries at to from below answers. tt
 
 pub returns-in_default-heard_needs-clause-called : goal.returns-in_default-heard_needs-clause-called
-returns-in_default-heard_needs-clause-called g c = λ d p stands carries at to from below answers. tt
+returns-in_default-heard_needs-clause-called g c = λ d p stands off carries at to from below answers. tt
 
 pub returns-in-None-clause-called : goal.returns-in-None-clause-called
-returns-in-None-clause-called g c = λ d p stands carries at to from below answers. tt
+returns-in-None-clause-called g c = λ d p stands off carries at to from below answers. tt
 
 pub returns-in-Ok-clause-called : goal.returns-in-Ok-clause-called
-returns-in-Ok-clause-called g c = λ d p stands carries at to from below answers.
+returns-in-Ok-clause-called g c = λ d p stands off carries at to from below answers.
     let old = c.args.yard.now in
     let t = c.args.target in
     let q = p.source in
@@ -264,13 +268,14 @@ returns-in-Ok-clause-called g c = λ d p stands carries at to from below answers
     let after = c.hear-said.new.disks in
     let there = get_at old.disk_sets.items t before c.requires.disk_set c.index_mut.ensures.value in
     let here = stands.disk_sets.sites t before below there in
+    let raw = raw_there d old t before stands below there off in
     let hears : Hears d.world t q c.in-Some.l = subst (λ (i : ℕ). Hears d.world t i c.in-Some.l) (sym from) (c.in-Some.ensures.hears d.world c.in-Some.l (c.deref.ensures.value ∙ stands.facts) refl) in
     let listens = listening d t q c.in-Some.l stands.links hears in
     let link : c.in-Some.l.link ≡ plain_link q (d.world.links t q) = ap (λ (x : LinkFacts). x.link) hears.link.link_is in
     let state = c.in-Some-state_here.ensures.is (beside_of d t) n d.world
     (stands.disk_sets.sites t c.index.result.now below (get_at old.disk_sets.items t c.index.result.now c.requires.disk_set c.index.ensures)) listens.up listens.apart (c.deref-2.ensures.value ∙ stands.facts) below listens.up listens.apart in
     let part = c.in-Ok.ensures.part d p t at to answers carries.flight listens link here state in
-    let head = c.in-Ok.ensures.headed d p t at to answers carries.flight listens link here state (λ is. never_stopped c.in-Ok.said is) in
+    let head = c.in-Ok.ensures.headed d p t at to answers carries.flight listens link here state raw (λ is. never_stopped c.in-Ok.said is) in
     let said = subst (λ (x : EventSaid). (x ≡ IsTaken) ⊎ (x ≡ IsIgnored)) (sym part.0.says) (answer_says d c.args.number p at answers) in
     record {
       before = before;
@@ -282,7 +287,7 @@ returns-in-Ok-clause-called g c = λ d p stands carries at to from below answers
     }
 
 pub returns-in-Some-refusal-clause-called : goal.returns-in-Some-refusal-clause-called
-returns-in-Some-refusal-clause-called g c = λ d p stands carries at to from below answers.
+returns-in-Some-refusal-clause-called g c = λ d p stands off carries at to from below answers.
     let old = c.args.yard.now in
     let t = c.args.target in
     let q = p.source in
@@ -292,13 +297,14 @@ returns-in-Some-refusal-clause-called g c = λ d p stands carries at to from bel
     let no = c.in-Some-refusal.no in
     let there = get_at old.disk_sets.items t before c.requires.disk_set c.index_mut.ensures.value in
     let here = stands.disk_sets.sites t before below there in
+    let raw = raw_there d old t before stands below there off in
     let hears : Hears d.world t q c.in-Some.l = subst (λ (i : ℕ). Hears d.world t i c.in-Some.l) (sym from) (c.in-Some.ensures.hears d.world c.in-Some.l (c.deref.ensures.value ∙ stands.facts) refl) in
     let listens = listening d t q c.in-Some.l stands.links hears in
     let link : c.in-Some.l.link ≡ plain_link q (d.world.links t q) = ap (λ (x : LinkFacts). x.link) hears.link.link_is in
     let state = c.in-Some-state_here.ensures.is (beside_of d t) n d.world
     (stands.disk_sets.sites t c.index.result.now below (get_at old.disk_sets.items t c.index.result.now c.requires.disk_set c.index.ensures)) listens.up listens.apart (c.deref-2.ensures.value ∙ stands.facts) below listens.up listens.apart in
     let stop = stop_is c.in-Err.stop no (sym c.refusal.ensures ∙ c.in-Some-refusal.is) in
-    let head = c.in-Err.ensures.headed d p t at to answers carries.flight listens link here state (λ is. never_short c.in-Err.stop no stop is) in
+    let head = c.in-Err.ensures.headed d p t at to answers carries.flight listens link here state raw (λ is. never_short c.in-Err.stop no stop is) in
     record {
       before = before;
       after = after;

@@ -13,6 +13,7 @@ use Rattle.vx_yard.proofs.ApplySite.{calls_keep}
 use Rattle.vx_yard.proofs.ChangeSite.{told_before}
 use Rattle.vx_link_lines.proofs.JoinLine.{join_done, join_headed, join_refused}
 use Rattle.vx_yard.proofs.Lists.{get_at, length-set}
+use Rattle.vx_yard.proofs.OverGroup.{none_over}
 use Rattle.vx_link_lines.proofs.joins.join_site.Goals as goal
 
 pub keep_joined-requires : goal.keep_joined-requires
@@ -40,7 +41,7 @@ returns-in-Ok-clause-heads g c = λ d note sync notes stands fit below first alo
     let shown = c.deref_mut.ensures.value ∙ stands.facts ∙ notes.shows d.world in
     join_done note d c.args.here s sync notes fit alone said old _ before c.join.new.disks stands below (record { there = at; later = c.in-Ok.ensures.later; disk_sets = refl; racks = refl }) c.args.state.now is
     (λ beside a q k stood can so. c.in-Ok.ensures.joined beside a q k stood can so) (λ beside k stood. c.in-Ok.ensures.called beside k stood)
-    (with_items_is old.facts c.keep_joined.new.sites (c.keep_joined.auto.sites ∙ c.deref_mut.ensures.len) ∙ c.keep_joined.ensures.world d.world sync shown first alone said)
+    (with_items_is old.facts c.keep_joined.new.sites (c.keep_joined.auto.sites ∙ c.deref_mut.ensures.len) ∙ c.keep_joined.ensures.world d.world sync shown (none_over (d.world.nodes c.args.here) first) (none_over (d.world.nodes s) alone) said)
     refl c.let_go.ensures c.set_feeder.ensures
 
 pub returns-in-Err-clause-heads : goal.returns-in-Err-clause-heads

@@ -28,7 +28,7 @@ link_parts-requires-clause-few g c κs within = λ site is.
     omega (arith, c.in-Some.ensures.few, ap (λ (ls : List LinkFacts). length ls) c.as_slice.ensures, ap (λ (f : SiteFacts). length f.links) (some_same (sym is ∙ fact)))
 
 pub returns-clause-leads : goal.returns-clause-leads
-returns-clause-leads g c = λ d prot stands.
+returns-clause-leads g c = λ d prot stands off.
     let y = c.args.yard.now in
     let p = c.site_of-here.result in
     let s = c.site_of-there.result in
@@ -45,10 +45,10 @@ returns-clause-leads g c = λ d prot stands.
     let two = link_two d y first second c.args.sync free.0 p s stands free.1 seat seat_too in
     let are = c.in-Some.ensures.is d (stands.disk_sets.sites p c.index.result.now here.below one) (stands.disk_sets.sites s c.index-2.result.now there.below other) here.apart there.apart two.up two.running two.up_too
     (c.as_slice.ensures ∙ link_links d y first second c.args.sync free.0 p s stands free.1 seat seat_too c.index-3.result.now (some_same (sym fact ∙ here.fact))) in
-    c.link_parts.ensures.leads d first second prot stands (links_it d y first second c.args.sync free.0 p s stands free.1 seat seat_too c.in-Some.states are)
+    c.link_parts.ensures.leads d first second prot stands (links_it d y first second c.args.sync free.0 p s stands free.1 seat seat_too off c.in-Some.states are)
 
 pub returns-clause-asked : goal.returns-clause-asked
-returns-clause-asked g c = λ d prot stands.
+returns-clause-asked g c = λ d prot stands off.
     let y = c.args.yard.now in
     let p = c.site_of-here.result in
     let s = c.site_of-there.result in
@@ -65,10 +65,10 @@ returns-clause-asked g c = λ d prot stands.
     let two = link_two d y first second c.args.sync free.0 p s stands free.1 seat seat_too in
     let are = c.in-Some.ensures.is d (stands.disk_sets.sites p c.index.result.now here.below one) (stands.disk_sets.sites s c.index-2.result.now there.below other) here.apart there.apart two.up two.running two.up_too
     (c.as_slice.ensures ∙ link_links d y first second c.args.sync free.0 p s stands free.1 seat seat_too c.index-3.result.now (some_same (sym fact ∙ here.fact))) in
-    c.link_parts.ensures.asked d first second prot stands (links_it d y first second c.args.sync free.0 p s stands free.1 seat seat_too c.in-Some.states are)
+    c.link_parts.ensures.asked d first second prot stands (links_it d y first second c.args.sync free.0 p s stands free.1 seat seat_too off c.in-Some.states are)
 
 pub returns-clause-called : goal.returns-clause-called
-returns-clause-called g c = λ d prot stands.
+returns-clause-called g c = λ d prot stands off.
     let y = c.args.yard.now in
     let p = c.site_of-here.result in
     let s = c.site_of-there.result in
@@ -85,23 +85,23 @@ returns-clause-called g c = λ d prot stands.
     let two = link_two d y first second c.args.sync free.0 p s stands free.1 seat seat_too in
     let are = c.in-Some.ensures.is d (stands.disk_sets.sites p c.index.result.now here.below one) (stands.disk_sets.sites s c.index-2.result.now there.below other) here.apart there.apart two.up two.running two.up_too
     (c.as_slice.ensures ∙ link_links d y first second c.args.sync free.0 p s stands free.1 seat seat_too c.index-3.result.now (some_same (sym fact ∙ here.fact))) in
-    let it = links_it d y first second c.args.sync free.0 p s stands free.1 seat seat_too c.in-Some.states are in
+    let it = links_it d y first second c.args.sync free.0 p s stands free.1 seat seat_too off c.in-Some.states are in
     called_named d first second prot p s c.args.sync c.in-Some.states it y stands c.link_parts.result c.link_parts.new.yard (c.link_parts.ensures.called d first second prot stands it)
 
 pub returns-in_default-clause-leads : goal.returns-in_default-clause-leads
-returns-in_default-clause-leads g c = λ d prot stands. unbegun_for d c.args.yard.now stands
+returns-in_default-clause-leads g c = λ d prot stands off. unbegun_for d c.args.yard.now stands
 
 pub returns-in_default-clause-asked : goal.returns-in_default-clause-asked
-returns-in_default-clause-asked g c = λ d prot stands. all_still c.args.yard.now c.args.yard.now refl
+returns-in_default-clause-asked g c = λ d prot stands off. all_still c.args.yard.now c.args.yard.now refl
 
 pub returns-in_default-new-clause-leads : goal.returns-in_default-new-clause-leads
-returns-in_default-new-clause-leads g c = λ d prot stands. unbegun_for d c.args.yard.now stands
+returns-in_default-new-clause-leads g c = λ d prot stands off. unbegun_for d c.args.yard.now stands
 
 pub returns-in_default-new-clause-asked : goal.returns-in_default-new-clause-asked
-returns-in_default-new-clause-asked g c = λ d prot stands. all_still c.args.yard.now c.args.yard.now refl
+returns-in_default-new-clause-asked g c = λ d prot stands off. all_still c.args.yard.now c.args.yard.now refl
 
 pub returns-in_default-new-2-clause-leads : goal.returns-in_default-new-2-clause-leads
-returns-in_default-new-2-clause-leads g c = λ d prot stands. unbegun_for d c.args.yard.now stands
+returns-in_default-new-2-clause-leads g c = λ d prot stands off. unbegun_for d c.args.yard.now stands
 
 pub returns-in_default-new-2-clause-asked : goal.returns-in_default-new-2-clause-asked
-returns-in_default-new-2-clause-asked g c = λ d prot stands. all_still c.args.yard.now c.args.yard.now refl
+returns-in_default-new-2-clause-asked g c = λ d prot stands off. all_still c.args.yard.now c.args.yard.now refl

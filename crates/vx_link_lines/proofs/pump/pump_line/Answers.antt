@@ -23,6 +23,7 @@ use Rattle.vx_link_lines.proofs.Deaf.{all_told}
 use Rattle.vx_yard.proofs.Lists.{get_at}
 use Rattle.vx_yard.proofs.NamedSite.{asks_at}
 use Rattle.vx_link_lines.proofs.PumpLine.{asked_named, moved_named, pump_brings, pump_finds, pump_stops, pump_told, pumped_named, pumping, sent_named}
+use Rattle.vx_link_lines.proofs.RawParts.{none_seat}
 use Rattle.vx_link_lines.proofs.pump.pump_line.Goals as goal
 
 pub site_of-here-requires-clause-named : goal.site_of-here-requires-clause-named
@@ -53,7 +54,7 @@ returns-in-Err-clause-told g c =
     told_before es s c.index_mut.result.now c.pump.new.self (get_at es s c.index_mut.result.now c.site_of-here.ensures.disk_set c.index_mut.ensures.value) c.in-Err.ensures.later
 
 pub returns-in-Ok-clause-leads : goal.returns-in-Ok-clause-leads
-returns-in-Ok-clause-leads g c = λ d stands carries.
+returns-in-Ok-clause-leads g c = λ d stands off carries.
     let old = c.args.yard.now in
     let es = old.disk_sets.items in
     let s = c.site_of-here.result in
@@ -66,12 +67,13 @@ returns-in-Ok-clause-leads g c = λ d stands carries.
     let asks = pumping d old p q s c.deref.result.now c.link_named.result stands c.requires.free c.site_of-here.ensures.seat c.deref.ensures.value c.link_named.ensures.link
     (subst (λ fs. FoundLink fs p q) (sym c.deref.ensures.value) there) in
     let stood = stands.disk_sets.sites s before asks.seat.below at in
+    let none = none_seat d old p s stands c.site_of-here.ensures.seat asks.seat.apart off in
     let was = told_before es s before after at c.in-Ok.ensures.later in
     let items = with_items_is old.facts c.keep_pumped.new.sites (c.keep_pumped.auto.sites ∙ c.deref_mut.ensures.len) in
     ⊎_elim
     (λ tells.
     let moved = moved_named d old p q s c.link_named.result.link c.pump.new.link c.pump.new.flight asks
-    (c.in-Ok.ensures.pumped d asks.place stood asks.origin asks.up asks.seat.apart asks.running ((was tells).each s before at) asks.kept asks.link_is carries.flight) in
+    (c.in-Ok.ensures.pumped d asks.place stood asks.origin asks.up none asks.running ((was tells).each s before at) asks.kept asks.link_is carries.flight) in
     pump_brings d old _ s before after stands carries asks.seat.below (record { there = at; later = c.in-Ok.ensures.later; disk_sets = refl; racks = refl }) c.in-Ok.ensures.still c.in-Ok.ensures.stands c.in-Ok.ensures.role
     (record { assemblies = refl; feeders = refl }) was p q c.keep_pumped.new.sites (c.keep_pumped.ensures.world d.world c.pump.new.flight (c.deref_mut.ensures.value ∙ stands.facts) moved.link moved.flight) items)
     (λ untold.
@@ -82,7 +84,7 @@ returns-in-Ok-clause-leads g c = λ d stands carries.
     (all_told (slice_set es s after))
 
 pub returns-in-Err-clause-leads : goal.returns-in-Err-clause-leads
-returns-in-Err-clause-leads g c = λ d stands carries.
+returns-in-Err-clause-leads g c = λ d stands off carries.
     let old = c.args.yard.now in
     let es = old.disk_sets.items in
     let s = c.site_of-here.result in
@@ -95,12 +97,13 @@ returns-in-Err-clause-leads g c = λ d stands carries.
     let asks = pumping d old p q s c.deref.result.now c.link_named.result stands c.requires.free c.site_of-here.ensures.seat c.deref.ensures.value c.link_named.ensures.link
     (subst (λ fs. FoundLink fs p q) (sym c.deref.ensures.value) there) in
     let stood = stands.disk_sets.sites s before asks.seat.below at in
+    let none = none_seat d old p s stands c.site_of-here.ensures.seat asks.seat.apart off in
     let was = told_before es s before after at c.in-Err.ensures.later in
     pump_stops d old _ s before after stands carries asks.seat.below (record { there = at; later = c.in-Err.ensures.later; disk_sets = refl; racks = refl }) c.in-Err.ensures.still c.in-Err.ensures.stands c.in-Err.ensures.role
-    (record { assemblies = refl; feeders = refl }) was p q c.pump.new.flight c.in-Err.stop c.stopped.result (subst (λ (a : Action). PumpStop (d.world.nodes s) a (faults_at before) (faults_at after) c.in-Err.stop) (asked_named d old p q s c.link_named.result.link asks) (c.in-Err.ensures.stops (beside_of d s) (d.world.nodes s) stood asks.origin asks.up asks.seat.apart asks.running))
+    (record { assemblies = refl; feeders = refl }) was p q c.pump.new.flight c.in-Err.stop c.stopped.result (subst (λ (a : Action). PumpStop (d.world.nodes s) a (faults_at before) (faults_at after) c.in-Err.stop) (asked_named d old p q s c.link_named.result.link asks) (c.in-Err.ensures.stops (beside_of d s) (d.world.nodes s) stood asks.origin asks.up none asks.running))
     (λ why same other tells.
     pump_told d.world s c.link_named.result.link.site c.pump.new.link c.pump.new.flight (faults_at before) (faults_at after) c.in-Err.stop
-    (c.in-Err.ensures.pumped d asks.place stood asks.origin asks.up asks.seat.apart asks.running ((was tells).each s before at) asks.kept asks.link_is carries.flight) why same other)
+    (c.in-Err.ensures.pumped d asks.place stood asks.origin asks.up none asks.running ((was tells).each s before at) asks.kept asks.link_is carries.flight) why same other)
     c.stopped.ensures asks.seat.number refl refl c.in-Err.ensures.unsent
 
 pub returns-in-Ok-clause-asked : goal.returns-in-Ok-clause-asked
@@ -118,7 +121,7 @@ returns-in-Err-clause-asked g c = λ d stands.
     (get_at old.disk_sets.items s c.index_mut.result.now c.site_of-here.ensures.disk_set c.index_mut.ensures.value) refl c.in-Err.ensures.still
 
 pub returns-in-Ok-clause-called : goal.returns-in-Ok-clause-called
-returns-in-Ok-clause-called g c = λ d stands.
+returns-in-Ok-clause-called g c = λ d stands off.
     let old = c.args.yard.now in
     let s = c.site_of-here.result in
     let before = c.index_mut.result.now in
@@ -128,7 +131,7 @@ returns-in-Ok-clause-called g c = λ d stands.
     (alone_leaves Done before after (λ why is. let said : Done ≡ Refused why = is in cc) c.in-Ok.ensures.still)
 
 pub returns-in-Err-clause-called : goal.returns-in-Err-clause-called
-returns-in-Err-clause-called g c = λ d stands.
+returns-in-Err-clause-called g c = λ d stands off.
     let old = c.args.yard.now in
     let s = c.site_of-here.result in
     let p = c.args.first.now in
@@ -140,5 +143,6 @@ returns-in-Err-clause-called g c = λ d stands.
     let asks = pumping d old p q s c.deref.result.now c.link_named.result stands c.requires.free c.site_of-here.ensures.seat c.deref.ensures.value c.link_named.ensures.link
     (subst (λ fs. FoundLink fs p q) (sym c.deref.ensures.value) there) in
     let stood = stands.disk_sets.sites s before asks.seat.below at in
+    let none = none_seat d old p s stands c.site_of-here.ensures.seat asks.seat.apart off in
     pump_stopped s old _ before after at refl c.in-Err.ensures.still (d.world.nodes s) (pump_asks c.link_named.result.link (d.world.nodes s).safe) (faults_at before) (faults_at after) (site_number d.world p) c.in-Err.stop c.stopped.result asks.seat.number
-    (c.in-Err.ensures.stops (beside_of d s) (d.world.nodes s) stood asks.origin asks.up asks.seat.apart asks.running) c.stopped.ensures
+    (c.in-Err.ensures.stops (beside_of d s) (d.world.nodes s) stood asks.origin asks.up none asks.running) c.stopped.ensures

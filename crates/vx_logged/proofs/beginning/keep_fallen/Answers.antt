@@ -7,7 +7,7 @@ use Rattle.vx_disk.specs.Shelf.{Nothing}
 use Rattle.vx_disk.proofs.Runs.{then_nothing}
 use Rattle.vx_group.specs.Holding.{wide}
 use Rattle.vx_group.specs.Stands.{inner_meaning}
-use Rattle.vx_group.proofs.FindingLemmas.{idle_group, then_group}
+use Rattle.vx_group.proofs.FindingLemmas.{then_group}
 use Rattle.vx_group.proofs.LoseLemmas.{along_same, then_along}
 use Rattle.vx_group.proofs.TrustLemmas.{err_from, ok_from}
 use Rattle.vx_grouplogs.proofs.GoneLemmas.{drop_before, drop_behind, drop_same}
@@ -19,7 +19,7 @@ use Rattle.vx_logged.specs.Behind.{none_missing}
 use Rattle.vx_logged.proofs.BeginLemmas.{but_more, but_note, first_flag, plexes_each}
 use Rattle.vx_logged.proofs.FallenLemmas.{cause_from, fell_same, no_blocks, off_less, there_still}
 use Rattle.vx_logged.proofs.GoneLogs.{trusts_in, trusts_then}
-use Rattle.vx_logged.proofs.StandLemmas.{config_is, if_err_any, if_ok_any, narrowed_then, others_each, others_then}
+use Rattle.vx_logged.proofs.StandLemmas.{config_is, if_err_any, if_ok_any, narrowed_then, others_each, others_then, maps_idle}
 use Rattle.vx_logged.proofs.KeptLemmas.{map_later, some_blocks}
 use Rattle.vx_group.proofs.UnsureLemmas.{marks_then}
 use Rattle.vx_logged.proofs.beginning.keep_fallen.Goals as goal
@@ -152,7 +152,7 @@ pub returns-clause-agreed : goal.returns-clause-agreed
 returns-clause-agreed g c = err_from c.keep_map.result (λ keeps is. keeps (c.in-Ok.ensures.trust is)) c.keep_map.ensures.agreed
 
 pub returns-clause-finds : goal.returns-clause-finds
-returns-clause-finds g c = then_group c.args.core.now c.ready_group.new.core c.keep_map.new.core (g.S.Shelf.meaning c.args.shelf.now) (g.S.Shelf.meaning c.begin_fallen.new.shelf) (g.S.Shelf.meaning c.keep_map.new.shelf) (then_group c.args.core.now c.ready_group.new.core c.ready_group.new.core (g.S.Shelf.meaning c.args.shelf.now) (g.S.Shelf.meaning c.ready_group.new.shelf) (g.S.Shelf.meaning c.begin_fallen.new.shelf) c.ready_group.ensures.finds (idle_group c.ready_group.new.core (g.S.Shelf.meaning c.ready_group.new.shelf) (g.S.Shelf.meaning c.begin_fallen.new.shelf) c.begin_fallen.ensures.less)) c.keep_map.ensures.finds
+returns-clause-finds g c = then_group c.args.core.now c.ready_group.new.core c.keep_map.new.core (g.S.Shelf.meaning c.args.shelf.now) (g.S.Shelf.meaning c.begin_fallen.new.shelf) (g.S.Shelf.meaning c.keep_map.new.shelf) (then_group c.args.core.now c.ready_group.new.core c.ready_group.new.core (g.S.Shelf.meaning c.args.shelf.now) (g.S.Shelf.meaning c.ready_group.new.shelf) (g.S.Shelf.meaning c.begin_fallen.new.shelf) c.ready_group.ensures.finds (maps_idle c.ready_group.new.core c.args.vol (g.S.Shelf.meaning c.ready_group.new.shelf) (g.S.Shelf.meaning c.begin_fallen.new.shelf) (c.in-Ok.ensures.none c.if-not-ready.false) c.ready_group.ensures.stands c.begin_fallen.ensures.below c.begin_fallen.ensures.less)) c.keep_map.ensures.finds
 
 pub returns-clause-cause : goal.returns-clause-cause
 returns-clause-cause g c = cause_from (inner_meaning (wide c.args.core.now) (g.S.Shelf.meaning c.args.shelf.now)) (inner_meaning (wide c.ready_group.new.core) (g.S.Shelf.meaning c.begin_fallen.new.shelf)) (inner_meaning (wide c.keep_map.new.core) (g.S.Shelf.meaning c.keep_map.new.shelf)) c.args.vol c.keep_map.result (then_nothing Nothing (inner_meaning (wide c.args.core.now) (g.S.Shelf.meaning c.args.shelf.now)) (inner_meaning (wide c.ready_group.new.core) (g.S.Shelf.meaning c.ready_group.new.shelf)) (inner_meaning (wide c.ready_group.new.core) (g.S.Shelf.meaning c.begin_fallen.new.shelf)) c.ready_group.ensures.goes c.begin_fallen.ensures.goes).falls (then_nothing Nothing (inner_meaning (wide c.args.core.now) (g.S.Shelf.meaning c.args.shelf.now)) (inner_meaning (wide c.ready_group.new.core) (g.S.Shelf.meaning c.ready_group.new.shelf)) (inner_meaning (wide c.ready_group.new.core) (g.S.Shelf.meaning c.begin_fallen.new.shelf)) c.ready_group.ensures.goes c.begin_fallen.ensures.goes).faults (then_nothing Nothing (inner_meaning (wide c.args.core.now) (g.S.Shelf.meaning c.args.shelf.now)) (inner_meaning (wide c.ready_group.new.core) (g.S.Shelf.meaning c.ready_group.new.shelf)) (inner_meaning (wide c.ready_group.new.core) (g.S.Shelf.meaning c.begin_fallen.new.shelf)) c.ready_group.ensures.goes c.begin_fallen.ensures.goes).disk_faults c.keep_map.ensures.cause

@@ -6,7 +6,7 @@ use Rattle.vx_disk.specs.Shelf.{Nothing}
 use Rattle.vx_disk.proofs.Runs.{then_nothing}
 use Rattle.vx_group.specs.Holding.{wide}
 use Rattle.vx_group.specs.Stands.{inner_meaning}
-use Rattle.vx_group.proofs.FindingLemmas.{idle_group, then_group}
+use Rattle.vx_group.proofs.FindingLemmas.{then_group}
 use Rattle.vx_group.proofs.LoseLemmas.{along_same, then_along}
 use Rattle.vx_group.proofs.TrustLemmas.{err_from, ok_from}
 use Rattle.vx_grouplogs.proofs.GoneLemmas.{drop_behind, drop_same, drop_then}
@@ -21,7 +21,7 @@ use Rattle.vx_logged.proofs.BeginLemmas.{but_any, but_more, but_note, but_then, 
 use Rattle.vx_logged.proofs.EmptyLemmas.{plexes_maps}
 use Rattle.vx_logged.proofs.FallenLemmas.{adds_before, cause_from, clear_off, clear_run, fell_same, off_more, off_run, there_still}
 use Rattle.vx_logged.proofs.GoneLogs.{trusts_in, trusts_then}
-use Rattle.vx_logged.proofs.StandLemmas.{config_is, if_ok_any, narrowed_then, others_each, others_then, same_only}
+use Rattle.vx_logged.proofs.StandLemmas.{config_is, if_ok_any, maps_idle, narrowed_then, others_each, others_then, same_only}
 use Rattle.vx_group.proofs.UnsureLemmas.{marks_then}
 use Rattle.vx_logged.proofs.beginning.mark_fallen.Goals as goal
 
@@ -165,7 +165,7 @@ pub returns-clause-agreed : goal.returns-clause-agreed
 returns-clause-agreed g c = err_from c.mark_group.result (λ keeps is. keeps (c.in-Ok.ensures.trust is)) c.mark_group.ensures.agreed
 
 pub returns-clause-finds : goal.returns-clause-finds
-returns-clause-finds g c = then_group c.args.core.now c.ready_group.new.core c.mark_group.new.core (g.S.Shelf.meaning c.args.shelf.now) (g.S.Shelf.meaning c.begin_fallen.new.shelf) (g.S.Shelf.meaning c.mark_group.new.shelf) (then_group c.args.core.now c.ready_group.new.core c.ready_group.new.core (g.S.Shelf.meaning c.args.shelf.now) (g.S.Shelf.meaning c.ready_group.new.shelf) (g.S.Shelf.meaning c.begin_fallen.new.shelf) c.ready_group.ensures.finds (idle_group c.ready_group.new.core (g.S.Shelf.meaning c.ready_group.new.shelf) (g.S.Shelf.meaning c.begin_fallen.new.shelf) c.begin_fallen.ensures.less)) c.mark_group.ensures.finds
+returns-clause-finds g c = then_group c.args.core.now c.ready_group.new.core c.mark_group.new.core (g.S.Shelf.meaning c.args.shelf.now) (g.S.Shelf.meaning c.begin_fallen.new.shelf) (g.S.Shelf.meaning c.mark_group.new.shelf) (then_group c.args.core.now c.ready_group.new.core c.ready_group.new.core (g.S.Shelf.meaning c.args.shelf.now) (g.S.Shelf.meaning c.ready_group.new.shelf) (g.S.Shelf.meaning c.begin_fallen.new.shelf) c.ready_group.ensures.finds (maps_idle c.ready_group.new.core c.args.vol (g.S.Shelf.meaning c.ready_group.new.shelf) (g.S.Shelf.meaning c.begin_fallen.new.shelf) (c.in-Ok.ensures.none c.if-not-ready.false) c.ready_group.ensures.stands c.begin_fallen.ensures.below c.begin_fallen.ensures.less)) c.mark_group.ensures.finds
 
 pub returns-clause-cause : goal.returns-clause-cause
 returns-clause-cause g c = cause_from (inner_meaning (wide c.args.core.now) (g.S.Shelf.meaning c.args.shelf.now)) (inner_meaning (wide c.ready_group.new.core) (g.S.Shelf.meaning c.begin_fallen.new.shelf)) (inner_meaning (wide c.mark_group.new.core) (g.S.Shelf.meaning c.mark_group.new.shelf)) c.args.vol c.mark_group.result (then_nothing Nothing (inner_meaning (wide c.args.core.now) (g.S.Shelf.meaning c.args.shelf.now)) (inner_meaning (wide c.ready_group.new.core) (g.S.Shelf.meaning c.ready_group.new.shelf)) (inner_meaning (wide c.ready_group.new.core) (g.S.Shelf.meaning c.begin_fallen.new.shelf)) c.ready_group.ensures.goes c.begin_fallen.ensures.goes).falls (then_nothing Nothing (inner_meaning (wide c.args.core.now) (g.S.Shelf.meaning c.args.shelf.now)) (inner_meaning (wide c.ready_group.new.core) (g.S.Shelf.meaning c.ready_group.new.shelf)) (inner_meaning (wide c.ready_group.new.core) (g.S.Shelf.meaning c.begin_fallen.new.shelf)) c.ready_group.ensures.goes c.begin_fallen.ensures.goes).faults (then_nothing Nothing (inner_meaning (wide c.args.core.now) (g.S.Shelf.meaning c.args.shelf.now)) (inner_meaning (wide c.ready_group.new.core) (g.S.Shelf.meaning c.ready_group.new.shelf)) (inner_meaning (wide c.ready_group.new.core) (g.S.Shelf.meaning c.begin_fallen.new.shelf)) c.ready_group.ensures.goes c.begin_fallen.ensures.goes).disk_faults c.mark_group.ensures.cause

@@ -12,10 +12,10 @@ use Rattle.vx_grouplogs.specs.Covering.{AllAlike}
 use Rattle.vx_grouplogs.specs.Marking.{MarksFewer, NoMarks}
 use Rattle.vx_groupmaps.specs.Missing.{none_spared}
 use Rattle.vx_groupmaps.proofs.KnowLemmas.{note_none, note_same}
-use Rattle.vx_logged.proofs.StandLemmas.{alike_goes, config_is, if_ok_any, inner_fit, inner_others, inner_sound, know_inner, know_wide, logs_Stands, logs_goes, narrowed_then, no_regions, others_each, others_then, same_fewer, same_regions, to_inner, to_wide, logs_finds}
+use Rattle.vx_logged.proofs.StandLemmas.{alike_goes, config_is, if_ok_any, inner_fit, inner_others, inner_sound, know_inner, know_wide, logs_Stands, logs_goes, narrowed_then, no_regions, others_each, others_then, same_fewer, same_regions, to_inner, to_wide, logs_idle}
 use Rattle.vx_group.proofs.LoseLemmas.{along_same, then_along}
 use Rattle.vx_group.proofs.UnitLemmas.{goes_units, then_units}
-use Rattle.vx_group.proofs.FindingLemmas.{then_group, idle_group}
+use Rattle.vx_group.proofs.FindingLemmas.{then_group}
 use Rattle.vx_logged.proofs.GoneLogs.{inner_places, trusts_in, trusts_then}
 use Rattle.vx_grouplogs.proofs.GoneLemmas.{drop_before, drop_behind, drop_same}
 use Rattle.vx_logged.proofs.KeptLemmas.{log_later, some_blocks}
@@ -255,14 +255,14 @@ pub returns-in-Err-clear_run-clause-finds : goal.returns-in-Err-clear_run-clause
 returns-in-Err-clear_run-clause-finds g c =
     then_group c.args.core.now c.ready_group.new.core c.ready_group.new.core (g.S.Shelf.meaning c.args.shelf.now) (g.S.Shelf.meaning c.ready_group.new.shelf) (g.S.Shelf.meaning c.clear_run.new.shelf)
     c.ready_group.ensures.finds
-    (idle_group c.ready_group.new.core (g.S.Shelf.meaning c.ready_group.new.shelf) (g.S.Shelf.meaning c.clear_run.new.shelf) (logs_finds c.ready_group.new.core c.args.vol (g.S.Shelf.meaning c.ready_group.new.shelf) (g.S.Shelf.meaning c.clear_run.new.shelf) (c.in-Ok.ensures.none c.if-not-ready.false) c.ready_group.ensures.stands c.clear_run.ensures.goes (g.met.S.Shelf.lawful c.ready_group.new.shelf) (g.met.S.Shelf.lawful c.clear_run.new.shelf)))
+    (logs_idle c.ready_group.new.core c.args.vol (g.S.Shelf.meaning c.ready_group.new.shelf) (g.S.Shelf.meaning c.clear_run.new.shelf) (c.in-Ok.ensures.none c.if-not-ready.false) c.ready_group.ensures.stands c.clear_run.ensures.goes (g.met.S.Shelf.lawful c.ready_group.new.shelf) (g.met.S.Shelf.lawful c.clear_run.new.shelf))
 
 pub returns-clause-finds : goal.returns-clause-finds
 returns-clause-finds g c =
     then_group c.args.core.now c.ready_group.new.core c.keep_log.new.core (g.S.Shelf.meaning c.args.shelf.now) (g.S.Shelf.meaning c.clear_run.new.shelf) (g.S.Shelf.meaning c.keep_log.new.shelf)
     (then_group c.args.core.now c.ready_group.new.core c.ready_group.new.core (g.S.Shelf.meaning c.args.shelf.now) (g.S.Shelf.meaning c.ready_group.new.shelf) (g.S.Shelf.meaning c.clear_run.new.shelf)
     c.ready_group.ensures.finds
-    (idle_group c.ready_group.new.core (g.S.Shelf.meaning c.ready_group.new.shelf) (g.S.Shelf.meaning c.clear_run.new.shelf) (logs_finds c.ready_group.new.core c.args.vol (g.S.Shelf.meaning c.ready_group.new.shelf) (g.S.Shelf.meaning c.clear_run.new.shelf) (c.in-Ok.ensures.none c.if-not-ready.false) c.ready_group.ensures.stands c.clear_run.ensures.goes (g.met.S.Shelf.lawful c.ready_group.new.shelf) (g.met.S.Shelf.lawful c.clear_run.new.shelf))))
+    (logs_idle c.ready_group.new.core c.args.vol (g.S.Shelf.meaning c.ready_group.new.shelf) (g.S.Shelf.meaning c.clear_run.new.shelf) (c.in-Ok.ensures.none c.if-not-ready.false) c.ready_group.ensures.stands c.clear_run.ensures.goes (g.met.S.Shelf.lawful c.ready_group.new.shelf) (g.met.S.Shelf.lawful c.clear_run.new.shelf)))
     c.keep_log.ensures.finds
 
 pub returns-in-Err-clause-drops : goal.returns-in-Err-clause-drops

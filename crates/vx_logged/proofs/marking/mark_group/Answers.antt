@@ -20,9 +20,9 @@ use Rattle.vx_logged.proofs.BeginLemmas.{plexes_each, plexes_logs}
 use Rattle.vx_logged.proofs.HoldsLemmas.{holds_run, holds_same, inner_count}
 use Rattle.vx_logged.proofs.MissLemmas.{know_stale, know_wider, stale_are_off}
 use Rattle.vx_logged.proofs.RefuseLemmas.{hold_older}
-use Rattle.vx_logged.proofs.StandLemmas.{config_is, if_ok_any, inner_fit, inner_others, inner_sound, know_inner, know_wide, logs_Stands, logs_goes, narrowed_same, narrowed_then, others_each, others_then, same_only, same_regions, to_inner, to_wide, logs_finds}
+use Rattle.vx_logged.proofs.StandLemmas.{config_is, if_ok_any, inner_fit, inner_others, inner_sound, know_inner, know_wide, logs_Stands, logs_goes, narrowed_same, narrowed_then, others_each, others_then, same_only, same_regions, to_inner, to_wide, logs_idle}
 use Rattle.vx_group.proofs.LoseLemmas.{along_same, then_along}
-use Rattle.vx_group.proofs.FindingLemmas.{then_group, idle_group}
+use Rattle.vx_group.proofs.FindingLemmas.{then_group}
 use Rattle.vx_logged.proofs.GoneLogs.{inner_places, trusts_in, trusts_then}
 use Rattle.vx_grouplogs.proofs.GoneLemmas.{drop_before, drop_behind, drop_same}
 use Rattle.vx_group.proofs.UnsureLemmas.{marks_then}
@@ -242,14 +242,14 @@ pub returns-in-Err-guard_run-clause-finds : goal.returns-in-Err-guard_run-clause
 returns-in-Err-guard_run-clause-finds g c =
     then_group c.args.core.now c.ready_group.new.core c.ready_group.new.core (g.S.Shelf.meaning c.args.shelf.now) (g.S.Shelf.meaning c.ready_group.new.shelf) (g.S.Shelf.meaning c.guard_run.new.shelf)
     c.ready_group.ensures.finds
-    (idle_group c.ready_group.new.core (g.S.Shelf.meaning c.ready_group.new.shelf) (g.S.Shelf.meaning c.guard_run.new.shelf) (logs_finds c.ready_group.new.core c.args.vol (g.S.Shelf.meaning c.ready_group.new.shelf) (g.S.Shelf.meaning c.guard_run.new.shelf) (c.in-Ok.ensures.none c.if-not-ready.false) c.ready_group.ensures.stands c.guard_run.ensures.goes (g.met.S.Shelf.lawful c.ready_group.new.shelf) (g.met.S.Shelf.lawful c.guard_run.new.shelf)))
+    (logs_idle c.ready_group.new.core c.args.vol (g.S.Shelf.meaning c.ready_group.new.shelf) (g.S.Shelf.meaning c.guard_run.new.shelf) (c.in-Ok.ensures.none c.if-not-ready.false) c.ready_group.ensures.stands c.guard_run.ensures.goes (g.met.S.Shelf.lawful c.ready_group.new.shelf) (g.met.S.Shelf.lawful c.guard_run.new.shelf))
 
 pub returns-clause-finds : goal.returns-clause-finds
 returns-clause-finds g c =
     then_group c.args.core.now c.ready_group.new.core c.keep_logs.new.core (g.S.Shelf.meaning c.args.shelf.now) (g.S.Shelf.meaning c.guard_run.new.shelf) (g.S.Shelf.meaning c.keep_logs.new.shelf)
     (then_group c.args.core.now c.ready_group.new.core c.ready_group.new.core (g.S.Shelf.meaning c.args.shelf.now) (g.S.Shelf.meaning c.ready_group.new.shelf) (g.S.Shelf.meaning c.guard_run.new.shelf)
     c.ready_group.ensures.finds
-    (idle_group c.ready_group.new.core (g.S.Shelf.meaning c.ready_group.new.shelf) (g.S.Shelf.meaning c.guard_run.new.shelf) (logs_finds c.ready_group.new.core c.args.vol (g.S.Shelf.meaning c.ready_group.new.shelf) (g.S.Shelf.meaning c.guard_run.new.shelf) (c.in-Ok.ensures.none c.if-not-ready.false) c.ready_group.ensures.stands c.guard_run.ensures.goes (g.met.S.Shelf.lawful c.ready_group.new.shelf) (g.met.S.Shelf.lawful c.guard_run.new.shelf))))
+    (logs_idle c.ready_group.new.core c.args.vol (g.S.Shelf.meaning c.ready_group.new.shelf) (g.S.Shelf.meaning c.guard_run.new.shelf) (c.in-Ok.ensures.none c.if-not-ready.false) c.ready_group.ensures.stands c.guard_run.ensures.goes (g.met.S.Shelf.lawful c.ready_group.new.shelf) (g.met.S.Shelf.lawful c.guard_run.new.shelf)))
     c.keep_logs.ensures.finds
 
 pub returns-in-Err-clause-drops : goal.returns-in-Err-clause-drops

@@ -4,7 +4,7 @@ use Rattle.vx_disk.specs.Shelf.{Nothing}
 use Rattle.vx_disk.proofs.Runs.{same_Goes}
 use Rattle.vx_group.specs.Holding.{wide}
 use Rattle.vx_group.specs.Stands.{inner_meaning}
-use Rattle.vx_group.proofs.FindingLemmas.{idle_group}
+use Rattle.vx_group.proofs.FindingLemmas.{still_group}
 use Rattle.vx_group.proofs.LoseLemmas.{along_same}
 use Rattle.vx_group.proofs.TrustStillLemmas.{same_logs}
 use Rattle.vx_grouplogs.proofs.GoneLemmas.{drop_same}
@@ -13,7 +13,7 @@ use Rattle.vx_groupmaps.proofs.KnowLemmas.{note_same}
 use Rattle.vx_logs.specs.Writes.{first_region, last_region}
 use Rattle.vx_logged.specs.Begun.{fell_now}
 use Rattle.vx_logged.specs.Logged.{are_off}
-use Rattle.vx_logged.proofs.FallenLemmas.{fell_same, finds_none, off_run}
+use Rattle.vx_logged.proofs.FallenLemmas.{fell_same, off_run}
 use Rattle.vx_logged.proofs.GoneLogs.{trusts_in}
 use Rattle.vx_logged.proofs.HoldsLemmas.{either_way, inner_count, none_hold, off_any, these_hold}
 use Rattle.vx_logged.proofs.StandLemmas.{cause_to, each_same, others_each, same_only, narrowed_same}
@@ -73,7 +73,7 @@ pub returns-then-not-misses-clause-trust : goal.returns-then-not-misses-clause-t
 returns-then-not-misses-clause-trust g c = λ is. is
 
 pub returns-then-not-misses-clause-finds : goal.returns-then-not-misses-clause-finds
-returns-then-not-misses-clause-finds g c = idle_group c.args.core.now (g.S.Shelf.meaning c.args.shelf.now) (g.S.Shelf.meaning c.args.shelf.now) (finds_none (g.S.Shelf.meaning c.args.shelf.now))
+returns-then-not-misses-clause-finds g c = still_group c.args.core.now (g.S.Shelf.meaning c.args.shelf.now)
 
 pub returns-then-not-misses-clause-cause : goal.returns-then-not-misses-clause-cause
 returns-then-not-misses-clause-cause g c = record { before = c.requires.up; after = c.requires.up }

@@ -16,6 +16,8 @@ use Rattle.vx_kept.proofs.Chosen.{active_volumes}
 use Rattle.vx_group.proofs.FindingLemmas.{still_group, as_finds}
 use Rattle.vx_group.proofs.TrustStillLemmas.{same_logs}
 use Rattle.vx_logged.proofs.GoneLogs.{ready_spent}
+use Rattle.vx_group.proofs.UnsureMarks.{error_unsure, then_unsure}
+use Rattle.vx_group.proofs.SettleCalls.{as_told}
 use Rattle.vx_group.proofs.UnsureLemmas.{misses_by, unsure_then}
 use Rattle.vx_logged.proofs.readying.ready_group.Goals as goal
 
@@ -96,6 +98,8 @@ pub returns-in-Err-clause-finds : goal.returns-in-Err-clause-finds
 returns-in-Err-clause-finds g c =
     record {
       core = as_finds (wide c.args.core.now) (wide c.release.new.core) _ (g.S.Shelf.meaning c.args.shelf.now) (g.S.Shelf.meaning c.release.new.shelf) refl refl refl c.release.ensures.finds.core;
+      settles = as_told (wide c.args.core.now) (wide c.release.new.core) _ (g.S.Shelf.meaning c.args.shelf.now) (g.S.Shelf.meaning c.release.new.shelf) refl refl c.release.ensures.finds.settles;
+      unsure = then_unsure c.args.core.now.inner.unsure c.release.new.core.inner.unsure c.give_up.new.unsure c.release.ensures.finds.unsure (error_unsure c.in-Err.error c.args.vol c.release.new.core.inner.unsure c.give_up.new.unsure c.give_up.ensures.marks);
       free = c.release.ensures.finds.free;
     }
 

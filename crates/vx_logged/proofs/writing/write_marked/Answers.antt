@@ -21,9 +21,9 @@ use Rattle.vx_logged.proofs.FallenLemmas.{fell_all, fell_some, run_less, run_non
 use Rattle.vx_logged.proofs.HoldsLemmas.{holds_none}
 use Rattle.vx_logged.proofs.MissLemmas.{more_off}
 use Rattle.vx_logged.proofs.RefuseLemmas.{cause_refused, marks_later, only_same, those_any}
-use Rattle.vx_logged.proofs.StandLemmas.{cause_to, only_then, others_then, wrote_nothing, narrowed_then}
+use Rattle.vx_logged.proofs.StandLemmas.{cause_to, only_then, others_then, wrote_nothing, narrowed_then, wide_maps_idle}
 use Rattle.vx_group.proofs.LoseLemmas.{along_same, then_along}
-use Rattle.vx_group.proofs.FindingLemmas.{then_group, idle_group}
+use Rattle.vx_group.proofs.FindingLemmas.{then_group}
 use Rattle.vx_logged.proofs.GoneLogs.{drops_refused, drops_so, drops_spent, no_map, trusts_less, trusts_then}
 use Rattle.vx_grouplogs.proofs.GoneLemmas.{drop_then}
 use Rattle.vx_group.proofs.UnsureLemmas.{down_faults, down_marks, marks_fell, misses_faults, or_down, unsure_then}
@@ -136,7 +136,7 @@ pub returns-in-Err-clause-finds : goal.returns-in-Err-clause-finds
 returns-in-Err-clause-finds g c =
     then_group c.args.core.now c.write_first.new.core c.write_first.new.core (g.S.Shelf.meaning c.args.shelf.now) (g.S.Shelf.meaning c.write_first.new.shelf) (g.S.Shelf.meaning c.miss_refused.new.shelf)
     c.write_first.ensures.finds
-    (idle_group c.write_first.new.core (g.S.Shelf.meaning c.write_first.new.shelf) (g.S.Shelf.meaning c.miss_refused.new.shelf) c.miss_refused.ensures.less)
+    (wide_maps_idle c.write_first.new.core c.args.vol (g.S.Shelf.meaning c.write_first.new.shelf) (g.S.Shelf.meaning c.miss_refused.new.shelf) c.write_first.ensures.stands c.miss_refused.ensures.below c.miss_refused.ensures.less)
 
 pub returns-then-not-done-clause-finds : goal.returns-then-not-done-clause-finds
 returns-then-not-done-clause-finds g c =
@@ -156,7 +156,7 @@ returns-in-Err-mark_fallen-clause-finds g c =
     (then_group c.args.core.now c.write_first.new.core c.mark_fallen.new.core (g.S.Shelf.meaning c.args.shelf.now) (g.S.Shelf.meaning c.write_first.new.shelf) (g.S.Shelf.meaning c.mark_fallen.new.shelf)
     c.write_first.ensures.finds
     c.mark_fallen.ensures.finds)
-    (idle_group c.mark_fallen.new.core (g.S.Shelf.meaning c.mark_fallen.new.shelf) (g.S.Shelf.meaning c.miss_refused-in-Err-mark_fallen.new.shelf) c.miss_refused-in-Err-mark_fallen.ensures.less)
+    (wide_maps_idle c.mark_fallen.new.core c.args.vol (g.S.Shelf.meaning c.mark_fallen.new.shelf) (g.S.Shelf.meaning c.miss_refused-in-Err-mark_fallen.new.shelf) c.mark_fallen.ensures.stands c.miss_refused-in-Err-mark_fallen.ensures.below c.miss_refused-in-Err-mark_fallen.ensures.less)
 
 pub returns-in-Err-clause-drops : goal.returns-in-Err-clause-drops
 returns-in-Err-clause-drops g c =

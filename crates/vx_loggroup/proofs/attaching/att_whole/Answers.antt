@@ -46,3 +46,6 @@ pub returns-clause-keeps : goal.returns-clause-keeps
 returns-clause-keeps g c =
     stay_keeps c.args.core.now c.att_in.new.core c.args.logs.now.items c.args.logs.now.items (g.S.Shelf.meaning c.args.shelf.now) (g.S.Shelf.meaning c.att_in.new.shelf)
     (stays_same c.args.core.now.inner.config c.att_in.new.core.inner.config c.args.logs.now.items (g.S.Shelf.meaning c.args.shelf.now) (g.S.Shelf.meaning c.att_in.new.shelf) (shape_places c.args.core.now.inner.config c.att_in.new.core.inner.config c.att_in.ensures.attaches.shape) c.att_in.ensures.regains.blamed c.att_in.ensures.logs)
+
+pub returns-clause-settles : goal.returns-clause-settles
+returns-clause-settles g c = c.att_in.ensures.settles

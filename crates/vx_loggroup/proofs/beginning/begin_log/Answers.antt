@@ -17,11 +17,10 @@ use Rattle.vx_groupmaps.specs.Missing.{none_spared}
 use Rattle.vx_grouplogs.specs.Covering.{AllAlike}
 use Rattle.vx_grouplogs.specs.Marking.{NoMarks}
 use Rattle.vx_grouplogs.proofs.KnowActs.{know_none}
-use Rattle.vx_logged.proofs.StandLemmas.{alike_goes, config_is, inner_fit, inner_others, inner_sound, logs_Stands, logs_goes, to_wide, logs_finds}
+use Rattle.vx_logged.proofs.StandLemmas.{alike_goes, config_is, inner_fit, inner_others, inner_sound, logs_Stands, logs_goes, to_wide, logs_idle}
 use Rattle.vx_loggroup.proofs.FreshLemmas.{begins_then, first_begun}
 use Rattle.vx_loggroup.proofs.NewLemmas.{news_gone}
 use Rattle.vx_loggroup.proofs.TrustedLogs.{trusted_here, trusted_others}
-use Rattle.vx_group.proofs.FindingLemmas.{idle_group}
 use Rattle.std.specs.Prelude.{not}
 use Rattle.vx_loggroup.proofs.SureLemmas.{since_same, since_told}
 use Rattle.vx_loggroup.proofs.beginning.begin_log.Goals as goal
@@ -42,7 +41,7 @@ pub returns-then-is_down-clause-stands : goal.returns-then-is_down-clause-stands
 returns-then-is_down-clause-stands g c = (logs_Stands c.args.core.now c.args.vol (g.S.Shelf.meaning c.args.shelf.now) (g.S.Shelf.meaning c.begin_run.new.shelf) c.requires.none c.requires.stands c.begin_run.ensures.goes (g.met.S.Shelf.lawful c.args.shelf.now) (g.met.S.Shelf.lawful c.begin_run.new.shelf))
 
 pub returns-then-is_down-clause-begins : goal.returns-then-is_down-clause-begins
-returns-then-is_down-clause-begins g c = (record { goes = logs_goes c.args.core.now c.args.vol (g.S.Shelf.meaning c.args.shelf.now) (g.S.Shelf.meaning c.begin_run.new.shelf) c.requires.none c.requires.stands c.begin_run.ensures.group; loses = along_same c.args.core.now.inner.config (g.S.Shelf.meaning c.args.shelf.now) (g.S.Shelf.meaning c.begin_run.new.shelf) c.begin_run.ensures.goes.faults; finds = idle_group c.args.core.now (g.S.Shelf.meaning c.args.shelf.now) (g.S.Shelf.meaning c.begin_run.new.shelf) (logs_finds c.args.core.now c.args.vol (g.S.Shelf.meaning c.args.shelf.now) (g.S.Shelf.meaning c.begin_run.new.shelf) c.requires.none c.requires.stands c.begin_run.ensures.goes (g.met.S.Shelf.lawful c.args.shelf.now) (g.met.S.Shelf.lawful c.begin_run.new.shelf)); trusts = record { each = λ w log told. told }; still = λ w p. refl; on = λ w p is. is; units = goes_units _ (g.S.Shelf.meaning c.args.shelf.now) (g.S.Shelf.meaning c.begin_run.new.shelf) c.begin_run.ensures.goes; others = inner_others c.args.core.now c.args.vol (g.S.Shelf.meaning c.args.shelf.now) (g.S.Shelf.meaning c.begin_run.new.shelf) c.requires.none c.requires.stands c.begin_run.ensures.goes c.begin_run.ensures.others })
+returns-then-is_down-clause-begins g c = (record { goes = logs_goes c.args.core.now c.args.vol (g.S.Shelf.meaning c.args.shelf.now) (g.S.Shelf.meaning c.begin_run.new.shelf) c.requires.none c.requires.stands c.begin_run.ensures.group; loses = along_same c.args.core.now.inner.config (g.S.Shelf.meaning c.args.shelf.now) (g.S.Shelf.meaning c.begin_run.new.shelf) c.begin_run.ensures.goes.faults; finds = logs_idle c.args.core.now c.args.vol (g.S.Shelf.meaning c.args.shelf.now) (g.S.Shelf.meaning c.begin_run.new.shelf) c.requires.none c.requires.stands c.begin_run.ensures.goes (g.met.S.Shelf.lawful c.args.shelf.now) (g.met.S.Shelf.lawful c.begin_run.new.shelf); trusts = record { each = λ w log told. told }; still = λ w p. refl; on = λ w p is. is; units = goes_units _ (g.S.Shelf.meaning c.args.shelf.now) (g.S.Shelf.meaning c.begin_run.new.shelf) c.begin_run.ensures.goes; others = inner_others c.args.core.now c.args.vol (g.S.Shelf.meaning c.args.shelf.now) (g.S.Shelf.meaning c.begin_run.new.shelf) c.requires.none c.requires.stands c.begin_run.ensures.goes c.begin_run.ensures.others })
 
 pub returns-then-is_down-clause-first : goal.returns-then-is_down-clause-first
 returns-then-is_down-clause-first g c = (first_begun (region_count (wide c.args.core.now).config c.args.vol) c.args.one.now c.begin_run.new.logs c.requires.waits.0 c.requires.waits.1 (subst (λ (x : Config). NoMarks (region_count x c.args.vol) c.begin_run.new.logs) (sym (config_is c.args.core.now c.args.vol (g.S.Shelf.meaning c.args.shelf.now) (g.S.Shelf.meaning c.args.shelf.now) c.requires.none c.requires.stands)) c.begin_run.ensures.off))
@@ -60,7 +59,7 @@ pub returns-then-is_none-clause-stands : goal.returns-then-is_none-clause-stands
 returns-then-is_none-clause-stands g c = (logs_Stands c.args.core.now c.args.vol (g.S.Shelf.meaning c.args.shelf.now) (g.S.Shelf.meaning c.begin_run.new.shelf) c.requires.none c.requires.stands c.begin_run.ensures.goes (g.met.S.Shelf.lawful c.args.shelf.now) (g.met.S.Shelf.lawful c.begin_run.new.shelf))
 
 pub returns-then-is_none-clause-begins : goal.returns-then-is_none-clause-begins
-returns-then-is_none-clause-begins g c = (record { goes = logs_goes c.args.core.now c.args.vol (g.S.Shelf.meaning c.args.shelf.now) (g.S.Shelf.meaning c.begin_run.new.shelf) c.requires.none c.requires.stands c.begin_run.ensures.group; loses = along_same c.args.core.now.inner.config (g.S.Shelf.meaning c.args.shelf.now) (g.S.Shelf.meaning c.begin_run.new.shelf) c.begin_run.ensures.goes.faults; finds = idle_group c.args.core.now (g.S.Shelf.meaning c.args.shelf.now) (g.S.Shelf.meaning c.begin_run.new.shelf) (logs_finds c.args.core.now c.args.vol (g.S.Shelf.meaning c.args.shelf.now) (g.S.Shelf.meaning c.begin_run.new.shelf) c.requires.none c.requires.stands c.begin_run.ensures.goes (g.met.S.Shelf.lawful c.args.shelf.now) (g.met.S.Shelf.lawful c.begin_run.new.shelf)); trusts = record { each = λ w log told. told }; still = λ w p. refl; on = λ w p is. is; units = goes_units _ (g.S.Shelf.meaning c.args.shelf.now) (g.S.Shelf.meaning c.begin_run.new.shelf) c.begin_run.ensures.goes; others = inner_others c.args.core.now c.args.vol (g.S.Shelf.meaning c.args.shelf.now) (g.S.Shelf.meaning c.begin_run.new.shelf) c.requires.none c.requires.stands c.begin_run.ensures.goes c.begin_run.ensures.others })
+returns-then-is_none-clause-begins g c = (record { goes = logs_goes c.args.core.now c.args.vol (g.S.Shelf.meaning c.args.shelf.now) (g.S.Shelf.meaning c.begin_run.new.shelf) c.requires.none c.requires.stands c.begin_run.ensures.group; loses = along_same c.args.core.now.inner.config (g.S.Shelf.meaning c.args.shelf.now) (g.S.Shelf.meaning c.begin_run.new.shelf) c.begin_run.ensures.goes.faults; finds = logs_idle c.args.core.now c.args.vol (g.S.Shelf.meaning c.args.shelf.now) (g.S.Shelf.meaning c.begin_run.new.shelf) c.requires.none c.requires.stands c.begin_run.ensures.goes (g.met.S.Shelf.lawful c.args.shelf.now) (g.met.S.Shelf.lawful c.begin_run.new.shelf); trusts = record { each = λ w log told. told }; still = λ w p. refl; on = λ w p is. is; units = goes_units _ (g.S.Shelf.meaning c.args.shelf.now) (g.S.Shelf.meaning c.begin_run.new.shelf) c.begin_run.ensures.goes; others = inner_others c.args.core.now c.args.vol (g.S.Shelf.meaning c.args.shelf.now) (g.S.Shelf.meaning c.begin_run.new.shelf) c.requires.none c.requires.stands c.begin_run.ensures.goes c.begin_run.ensures.others })
 
 pub returns-then-is_none-clause-first : goal.returns-then-is_none-clause-first
 returns-then-is_none-clause-first g c = (first_begun (region_count (wide c.args.core.now).config c.args.vol) c.args.one.now c.begin_run.new.logs c.requires.waits.0 c.requires.waits.1 (subst (λ (x : Config). NoMarks (region_count x c.args.vol) c.begin_run.new.logs) (sym (config_is c.args.core.now c.args.vol (g.S.Shelf.meaning c.args.shelf.now) (g.S.Shelf.meaning c.args.shelf.now) c.requires.none c.requires.stands)) c.begin_run.ensures.off))
@@ -82,7 +81,7 @@ returns-then-is_none-clause-cause g c = record { before = c.requires.up; after =
 
 pub returns-clause-begins : goal.returns-clause-begins
 returns-clause-begins g c =
-    begins_then c.args.vol c.args.core.now c.args.core.now c.trust_first.new.core (g.S.Shelf.meaning c.args.shelf.now) (g.S.Shelf.meaning c.begin_run.new.shelf) (g.S.Shelf.meaning c.trust_first.new.shelf) (record { goes = logs_goes c.args.core.now c.args.vol (g.S.Shelf.meaning c.args.shelf.now) (g.S.Shelf.meaning c.begin_run.new.shelf) c.requires.none c.requires.stands c.begin_run.ensures.group; loses = along_same c.args.core.now.inner.config (g.S.Shelf.meaning c.args.shelf.now) (g.S.Shelf.meaning c.begin_run.new.shelf) c.begin_run.ensures.goes.faults; finds = idle_group c.args.core.now (g.S.Shelf.meaning c.args.shelf.now) (g.S.Shelf.meaning c.begin_run.new.shelf) (logs_finds c.args.core.now c.args.vol (g.S.Shelf.meaning c.args.shelf.now) (g.S.Shelf.meaning c.begin_run.new.shelf) c.requires.none c.requires.stands c.begin_run.ensures.goes (g.met.S.Shelf.lawful c.args.shelf.now) (g.met.S.Shelf.lawful c.begin_run.new.shelf)); trusts = record { each = λ w log told. told }; still = λ w p. refl; on = λ w p is. is; units = goes_units _ (g.S.Shelf.meaning c.args.shelf.now) (g.S.Shelf.meaning c.begin_run.new.shelf) c.begin_run.ensures.goes; others = inner_others c.args.core.now c.args.vol (g.S.Shelf.meaning c.args.shelf.now) (g.S.Shelf.meaning c.begin_run.new.shelf) c.requires.none c.requires.stands c.begin_run.ensures.goes c.begin_run.ensures.others })
+    begins_then c.args.vol c.args.core.now c.args.core.now c.trust_first.new.core (g.S.Shelf.meaning c.args.shelf.now) (g.S.Shelf.meaning c.begin_run.new.shelf) (g.S.Shelf.meaning c.trust_first.new.shelf) (record { goes = logs_goes c.args.core.now c.args.vol (g.S.Shelf.meaning c.args.shelf.now) (g.S.Shelf.meaning c.begin_run.new.shelf) c.requires.none c.requires.stands c.begin_run.ensures.group; loses = along_same c.args.core.now.inner.config (g.S.Shelf.meaning c.args.shelf.now) (g.S.Shelf.meaning c.begin_run.new.shelf) c.begin_run.ensures.goes.faults; finds = logs_idle c.args.core.now c.args.vol (g.S.Shelf.meaning c.args.shelf.now) (g.S.Shelf.meaning c.begin_run.new.shelf) c.requires.none c.requires.stands c.begin_run.ensures.goes (g.met.S.Shelf.lawful c.args.shelf.now) (g.met.S.Shelf.lawful c.begin_run.new.shelf); trusts = record { each = λ w log told. told }; still = λ w p. refl; on = λ w p is. is; units = goes_units _ (g.S.Shelf.meaning c.args.shelf.now) (g.S.Shelf.meaning c.begin_run.new.shelf) c.begin_run.ensures.goes; others = inner_others c.args.core.now c.args.vol (g.S.Shelf.meaning c.args.shelf.now) (g.S.Shelf.meaning c.begin_run.new.shelf) c.requires.none c.requires.stands c.begin_run.ensures.goes c.begin_run.ensures.others })
     (record {
       goes = c.trust_first.ensures.goes;
       loses = c.trust_first.ensures.loses;

@@ -13,14 +13,13 @@ use Rattle.vx_group.proofs.LoseLemmas.{along_same}
 use Rattle.vx_group.proofs.Standing.{sound_of}
 use Rattle.vx_group.proofs.TrustingLemmas.{trusting_active}
 use Rattle.vx_group.proofs.UnitLemmas.{acts_units, goes_units}
-use Rattle.vx_grouplogs.specs.On.{ReadsOne}
+use Rattle.vx_group.specs.Settles.{ReadsOne}
 use Rattle.vx_grouplogs.proofs.MapLemmas.{goes_logs}
 use Rattle.vx_groupmaps.specs.Missing.{none_spared}
 use Rattle.vx_kept.specs.Keeping.{AllOn}
-use Rattle.vx_logged.proofs.StandLemmas.{config_is, inner_fit, inner_others, inner_sound, know_wide, logs_Stands, logs_goes, others_each, to_inner, to_wide, logs_finds}
+use Rattle.vx_logged.proofs.StandLemmas.{config_is, inner_fit, inner_others, inner_sound, know_wide, logs_Stands, logs_goes, others_each, to_inner, to_wide, logs_idle}
 use Rattle.vx_loggroup.proofs.FreshLemmas.{begins_then, first_mapped}
 use Rattle.vx_loggroup.proofs.TrustedLogs.{mapped_each}
-use Rattle.vx_group.proofs.FindingLemmas.{idle_group}
 use Rattle.std.specs.Prelude.{not}
 use Rattle.vx_loggroup.proofs.SureLemmas.{since_same, since_told}
 use Rattle.vx_loggroup.proofs.beginning.begin_map.Goals as goal
@@ -47,7 +46,7 @@ pub returns-then-is_down-clause-stands : goal.returns-then-is_down-clause-stands
 returns-then-is_down-clause-stands g c = (logs_Stands c.args.core.now c.args.vol (g.S.Shelf.meaning c.args.shelf.now) (g.S.Shelf.meaning c.begin_maps.new.shelf) c.requires.none c.requires.stands (goes_logs c.args.core.now.inner.config c.args.vol (g.S.Shelf.meaning c.args.shelf.now) (g.S.Shelf.meaning c.begin_maps.new.shelf) c.begin_maps.ensures.goes) (g.met.S.Shelf.lawful c.args.shelf.now) (g.met.S.Shelf.lawful c.begin_maps.new.shelf))
 
 pub returns-then-is_down-clause-begins : goal.returns-then-is_down-clause-begins
-returns-then-is_down-clause-begins g c = (record { goes = logs_goes c.args.core.now c.args.vol (g.S.Shelf.meaning c.args.shelf.now) (g.S.Shelf.meaning c.begin_maps.new.shelf) c.requires.none c.requires.stands c.begin_maps.ensures.group; loses = along_same c.args.core.now.inner.config (g.S.Shelf.meaning c.args.shelf.now) (g.S.Shelf.meaning c.begin_maps.new.shelf) c.begin_maps.ensures.goes.faults; finds = idle_group c.args.core.now (g.S.Shelf.meaning c.args.shelf.now) (g.S.Shelf.meaning c.begin_maps.new.shelf) (logs_finds c.args.core.now c.args.vol (g.S.Shelf.meaning c.args.shelf.now) (g.S.Shelf.meaning c.begin_maps.new.shelf) c.requires.none c.requires.stands (goes_logs c.args.core.now.inner.config c.args.vol (g.S.Shelf.meaning c.args.shelf.now) (g.S.Shelf.meaning c.begin_maps.new.shelf) c.begin_maps.ensures.goes) (g.met.S.Shelf.lawful c.args.shelf.now) (g.met.S.Shelf.lawful c.begin_maps.new.shelf)); trusts = record { each = λ w log told. told }; still = λ w p. refl; on = λ w p is. is; units = goes_units _ (g.S.Shelf.meaning c.args.shelf.now) (g.S.Shelf.meaning c.begin_maps.new.shelf) c.begin_maps.ensures.goes; others = inner_others c.args.core.now c.args.vol (g.S.Shelf.meaning c.args.shelf.now) (g.S.Shelf.meaning c.begin_maps.new.shelf) c.requires.none c.requires.stands (goes_logs c.args.core.now.inner.config c.args.vol (g.S.Shelf.meaning c.args.shelf.now) (g.S.Shelf.meaning c.begin_maps.new.shelf) c.begin_maps.ensures.goes) c.begin_maps.ensures.others })
+returns-then-is_down-clause-begins g c = (record { goes = logs_goes c.args.core.now c.args.vol (g.S.Shelf.meaning c.args.shelf.now) (g.S.Shelf.meaning c.begin_maps.new.shelf) c.requires.none c.requires.stands c.begin_maps.ensures.group; loses = along_same c.args.core.now.inner.config (g.S.Shelf.meaning c.args.shelf.now) (g.S.Shelf.meaning c.begin_maps.new.shelf) c.begin_maps.ensures.goes.faults; finds = logs_idle c.args.core.now c.args.vol (g.S.Shelf.meaning c.args.shelf.now) (g.S.Shelf.meaning c.begin_maps.new.shelf) c.requires.none c.requires.stands (goes_logs c.args.core.now.inner.config c.args.vol (g.S.Shelf.meaning c.args.shelf.now) (g.S.Shelf.meaning c.begin_maps.new.shelf) c.begin_maps.ensures.goes) (g.met.S.Shelf.lawful c.args.shelf.now) (g.met.S.Shelf.lawful c.begin_maps.new.shelf); trusts = record { each = λ w log told. told }; still = λ w p. refl; on = λ w p is. is; units = goes_units _ (g.S.Shelf.meaning c.args.shelf.now) (g.S.Shelf.meaning c.begin_maps.new.shelf) c.begin_maps.ensures.goes; others = inner_others c.args.core.now c.args.vol (g.S.Shelf.meaning c.args.shelf.now) (g.S.Shelf.meaning c.begin_maps.new.shelf) c.requires.none c.requires.stands (goes_logs c.args.core.now.inner.config c.args.vol (g.S.Shelf.meaning c.args.shelf.now) (g.S.Shelf.meaning c.begin_maps.new.shelf) c.begin_maps.ensures.goes) c.begin_maps.ensures.others })
 
 pub returns-then-is_down-clause-first : goal.returns-then-is_down-clause-first
 returns-then-is_down-clause-first g c = (first_mapped (region_count (wide c.args.core.now).config c.args.vol) c.args.one.now c.begin_maps.new.logs c.requires.waits c.begin_maps.ensures.drl)
@@ -62,7 +61,7 @@ pub returns-then-is_none-clause-stands : goal.returns-then-is_none-clause-stands
 returns-then-is_none-clause-stands g c = (logs_Stands c.args.core.now c.args.vol (g.S.Shelf.meaning c.args.shelf.now) (g.S.Shelf.meaning c.begin_maps.new.shelf) c.requires.none c.requires.stands (goes_logs c.args.core.now.inner.config c.args.vol (g.S.Shelf.meaning c.args.shelf.now) (g.S.Shelf.meaning c.begin_maps.new.shelf) c.begin_maps.ensures.goes) (g.met.S.Shelf.lawful c.args.shelf.now) (g.met.S.Shelf.lawful c.begin_maps.new.shelf))
 
 pub returns-then-is_none-clause-begins : goal.returns-then-is_none-clause-begins
-returns-then-is_none-clause-begins g c = (record { goes = logs_goes c.args.core.now c.args.vol (g.S.Shelf.meaning c.args.shelf.now) (g.S.Shelf.meaning c.begin_maps.new.shelf) c.requires.none c.requires.stands c.begin_maps.ensures.group; loses = along_same c.args.core.now.inner.config (g.S.Shelf.meaning c.args.shelf.now) (g.S.Shelf.meaning c.begin_maps.new.shelf) c.begin_maps.ensures.goes.faults; finds = idle_group c.args.core.now (g.S.Shelf.meaning c.args.shelf.now) (g.S.Shelf.meaning c.begin_maps.new.shelf) (logs_finds c.args.core.now c.args.vol (g.S.Shelf.meaning c.args.shelf.now) (g.S.Shelf.meaning c.begin_maps.new.shelf) c.requires.none c.requires.stands (goes_logs c.args.core.now.inner.config c.args.vol (g.S.Shelf.meaning c.args.shelf.now) (g.S.Shelf.meaning c.begin_maps.new.shelf) c.begin_maps.ensures.goes) (g.met.S.Shelf.lawful c.args.shelf.now) (g.met.S.Shelf.lawful c.begin_maps.new.shelf)); trusts = record { each = λ w log told. told }; still = λ w p. refl; on = λ w p is. is; units = goes_units _ (g.S.Shelf.meaning c.args.shelf.now) (g.S.Shelf.meaning c.begin_maps.new.shelf) c.begin_maps.ensures.goes; others = inner_others c.args.core.now c.args.vol (g.S.Shelf.meaning c.args.shelf.now) (g.S.Shelf.meaning c.begin_maps.new.shelf) c.requires.none c.requires.stands (goes_logs c.args.core.now.inner.config c.args.vol (g.S.Shelf.meaning c.args.shelf.now) (g.S.Shelf.meaning c.begin_maps.new.shelf) c.begin_maps.ensures.goes) c.begin_maps.ensures.others })
+returns-then-is_none-clause-begins g c = (record { goes = logs_goes c.args.core.now c.args.vol (g.S.Shelf.meaning c.args.shelf.now) (g.S.Shelf.meaning c.begin_maps.new.shelf) c.requires.none c.requires.stands c.begin_maps.ensures.group; loses = along_same c.args.core.now.inner.config (g.S.Shelf.meaning c.args.shelf.now) (g.S.Shelf.meaning c.begin_maps.new.shelf) c.begin_maps.ensures.goes.faults; finds = logs_idle c.args.core.now c.args.vol (g.S.Shelf.meaning c.args.shelf.now) (g.S.Shelf.meaning c.begin_maps.new.shelf) c.requires.none c.requires.stands (goes_logs c.args.core.now.inner.config c.args.vol (g.S.Shelf.meaning c.args.shelf.now) (g.S.Shelf.meaning c.begin_maps.new.shelf) c.begin_maps.ensures.goes) (g.met.S.Shelf.lawful c.args.shelf.now) (g.met.S.Shelf.lawful c.begin_maps.new.shelf); trusts = record { each = λ w log told. told }; still = λ w p. refl; on = λ w p is. is; units = goes_units _ (g.S.Shelf.meaning c.args.shelf.now) (g.S.Shelf.meaning c.begin_maps.new.shelf) c.begin_maps.ensures.goes; others = inner_others c.args.core.now c.args.vol (g.S.Shelf.meaning c.args.shelf.now) (g.S.Shelf.meaning c.begin_maps.new.shelf) c.requires.none c.requires.stands (goes_logs c.args.core.now.inner.config c.args.vol (g.S.Shelf.meaning c.args.shelf.now) (g.S.Shelf.meaning c.begin_maps.new.shelf) c.begin_maps.ensures.goes) c.begin_maps.ensures.others })
 
 pub returns-then-is_none-clause-first : goal.returns-then-is_none-clause-first
 returns-then-is_none-clause-first g c = (first_mapped (region_count (wide c.args.core.now).config c.args.vol) c.args.one.now c.begin_maps.new.logs c.requires.waits c.begin_maps.ensures.drl)
@@ -81,7 +80,7 @@ returns-then-is_none-clause-cause g c = record { before = c.requires.up; after =
 
 pub returns-clause-begins : goal.returns-clause-begins
 returns-clause-begins g c =
-    begins_then c.args.vol c.args.core.now c.args.core.now c.trust_first.new.core (g.S.Shelf.meaning c.args.shelf.now) (g.S.Shelf.meaning c.begin_maps.new.shelf) (g.S.Shelf.meaning c.trust_first.new.shelf) (record { goes = logs_goes c.args.core.now c.args.vol (g.S.Shelf.meaning c.args.shelf.now) (g.S.Shelf.meaning c.begin_maps.new.shelf) c.requires.none c.requires.stands c.begin_maps.ensures.group; loses = along_same c.args.core.now.inner.config (g.S.Shelf.meaning c.args.shelf.now) (g.S.Shelf.meaning c.begin_maps.new.shelf) c.begin_maps.ensures.goes.faults; finds = idle_group c.args.core.now (g.S.Shelf.meaning c.args.shelf.now) (g.S.Shelf.meaning c.begin_maps.new.shelf) (logs_finds c.args.core.now c.args.vol (g.S.Shelf.meaning c.args.shelf.now) (g.S.Shelf.meaning c.begin_maps.new.shelf) c.requires.none c.requires.stands (goes_logs c.args.core.now.inner.config c.args.vol (g.S.Shelf.meaning c.args.shelf.now) (g.S.Shelf.meaning c.begin_maps.new.shelf) c.begin_maps.ensures.goes) (g.met.S.Shelf.lawful c.args.shelf.now) (g.met.S.Shelf.lawful c.begin_maps.new.shelf)); trusts = record { each = λ w log told. told }; still = λ w p. refl; on = λ w p is. is; units = goes_units _ (g.S.Shelf.meaning c.args.shelf.now) (g.S.Shelf.meaning c.begin_maps.new.shelf) c.begin_maps.ensures.goes; others = inner_others c.args.core.now c.args.vol (g.S.Shelf.meaning c.args.shelf.now) (g.S.Shelf.meaning c.begin_maps.new.shelf) c.requires.none c.requires.stands (goes_logs c.args.core.now.inner.config c.args.vol (g.S.Shelf.meaning c.args.shelf.now) (g.S.Shelf.meaning c.begin_maps.new.shelf) c.begin_maps.ensures.goes) c.begin_maps.ensures.others })
+    begins_then c.args.vol c.args.core.now c.args.core.now c.trust_first.new.core (g.S.Shelf.meaning c.args.shelf.now) (g.S.Shelf.meaning c.begin_maps.new.shelf) (g.S.Shelf.meaning c.trust_first.new.shelf) (record { goes = logs_goes c.args.core.now c.args.vol (g.S.Shelf.meaning c.args.shelf.now) (g.S.Shelf.meaning c.begin_maps.new.shelf) c.requires.none c.requires.stands c.begin_maps.ensures.group; loses = along_same c.args.core.now.inner.config (g.S.Shelf.meaning c.args.shelf.now) (g.S.Shelf.meaning c.begin_maps.new.shelf) c.begin_maps.ensures.goes.faults; finds = logs_idle c.args.core.now c.args.vol (g.S.Shelf.meaning c.args.shelf.now) (g.S.Shelf.meaning c.begin_maps.new.shelf) c.requires.none c.requires.stands (goes_logs c.args.core.now.inner.config c.args.vol (g.S.Shelf.meaning c.args.shelf.now) (g.S.Shelf.meaning c.begin_maps.new.shelf) c.begin_maps.ensures.goes) (g.met.S.Shelf.lawful c.args.shelf.now) (g.met.S.Shelf.lawful c.begin_maps.new.shelf); trusts = record { each = λ w log told. told }; still = λ w p. refl; on = λ w p is. is; units = goes_units _ (g.S.Shelf.meaning c.args.shelf.now) (g.S.Shelf.meaning c.begin_maps.new.shelf) c.begin_maps.ensures.goes; others = inner_others c.args.core.now c.args.vol (g.S.Shelf.meaning c.args.shelf.now) (g.S.Shelf.meaning c.begin_maps.new.shelf) c.requires.none c.requires.stands (goes_logs c.args.core.now.inner.config c.args.vol (g.S.Shelf.meaning c.args.shelf.now) (g.S.Shelf.meaning c.begin_maps.new.shelf) c.begin_maps.ensures.goes) c.begin_maps.ensures.others })
     (record {
       goes = c.trust_first.ensures.goes;
       loses = c.trust_first.ensures.loses;

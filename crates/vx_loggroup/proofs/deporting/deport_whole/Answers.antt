@@ -5,6 +5,7 @@ use Rattle.vx_group.proofs.HoldLemmas.{wide_shape}
 use Rattle.vx_loggroup.specs.LoggedVolumes.{LoggedStands}
 use Rattle.vx_loggroup.proofs.DeportedLogs.{deport_stands}
 use Rattle.vx_loggroup.proofs.RestMaps.{maps_stand}
+use Rattle.vx_loggroup.proofs.SettledFacts.{reads_sure}
 use Rattle.vx_loggroup.proofs.RestTells.{tells_by}
 use Rattle.vx_loggroup.proofs.deporting.deport_whole.Goals as goal
 
@@ -41,6 +42,9 @@ returns-in-Err-clause-rests g c = tt
 
 pub returns-in-Err-clause-trusts : goal.returns-in-Err-clause-trusts
 returns-in-Err-clause-trusts g c = c.in-Err.ensures.logs
+
+pub returns-in-Err-clause-settles : goal.returns-in-Err-clause-settles
+returns-in-Err-clause-settles g c = c.in-Err.ensures.settles (reads_sure c.args.core.now c.args.logs.now.items c.args.alike.now c.args.stopped (g.S.Shelf.meaning c.args.shelf.now) c.requires.stands c.requires.sure)
 
 pub returns-in-Ok-clause-agreed : goal.returns-in-Ok-clause-agreed
 returns-in-Ok-clause-agreed g c = tt

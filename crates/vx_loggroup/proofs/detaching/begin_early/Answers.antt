@@ -7,15 +7,15 @@ use Rattle.vx_disk.specs.Shelf.{Nothing}
 use Rattle.vx_disk.proofs.Runs.{then_nothing}
 use Rattle.vx_group.specs.Holding.{wide}
 use Rattle.vx_group.specs.Stands.{inner_meaning}
-use Rattle.vx_group.proofs.FindingLemmas.{idle_group, then_group}
+use Rattle.vx_group.proofs.FindingLemmas.{then_group}
 use Rattle.vx_group.proofs.HoldLemmas.{narrow_sound, wide_shape}
 use Rattle.vx_group.proofs.LoseLemmas.{along_same, then_along}
 use Rattle.vx_group.proofs.RegainLemmas.{all_holds}
 use Rattle.vx_group.proofs.TrustLemmas.{err_from, ok_from}
 use Rattle.vx_group.proofs.UnitLemmas.{goes_units, then_units}
-use Rattle.vx_grouplogs.specs.On.{ReadsOne}
+use Rattle.vx_group.specs.Settles.{ReadsOne}
 use Rattle.vx_groupmaps.specs.Missing.{OnMaps}
-use Rattle.vx_logged.proofs.StandLemmas.{config_is, narrowed_then}
+use Rattle.vx_logged.proofs.StandLemmas.{config_is, narrowed_then, maps_idle}
 use Rattle.vx_model.specs.declared.no.No.{No}
 use Rattle.vx_volume.proofs.PlaceLemmas.{active_below}
 use Rattle.vx_loggroup.specs.Attaching.{fmr_at}
@@ -223,10 +223,10 @@ pub returns-then-not-may_begin-clause-finds : goal.returns-then-not-may_begin-cl
 returns-then-not-may_begin-clause-finds g c = c.ready_group.ensures.finds
 
 pub returns-in-Err-begin_missing-clause-finds : goal.returns-in-Err-begin_missing-clause-finds
-returns-in-Err-begin_missing-clause-finds g c = then_group c.args.core.now c.ready_group.new.core c.ready_group.new.core (g.S.Shelf.meaning c.args.shelf.now) (g.S.Shelf.meaning c.ready_group.new.shelf) (g.S.Shelf.meaning c.begin_missing.new.shelf) c.ready_group.ensures.finds (idle_group c.ready_group.new.core (g.S.Shelf.meaning c.ready_group.new.shelf) (g.S.Shelf.meaning c.begin_missing.new.shelf) c.begin_missing.ensures.less)
+returns-in-Err-begin_missing-clause-finds g c = then_group c.args.core.now c.ready_group.new.core c.ready_group.new.core (g.S.Shelf.meaning c.args.shelf.now) (g.S.Shelf.meaning c.ready_group.new.shelf) (g.S.Shelf.meaning c.begin_missing.new.shelf) c.ready_group.ensures.finds (maps_idle c.ready_group.new.core c.args.vol (g.S.Shelf.meaning c.ready_group.new.shelf) (g.S.Shelf.meaning c.begin_missing.new.shelf) (c.may_begin.ensures.none c.if-not-may_begin.false) c.ready_group.ensures.stands c.begin_missing.ensures.below c.begin_missing.ensures.less)
 
 pub returns-clause-finds : goal.returns-clause-finds
-returns-clause-finds g c = then_group c.args.core.now c.ready_group.new.core c.keep_begun.new.core (g.S.Shelf.meaning c.args.shelf.now) (g.S.Shelf.meaning c.begin_missing.new.shelf) (g.S.Shelf.meaning c.keep_begun.new.shelf) (then_group c.args.core.now c.ready_group.new.core c.ready_group.new.core (g.S.Shelf.meaning c.args.shelf.now) (g.S.Shelf.meaning c.ready_group.new.shelf) (g.S.Shelf.meaning c.begin_missing.new.shelf) c.ready_group.ensures.finds (idle_group c.ready_group.new.core (g.S.Shelf.meaning c.ready_group.new.shelf) (g.S.Shelf.meaning c.begin_missing.new.shelf) c.begin_missing.ensures.less)) c.keep_begun.ensures.finds
+returns-clause-finds g c = then_group c.args.core.now c.ready_group.new.core c.keep_begun.new.core (g.S.Shelf.meaning c.args.shelf.now) (g.S.Shelf.meaning c.begin_missing.new.shelf) (g.S.Shelf.meaning c.keep_begun.new.shelf) (then_group c.args.core.now c.ready_group.new.core c.ready_group.new.core (g.S.Shelf.meaning c.args.shelf.now) (g.S.Shelf.meaning c.ready_group.new.shelf) (g.S.Shelf.meaning c.begin_missing.new.shelf) c.ready_group.ensures.finds (maps_idle c.ready_group.new.core c.args.vol (g.S.Shelf.meaning c.ready_group.new.shelf) (g.S.Shelf.meaning c.begin_missing.new.shelf) (c.may_begin.ensures.none c.if-not-may_begin.false) c.ready_group.ensures.stands c.begin_missing.ensures.below c.begin_missing.ensures.less)) c.keep_begun.ensures.finds
 
 pub returns-in-Err-clause-cause : goal.returns-in-Err-clause-cause
 returns-in-Err-clause-cause g c = subst (λ (why : No). DeviceCause (g.S.Shelf.meaning c.args.shelf.now) (g.S.Shelf.meaning c.ready_group.new.shelf) why) (sym c.refusal.ensures)

@@ -46,3 +46,6 @@ returns-clause-keeps g c =
 
 pub returns-clause-tests : goal.returns-clause-tests
 returns-clause-tests g c = λ why is. subst (λ (ls : List Logs). MapsHeld c.args.core.now.inner.config c.args.logs.now.items ls) (sym (c.att_following.ensures.tests why is)) c.give_up_all.ensures.held
+
+pub returns-clause-settles : goal.returns-clause-settles
+returns-clause-settles g c = c.att_following.ensures.settles

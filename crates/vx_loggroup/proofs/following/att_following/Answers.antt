@@ -13,6 +13,8 @@ use Rattle.vx_loggroup.proofs.FollowLemmas.{attached_low, copied_attaches, copie
 use Rattle.vx_loggroup.proofs.GoingLemmas.{lost_attaches, lost_holds, lost_keeps, refused_attaches, refused_maps, source_other, still_leaves, stop_before}
 use Rattle.vx_loggroup.proofs.KeepingLemmas.{shape_places}
 use Rattle.vx_loggroup.proofs.MadeLogs.{ok_clash}
+use Rattle.vx_group.proofs.SettleCalls.{then_told}
+use Rattle.vx_logged.proofs.StandLemmas.{wide_maps_idle}
 use Rattle.vx_loggroup.proofs.following.att_following.Goals as goal
 
 pub source_of-source-requires : goal.source_of-source-requires
@@ -315,3 +317,23 @@ returns-in-Err-lose_gone-clause-keeps g c =
 pub returns-in-Err-lose_gone-clause-finds : goal.returns-in-Err-lose_gone-clause-finds
 returns-in-Err-lose_gone-clause-finds g c =
     then_finds (wide c.args.core.now) (wide c.att_whole.new.core) (wide c.lose_gone.new.core) (g.S.Shelf.meaning c.args.shelf.now) (g.S.Shelf.meaning c.take_map.new.shelf) (g.S.Shelf.meaning c.lose_gone.new.shelf) (copied_finds c.args.core.now c.att_whole.new.core (g.S.Shelf.meaning c.args.shelf.now) (g.S.Shelf.meaning c.att_whole.new.shelf) (g.S.Shelf.meaning c.take_map.new.shelf) c.att_whole.ensures.finds c.take_map.ensures.less) c.lose_gone.ensures.finds
+
+pub returns-in-Err-clause-settles : goal.returns-in-Err-clause-settles
+returns-in-Err-clause-settles g c = c.in-Err.ensures.settles
+
+pub returns-in-None-clause-settles : goal.returns-in-None-clause-settles
+returns-in-None-clause-settles g c = c.in-Ok.ensures.settles
+
+pub returns-in-Ok-lose_gone-clause-settles : goal.returns-in-Ok-lose_gone-clause-settles
+returns-in-Ok-lose_gone-clause-settles g c =
+    then_told (wide c.args.core.now) (wide c.att_whole.new.core) (wide c.lose_gone.new.core) (g.S.Shelf.meaning c.args.shelf.now) (g.S.Shelf.meaning c.take_map.new.shelf) (g.S.Shelf.meaning c.lose_gone.new.shelf)
+    (then_told (wide c.args.core.now) (wide c.att_whole.new.core) (wide c.att_whole.new.core) (g.S.Shelf.meaning c.args.shelf.now) (g.S.Shelf.meaning c.att_whole.new.shelf) (g.S.Shelf.meaning c.take_map.new.shelf) c.att_whole.ensures.settles
+    (wide_maps_idle c.att_whole.new.core c.args.vol (g.S.Shelf.meaning c.att_whole.new.shelf) (g.S.Shelf.meaning c.take_map.new.shelf) (take_map-requires-clause-stands g c).group c.take_map.ensures.below c.take_map.ensures.less).settles)
+    c.lose_gone.ensures.settles
+
+pub returns-in-Err-lose_gone-clause-settles : goal.returns-in-Err-lose_gone-clause-settles
+returns-in-Err-lose_gone-clause-settles g c =
+    then_told (wide c.args.core.now) (wide c.att_whole.new.core) (wide c.lose_gone.new.core) (g.S.Shelf.meaning c.args.shelf.now) (g.S.Shelf.meaning c.take_map.new.shelf) (g.S.Shelf.meaning c.lose_gone.new.shelf)
+    (then_told (wide c.args.core.now) (wide c.att_whole.new.core) (wide c.att_whole.new.core) (g.S.Shelf.meaning c.args.shelf.now) (g.S.Shelf.meaning c.att_whole.new.shelf) (g.S.Shelf.meaning c.take_map.new.shelf) c.att_whole.ensures.settles
+    (wide_maps_idle c.att_whole.new.core c.args.vol (g.S.Shelf.meaning c.att_whole.new.shelf) (g.S.Shelf.meaning c.take_map.new.shelf) (take_map-requires-clause-stands g c).group c.take_map.ensures.below c.take_map.ensures.less).settles)
+    c.lose_gone.ensures.settles

@@ -8,6 +8,7 @@ use Rattle.vx_group.specs.Holding.{wide}
 use Rattle.vx_loggroup.specs.Attaching.{fmr_at}
 use Rattle.vx_loggroup.proofs.GoingLemmas.{all_err, idle_logged, lost_stays, none_attaches, said_lost, said_there}
 use Rattle.vx_loggroup.proofs.KeepingLemmas.{stays_none}
+use Rattle.vx_group.proofs.SettleCalls.{same_told}
 use Rattle.vx_loggroup.proofs.gone_maps.lose_gone.Goals as goal
 
 pub lose_attached-requires-clause-stands : goal.lose_attached-requires-clause-stands
@@ -79,3 +80,9 @@ returns-clause-finds g c = c.lose_attached.ensures.finds
 
 pub returns-clause-cause : goal.returns-clause-cause
 returns-clause-cause g c = c.lose_attached.ensures.cause
+
+pub returns-then-not-is_gone-clause-settles : goal.returns-then-not-is_gone-clause-settles
+returns-then-not-is_gone-clause-settles g c = same_told (wide c.args.core.now) (g.S.Shelf.meaning c.args.shelf.now)
+
+pub returns-clause-settles : goal.returns-clause-settles
+returns-clause-settles g c = c.lose_attached.ensures.settles

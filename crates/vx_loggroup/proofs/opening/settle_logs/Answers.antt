@@ -4,8 +4,10 @@ use Rattle.std.proofs.lemmas.Bool.{not-false}
 use Rattle.std.specs.Prelude.{not}
 use Rattle.vx_loggroup.proofs.AlikeLemmas.{stop_stands}
 use Rattle.vx_loggroup.proofs.OpenLemmas.{begins_later}
-use Rattle.vx_loggroup.proofs.SettleLemmas.{settle_then, stop_by}
+use Rattle.vx_loggroup.proofs.SettleLemmas.{settle_then, stop_by, settle_marks}
 use Rattle.vx_group.proofs.CallLemmas.{not_down}
+use Rattle.vx_loggroup.proofs.UnsureGroups.{unsure_stands, with_unsure}
+use Rattle.vx_group.proofs.HoldLemmas.{wide_shape}
 use Rattle.vx_loggroup.proofs.opening.settle_logs.Goals as goal
 
 pub lose_all-requires : goal.lose_all-requires
@@ -49,13 +51,20 @@ returns-then-is_down g c = record {
 
 pub returns : goal.returns
 returns g c = record {
-  settles = settle_then c.args.core c.clear_all.new.core c.lose_all.new.core (g.S.Shelf.meaning c.args.shelf.now) (g.S.Shelf.meaning c.clear_all.new.shelf) (g.S.Shelf.meaning c.lose_all.new.shelf) c.clear_all.ensures.settles c.lose_all.ensures.settles;
+  settles = settle_then c.args.core c.lose_all.new.core (with_unsure c.doubt_all.new.unsure c.lose_all.new.core) (g.S.Shelf.meaning c.args.shelf.now) (g.S.Shelf.meaning c.lose_all.new.shelf) (g.S.Shelf.meaning c.lose_all.new.shelf)
+      (settle_then c.args.core c.clear_all.new.core c.lose_all.new.core (g.S.Shelf.meaning c.args.shelf.now) (g.S.Shelf.meaning c.clear_all.new.shelf) (g.S.Shelf.meaning c.lose_all.new.shelf) c.clear_all.ensures.settles c.lose_all.ensures.settles)
+      (settle_marks c.lose_all.new.core c.doubt_all.new.unsure (g.S.Shelf.meaning c.lose_all.new.shelf) c.doubt_all.ensures.more);
   trust = λ is. c.in-Ok-lose_all.ensures.trust (c.in-Ok.ensures.trust is);
   same = refl;
   shrink = c.clear_all.ensures.shrink;
   up = not_down c.is_down.result (g.S.Shelf.meaning c.lose_all.new.shelf).down c.is_down.ensures c.if-is_down.false;
   off = λ going. c.in-Ok.ensures.off (not-false c.in-Ok.done going);
-  stands = c.lose_all.ensures.stands;
-  begins = begins_later c.args.core c.lose_all.new.core c.args.alike c.args.logs.items (g.S.Shelf.meaning c.args.shelf.now) (g.S.Shelf.meaning c.lose_all.new.shelf) c.requires.stands c.requires.same
-      (settle_then c.args.core c.clear_all.new.core c.lose_all.new.core (g.S.Shelf.meaning c.args.shelf.now) (g.S.Shelf.meaning c.clear_all.new.shelf) (g.S.Shelf.meaning c.lose_all.new.shelf) c.clear_all.ensures.settles c.lose_all.ensures.settles).goes;
+  stands = unsure_stands c.lose_all.new.core c.doubt_all.new.unsure c.clear_all.new.logs.items c.args.alike (not c.in-Ok.done) (g.S.Shelf.meaning c.lose_all.new.shelf) c.lose_all.ensures.stands;
+  begins = begins_later c.args.core (with_unsure c.doubt_all.new.unsure c.lose_all.new.core) c.args.alike c.args.logs.items (g.S.Shelf.meaning c.args.shelf.now) (g.S.Shelf.meaning c.lose_all.new.shelf) c.requires.stands c.requires.same
+      (settle_then c.args.core c.lose_all.new.core (with_unsure c.doubt_all.new.unsure c.lose_all.new.core) (g.S.Shelf.meaning c.args.shelf.now) (g.S.Shelf.meaning c.lose_all.new.shelf) (g.S.Shelf.meaning c.lose_all.new.shelf)
+      (settle_then c.args.core c.clear_all.new.core c.lose_all.new.core (g.S.Shelf.meaning c.args.shelf.now) (g.S.Shelf.meaning c.clear_all.new.shelf) (g.S.Shelf.meaning c.lose_all.new.shelf) c.clear_all.ensures.settles c.lose_all.ensures.settles)
+      (settle_marks c.lose_all.new.core c.doubt_all.new.unsure (g.S.Shelf.meaning c.lose_all.new.shelf) c.doubt_all.ensures.more)).goes;
+  sure = record {
+    each = λ v lt off. c.doubt_all.ensures.sure v (let few = c.lose_all.ensures.stands.group.stands.few in let same = (wide_shape c.lose_all.new.core).volumes in omega (arith, lt, few, same)) off;
+  };
 }

@@ -12,6 +12,8 @@ use Rattle.vx_group.proofs.MendLemmas.{same_Goes}
 use Rattle.vx_group.proofs.TrustingLemmas.{still_PlexActs}
 use Rattle.vx_loggroup.proofs.FreshLemmas.{counted_Goes}
 use Rattle.vx_group.proofs.FindingLemmas.{as_finds, still_group}
+use Rattle.vx_group.proofs.UnsureMarks.{error_unsure, then_unsure}
+use Rattle.vx_group.proofs.SettleCalls.{as_told}
 use Rattle.vx_group.proofs.UnsureLemmas.{misses_to, unsure_then}
 use Rattle.vx_loggroup.proofs.trusting.trust_first.Goals as goal
 
@@ -65,6 +67,8 @@ pub returns-in-Err-clause-finds : goal.returns-in-Err-clause-finds
 returns-in-Err-clause-finds g c =
     record {
       core = as_finds (wide c.args.core.now) (wide c.trust_group.new.core) _ (g.S.Shelf.meaning c.args.shelf.now) (g.S.Shelf.meaning c.trust_group.new.shelf) refl refl refl c.trust_group.ensures.finds.core;
+      settles = as_told (wide c.args.core.now) (wide c.trust_group.new.core) _ (g.S.Shelf.meaning c.args.shelf.now) (g.S.Shelf.meaning c.trust_group.new.shelf) refl refl c.trust_group.ensures.finds.settles;
+      unsure = then_unsure c.args.core.now.inner.unsure c.trust_group.new.core.inner.unsure c.give_up.new.unsure c.trust_group.ensures.finds.unsure (error_unsure c.in-Err.error c.args.vol c.trust_group.new.core.inner.unsure c.give_up.new.unsure c.give_up.ensures.marks);
       free = c.trust_group.ensures.finds.free;
     }
 

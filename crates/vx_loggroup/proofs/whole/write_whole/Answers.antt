@@ -1,5 +1,5 @@
 -- `write_whole`: clauses stands and marks; what `write_marked` asks.
-use Rattle.std.proofs.Common.{◌≡◌, ◌∙◌, ◌/◌, inl, inr, true, false, length, refl, sym, arith}
+use Rattle.std.proofs.Common.{◌≡◌, ◌∙◌, ◌/◌, inl, inr, true, false, length, refl, sym, arith, ℕ, ap}
 use Rattle.std.proofs.lemmas.Bool.{false_from_ne_true}
 use Rattle.vx_disk.specs.Shelf.{Written}
 use Rattle.vx_group.specs.Holding.{wide}

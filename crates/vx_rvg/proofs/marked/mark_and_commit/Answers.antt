@@ -102,7 +102,7 @@ pub returns-clause-stands : goal.returns-clause-stands
 returns-clause-stands g c =
     let kept = maps_kept c.commit.result c.mark_named.new.core c.commit.new.core c.args.vol c.args.start c.args.bytes.now (g.S.Shelf.meaning c.mark_named.new.shelf) (g.S.Shelf.meaning c.commit.new.shelf) c.commit.ensures.writes in
     on_ok_weaker c.commit.result
-    (λ stand h stands. subst (λ (d : Maps). Stands c.commit.new.core (with_writes ((record { volume = c.args.vol; start = c.args.start; bytes = c.args.bytes.now }) ∷ []) (with_marks d h)) (g.S.Shelf.meaning c.commit.new.shelf)) (sym kept) (stand (with_marks c.mark_named.new.core.maps h) ((remarks_alone c.args.core.now c.mark_named.new.core (g.S.Shelf.meaning c.args.shelf.now) (g.S.Shelf.meaning c.mark_named.new.shelf) c.in_default.ensures.stands).each h stands)))
+    (λ stand h stands all. subst (λ (d : Maps). Stands c.commit.new.core (with_writes ((record { volume = c.args.vol; start = c.args.start; bytes = c.args.bytes.now }) ∷ []) (with_marks d h)) (g.S.Shelf.meaning c.commit.new.shelf)) (sym kept) (stand (with_marks c.mark_named.new.core.maps h) ((remarks_alone c.args.core.now c.mark_named.new.core (g.S.Shelf.meaning c.args.shelf.now) (g.S.Shelf.meaning c.mark_named.new.shelf) c.in_default.ensures.stands).each h stands all)))
     c.commit.ensures.stands
 
 pub returns-clause-marked : goal.returns-clause-marked

@@ -11,7 +11,8 @@ use Rattle.vx_site_lines.proofs.read.fetch.Goals.{then-count-eq0-via-then-count-
 use Rattle.vx_diskset.specs.Asked.{LeavesAlone}
 use Rattle.vx_diskset.specs.Holds.{beside_of}
 use Rattle.vx_site_lines.proofs.FetchLine.{fetch_stops, fetching}
-use Rattle.vx_yard.proofs.NamedSite.{asks_at}
+use Rattle.vx_yard.proofs.NamedSite.{asks_at, place_at}
+use Rattle.vx_yard.proofs.RawSites.{raw_named}
 use Rattle.vx_site_lines.proofs.read.fetch.Goals as goal
 
 pub site_of-site-requires-clause-named : goal.site_of-site-requires-clause-named
@@ -46,7 +47,8 @@ returns-in-Ok-clause-leads g c = λ d line stands apart is free origin.
     let read = fetching d y c.args.name.now c.args.volume.now c.args.start c.args.count c.site_of-site.result c.volume_of-place.result c.index_mut.result.now stands apart may seat disk_set c.volume_of-place.ensures.place in
     let there = stands.disk_sets.sites c.site_of-site.result c.index_mut.result.now read.seat.below disk_set in
     fetched_leads d y _ c.args.name.now c.args.volume.now c.args.start c.args.count c.site_of-site.result c.volume_of-place.result c.index_mut.result.now c.blocks_of.new.disk_set stands read
-    (record { there = disk_set; later = c.in-Ok.ensures.later; disk_sets = refl; racks = refl }) c.in-Ok.ensures.still c.in-Ok.ensures.role refl (record { flight = refl; assemblies = refl; feeders = refl })
+    (record { there = disk_set; later = c.in-Ok.ensures.later; disk_sets = refl; racks = refl }) (c.in-Ok.ensures.still (raw_named d c.args.name.now c.site_of-site.result c.index_mut.result.now read.seat.number apart there))
+    c.in-Ok.ensures.role refl (record { flight = refl; assemblies = refl; feeders = refl })
     line c.in-Ok.blocks is free seat (origin c.site_of-site.result seat)
     (c.in-Ok.ensures.read (beside_of d c.site_of-site.result) (d.world.nodes c.site_of-site.result) there read.can)
 
@@ -59,16 +61,27 @@ returns-in-Err-clause-leads g c = λ d line stands apart is free origin.
     let read = fetching d y c.args.name.now c.args.volume.now c.args.start c.args.count c.site_of-site.result c.volume_of-place.result c.index_mut.result.now stands apart may seat disk_set c.volume_of-place.ensures.place in
     let there = stands.disk_sets.sites c.site_of-site.result c.index_mut.result.now read.seat.below disk_set in
     fetch_stops d line y _ c.args.name.now c.args.volume.now c.args.start c.args.count c.site_of-site.result c.volume_of-place.result c.in-Err.no c.index_mut.result.now c.blocks_of.new.disk_set is stands read
-    (record { there = disk_set; later = c.in-Err.ensures.later; disk_sets = refl; racks = refl }) c.in-Err.ensures.still c.in-Err.ensures.role
+    (record { there = disk_set; later = c.in-Err.ensures.later; disk_sets = refl; racks = refl }) (c.in-Err.ensures.still (raw_named d c.args.name.now c.site_of-site.result c.index_mut.result.now read.seat.number apart there))
+    c.in-Err.ensures.role
     (c.in-Err.ensures.read (beside_of d c.site_of-site.result) (d.world.nodes c.site_of-site.result) there read.can) refl
     (record { flight = refl; assemblies = refl; feeders = refl })
 
 pub returns-in-Ok-clause-asked : goal.returns-in-Ok-clause-asked
 returns-in-Ok-clause-asked g c = λ d stands apart.
-    asks_at LeavesAlone d c.args.yard.now _ c.args.name.now c.site_of-site.result c.index_mut.result.now c.blocks_of.new.disk_set stands c.site_of-site.ensures.seat
-    (get_at c.args.yard.now.disk_sets.items c.site_of-site.result c.index_mut.result.now c.site_of-site.ensures.disk_set c.index_mut.ensures.value) refl c.in-Ok.ensures.still
+    let y = c.args.yard.now in
+    let s = c.site_of-site.result in
+    let at = get_at y.disk_sets.items s c.index_mut.result.now c.site_of-site.ensures.disk_set c.index_mut.ensures.value in
+    let place = place_at d y c.args.name.now s stands c.site_of-site.ensures.seat in
+    let there = stands.disk_sets.sites s c.index_mut.result.now place.below at in
+    asks_at LeavesAlone d y _ c.args.name.now s c.index_mut.result.now c.blocks_of.new.disk_set stands c.site_of-site.ensures.seat at refl
+    (c.in-Ok.ensures.still (raw_named d c.args.name.now s c.index_mut.result.now place.number apart there))
 
 pub returns-in-Err-clause-asked : goal.returns-in-Err-clause-asked
 returns-in-Err-clause-asked g c = λ d stands apart.
-    asks_at LeavesAlone d c.args.yard.now _ c.args.name.now c.site_of-site.result c.index_mut.result.now c.blocks_of.new.disk_set stands c.site_of-site.ensures.seat
-    (get_at c.args.yard.now.disk_sets.items c.site_of-site.result c.index_mut.result.now c.site_of-site.ensures.disk_set c.index_mut.ensures.value) refl c.in-Err.ensures.still
+    let y = c.args.yard.now in
+    let s = c.site_of-site.result in
+    let at = get_at y.disk_sets.items s c.index_mut.result.now c.site_of-site.ensures.disk_set c.index_mut.ensures.value in
+    let place = place_at d y c.args.name.now s stands c.site_of-site.ensures.seat in
+    let there = stands.disk_sets.sites s c.index_mut.result.now place.below at in
+    asks_at LeavesAlone d y _ c.args.name.now s c.index_mut.result.now c.blocks_of.new.disk_set stands c.site_of-site.ensures.seat at refl
+    (c.in-Err.ensures.still (raw_named d c.args.name.now s c.index_mut.result.now place.number apart there))

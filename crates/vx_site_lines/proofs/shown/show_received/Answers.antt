@@ -7,7 +7,8 @@ use Rattle.vx_model.specs.Sites.{is_origin}
 use Rattle.vx_yard.proofs.ChangeSite.{told_before}
 use Rattle.vx_site_lines.proofs.FetchLine.{fetching}
 use Rattle.vx_yard.proofs.Lists.{get_at}
-use Rattle.vx_yard.proofs.NamedSite.{asks_at}
+use Rattle.vx_yard.proofs.NamedSite.{asks_at, place_at}
+use Rattle.vx_yard.proofs.RawSites.{raw_named}
 use Rattle.vx_site_lines.proofs.ReadLine.{may_read}
 use Rattle.vx_yard.proofs.Seats.{named_some, volume_there}
 use Rattle.vx_site_lines.proofs.ShownLine.{not_primary, shown_leads, shown_stops}
@@ -44,7 +45,7 @@ returns-in-Ok-clause-leads g c = λ d s stands apart seat receives.
     let read = fetching d y c.args.name.now c.args.volume.now c.args.start c.args.count t c.volume_of-place.result before stands apart may c.site_of-site.ensures.seat disk_set c.volume_of-place.ensures.place in
     let there = stands.disk_sets.sites t before read.seat.below disk_set in
     let other = subst (λ i. is_origin (d.world.nodes i).role ≡ false) (some_same (sym seat ∙ c.site_of-site.ensures.seat)) receives in
-    shown_leads d y _ c.args.name.now c.args.volume.now c.args.start c.args.count t c.volume_of-place.result before after stands read (record { there = disk_set; later = c.in-Ok.ensures.later; disk_sets = refl; racks = refl }) c.in-Ok.ensures.still c.in-Ok.ensures.role refl
+    shown_leads d y _ c.args.name.now c.args.volume.now c.args.start c.args.count t c.volume_of-place.result before after stands read (record { there = disk_set; later = c.in-Ok.ensures.later; disk_sets = refl; racks = refl }) (c.in-Ok.ensures.still (raw_named d c.args.name.now t before read.seat.number apart there)) c.in-Ok.ensures.role refl
     (record { flight = refl; assemblies = refl; feeders = refl }) c.in-Ok.blocks (not_primary (d.world.nodes t).role other) (c.in-Ok.ensures.shows (beside_of d t) (d.world.nodes t) there read.can)
 
 pub returns-in-Err-clause-told : goal.returns-in-Err-clause-told
@@ -61,15 +62,25 @@ returns-in-Err-clause-leads g c = λ d s stands apart seat receives.
     let may = may_read y c.args.name.now c.args.volume.now c.args.start c.args.count (inr c.requires.free) in
     let read = fetching d y c.args.name.now c.args.volume.now c.args.start c.args.count t c.volume_of-place.result before stands apart may c.site_of-site.ensures.seat disk_set c.volume_of-place.ensures.place in
     let there = stands.disk_sets.sites t before read.seat.below disk_set in
-    shown_stops d y _ c.args.name.now c.args.volume.now c.args.start c.args.count t c.volume_of-place.result before after stands read (record { there = disk_set; later = c.in-Err.ensures.later; disk_sets = refl; racks = refl }) c.in-Err.ensures.still c.in-Err.ensures.role refl
+    shown_stops d y _ c.args.name.now c.args.volume.now c.args.start c.args.count t c.volume_of-place.result before after stands read (record { there = disk_set; later = c.in-Err.ensures.later; disk_sets = refl; racks = refl }) (c.in-Err.ensures.still (raw_named d c.args.name.now t before read.seat.number apart there)) c.in-Err.ensures.role refl
     (record { flight = refl; assemblies = refl; feeders = refl }) c.in-Err.no (c.in-Err.ensures.shows (beside_of d t) (d.world.nodes t) there read.can)
 
 pub returns-in-Ok-clause-asked : goal.returns-in-Ok-clause-asked
 returns-in-Ok-clause-asked g c = λ d stands apart.
-    asks_at LeavesAlone d c.args.yard.now _ c.args.name.now c.site_of-site.result c.index_mut.result.now c.shown_of.new.disk_set stands c.site_of-site.ensures.seat
-    (get_at c.args.yard.now.disk_sets.items c.site_of-site.result c.index_mut.result.now c.site_of-site.ensures.disk_set c.index_mut.ensures.value) refl c.in-Ok.ensures.still
+    let y = c.args.yard.now in
+    let s = c.site_of-site.result in
+    let at = get_at y.disk_sets.items s c.index_mut.result.now c.site_of-site.ensures.disk_set c.index_mut.ensures.value in
+    let place = place_at d y c.args.name.now s stands c.site_of-site.ensures.seat in
+    let there = stands.disk_sets.sites s c.index_mut.result.now place.below at in
+    asks_at LeavesAlone d y _ c.args.name.now s c.index_mut.result.now c.shown_of.new.disk_set stands c.site_of-site.ensures.seat at refl
+    (c.in-Ok.ensures.still (raw_named d c.args.name.now s c.index_mut.result.now place.number apart there))
 
 pub returns-in-Err-clause-asked : goal.returns-in-Err-clause-asked
 returns-in-Err-clause-asked g c = λ d stands apart.
-    asks_at LeavesAlone d c.args.yard.now _ c.args.name.now c.site_of-site.result c.index_mut.result.now c.shown_of.new.disk_set stands c.site_of-site.ensures.seat
-    (get_at c.args.yard.now.disk_sets.items c.site_of-site.result c.index_mut.result.now c.site_of-site.ensures.disk_set c.index_mut.ensures.value) refl c.in-Err.ensures.still
+    let y = c.args.yard.now in
+    let s = c.site_of-site.result in
+    let at = get_at y.disk_sets.items s c.index_mut.result.now c.site_of-site.ensures.disk_set c.index_mut.ensures.value in
+    let place = place_at d y c.args.name.now s stands c.site_of-site.ensures.seat in
+    let there = stands.disk_sets.sites s c.index_mut.result.now place.below at in
+    asks_at LeavesAlone d y _ c.args.name.now s c.index_mut.result.now c.shown_of.new.disk_set stands c.site_of-site.ensures.seat at refl
+    (c.in-Err.ensures.still (raw_named d c.args.name.now s c.index_mut.result.now place.number apart there))

@@ -7,6 +7,7 @@ use Rattle.vx_yard.specs.Standing.{Leads}
 use Rattle.vx_yard.specs.Working.{IsFree}
 use Rattle.vx_yard.specs.Writes.IsWriteLine.{OfPut}
 use Rattle.vx_yard.proofs.OfSites.{bytes_as, writes_keep}
+use Rattle.vx_yard.proofs.RawSites.{ungrouped_at}
 use Rattle.vx_site_lines.proofs.Apart.{writes_alone}
 use Rattle.vx_site_lines.proofs.write.put_line.Goals as goal
 
@@ -18,16 +19,18 @@ write_blocks-requires-clause-free g c = λ κs within. (
 )
 
 pub returns-clause-leads : goal.returns-clause-leads
-returns-clause-leads g c = λ d stands apart.
+returns-clause-leads g c = λ d stands apart off.
     subst (λ (bs : List ℕ). Leads d (PutLine c.args.name.now c.args.volume.now c.args.start bs) c.write_blocks.result c.args.yard.now c.write_blocks.new.yard) c.as_bytes.ensures.bytes
-    (c.write_blocks.ensures.leads d (PutLine c.args.name.now c.args.volume.now c.args.start c.as_bytes.result.now) stands apart
+    (c.write_blocks.ensures.leads d (PutLine c.args.name.now c.args.volume.now c.args.start c.as_bytes.result.now) stands (ungrouped_at d.world c.args.name.now apart off)
     (OfPut refl (ap (λ (bs : List ℕ). length bs) c.as_bytes.ensures.bytes ∙ c.as_bytes.ensures.whole))
     (subst (λ (bs : List ℕ). IsFree c.args.yard.now (PutLine c.args.name.now c.args.volume.now c.args.start bs)) (sym c.as_bytes.ensures.bytes) c.requires.free))
 
 pub returns-clause-called : goal.returns-clause-called
-returns-clause-called g c = λ d stands apart.
+returns-clause-called g c = λ d stands apart off.
     writes_alone (over_group_at d.world c.args.name.now) (site_number d.world c.args.name.now) c.args.bytes.now c.write_blocks.result c.args.yard.now _ apart
-    (bytes_as c.as_bytes.result.now c.args.bytes.now c.write_blocks.result _ c.args.yard.now _ c.as_bytes.ensures.bytes (c.write_blocks.ensures.called d stands apart))
+    (bytes_as c.as_bytes.result.now c.args.bytes.now c.write_blocks.result _ c.args.yard.now _ c.as_bytes.ensures.bytes
+    (c.write_blocks.ensures.called d stands (ungrouped_at d.world c.args.name.now apart off)))
 
 pub returns-clause-asked : goal.returns-clause-asked
-returns-clause-asked g c = λ d stands apart. writes_keep c.as_bytes.result.now c.write_blocks.result _ c.args.yard.now _ (c.write_blocks.ensures.called d stands apart)
+returns-clause-asked g c = λ d stands apart off.
+    writes_keep c.as_bytes.result.now c.write_blocks.result _ c.args.yard.now _ (c.write_blocks.ensures.called d stands (ungrouped_at d.world c.args.name.now apart off))

@@ -10,6 +10,7 @@ use Rattle.vx_linked.specs.Holds.{awaits_one}
 use Rattle.vx_yard.proofs.ChangeSite.{told_before}
 use Rattle.vx_yard.proofs.Lists.{get_at}
 use Rattle.vx_yard.proofs.NamedSite.{asks_at, place_at}
+use Rattle.vx_yard.proofs.RawSites.{raw_named}
 use Rattle.vx_yard.proofs.Seats.{named_some, volume_there}
 use Rattle.vx_site_lines.proofs.WriteLinks.{answers_under, next_after, room_as, write_leads, write_stops}
 use Rattle.vx_site_lines.proofs.WriteTests.{may_write, writing}
@@ -40,7 +41,7 @@ returns-in-Ok-clause-leads g c = λ d line stands apart is free.
     c.in-Ok.number c.note_written.result c.index_mut-in-Ok.result.now c.note_written.new.facts
     (c.in-Ok.ensures.wrote (beside_of d s) (d.world.nodes s) there to.can
     (room_as d y c.args.name.now c.args.volume.now c.args.start c.args.bytes.now s c.volume_of-place.result c.index_mut.result.now c.index-2.result.now c.hold_of_site-hold.result stands to at f c.hold_of_site-hold.ensures.hold))
-    (c.in-Ok.ensures.called (beside_of d s) (d.world.nodes s) there) c.note_written.ensures.said now c.note_written.ensures.noted refl (record { flight = refl; assemblies = refl; feeders = refl })
+    (c.in-Ok.ensures.called (beside_of d s) (d.world.nodes s) there (raw_named d c.args.name.now s c.index_mut.result.now to.seat.number apart there)) c.note_written.ensures.said now c.note_written.ensures.noted refl (record { flight = refl; assemblies = refl; feeders = refl })
 
 pub returns-in-Err-clause-leads : goal.returns-in-Err-clause-leads
 returns-in-Err-clause-leads g c = λ d line stands apart is free.
@@ -59,7 +60,7 @@ returns-in-Err-clause-leads g c = λ d line stands apart is free.
     (c.in-Err.ensures.blames (beside_of d s) (d.world.nodes s) there)
     (c.in-Err.ensures.wrote (beside_of d s) (d.world.nodes s) there to.can
     (room_as d y c.args.name.now c.args.volume.now c.args.start c.args.bytes.now s c.volume_of-place.result c.index_mut.result.now c.index-2.result.now c.hold_of_site-hold.result stands to at f c.hold_of_site-hold.ensures.hold))
-    (c.in-Err.ensures.called (beside_of d s) (d.world.nodes s) there) c.note_unwritten.ensures.said
+    (c.in-Err.ensures.called (beside_of d s) (d.world.nodes s) there (raw_named d c.args.name.now s c.index_mut.result.now to.seat.number apart there)) c.note_unwritten.ensures.said
     (λ free. next_after c.last.result c.saturating_add-next.result (d.world.nodes s).safe (c.last.ensures.is (beside_of d s) (d.world.nodes s) (stands.disk_sets.sites s c.index.result.now to.seat.below first) to.can.up to.can.running) free c.saturating_add-next.ensures)
     now c.note_unwritten.ensures.noted refl (record { flight = refl; assemblies = c.let_go_if_down.ensures; feeders = refl })
 
@@ -77,10 +78,12 @@ returns-in-Ok-clause-called g c = λ d stands apart.
     let s = c.site_of-site.result in
     let seat : seat_of y.facts.items c.args.name.now ≡ Some c.site_of-site.result = c.site_of-site.ensures.seat in
     let at = get_at y.disk_sets.items s c.index_mut.result.now c.site_of-site.ensures.disk_set c.index_mut.ensures.value in
-    let there = stands.disk_sets.sites s c.index_mut.result.now (place_at d y c.args.name.now s stands seat).below at in
+    let place = place_at d y c.args.name.now s stands seat in
+    let there = stands.disk_sets.sites s c.index_mut.result.now place.below at in
+    let raw = raw_named d c.args.name.now s c.index_mut.result.now place.number apart there in
     asks_at (WritesUnder c.args.bytes.now c.note_written.result) d y _ c.args.name.now s c.index_mut.result.now c.write_keeping.new.self stands seat at refl
     (subst (λ (r : Said). WritesUnder c.args.bytes.now r c.index_mut.result.now c.write_keeping.new.self) (sym c.note_written.ensures.said)
-    (answers_under (awaits_one c.index_mut-in-Ok.result.now) c.in-Ok.number c.args.bytes.now c.index_mut.result.now c.write_keeping.new.self (c.in-Ok.ensures.called (beside_of d s) (d.world.nodes s) there)))
+    (answers_under (awaits_one c.index_mut-in-Ok.result.now) c.in-Ok.number c.args.bytes.now c.index_mut.result.now c.write_keeping.new.self (c.in-Ok.ensures.called (beside_of d s) (d.world.nodes s) there raw)))
 
 pub returns-in-Err-clause-called : goal.returns-in-Err-clause-called
 returns-in-Err-clause-called g c = λ d stands apart.
@@ -88,6 +91,8 @@ returns-in-Err-clause-called g c = λ d stands apart.
     let s = c.site_of-site.result in
     let seat : seat_of y.facts.items c.args.name.now ≡ Some c.site_of-site.result = c.site_of-site.ensures.seat in
     let at = get_at y.disk_sets.items s c.index_mut.result.now c.site_of-site.ensures.disk_set c.index_mut.ensures.value in
-    let there = stands.disk_sets.sites s c.index_mut.result.now (place_at d y c.args.name.now s stands seat).below at in
+    let place = place_at d y c.args.name.now s stands seat in
+    let there = stands.disk_sets.sites s c.index_mut.result.now place.below at in
+    let raw = raw_named d c.args.name.now s c.index_mut.result.now place.number apart there in
     asks_at (WritesUnder c.args.bytes.now c.note_unwritten.result) d y _ c.args.name.now s c.index_mut.result.now c.write_keeping.new.self stands seat at refl
-    (subst (λ (r : Said). WritesUnder c.args.bytes.now r c.index_mut.result.now c.write_keeping.new.self) (sym c.note_unwritten.ensures.said) (c.in-Err.ensures.called (beside_of d s) (d.world.nodes s) there))
+    (subst (λ (r : Said). WritesUnder c.args.bytes.now r c.index_mut.result.now c.write_keeping.new.self) (sym c.note_unwritten.ensures.said) (c.in-Err.ensures.called (beside_of d s) (d.world.nodes s) there raw))

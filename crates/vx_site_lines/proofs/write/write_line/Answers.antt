@@ -9,6 +9,7 @@ use Rattle.vx_yard.specs.Writes.IsWriteLine.{OfWrite}
 use Rattle.vx_yard.specs.Yards.{in_files}
 use Rattle.vx_site_lines.proofs.write.write_line.Goals.{then-count-lt1-via-then-count-lt1, then-count-lt1-via-else-count-lt1+then-count-gt-MOST_CALL_BLOCKS}
 use Rattle.vx_yard.proofs.OfSites.{bytes_as, writes_keep}
+use Rattle.vx_yard.proofs.RawSites.{ungrouped_at}
 use Rattle.vx_site_lines.proofs.Apart.{writes_alone}
 use Rattle.vx_site_lines.proofs.write.write_line.Goals as goal
 
@@ -31,15 +32,16 @@ write_blocks-requires-clause-free g c = λ κs within. (
 )
 
 pub returns-clause-leads : goal.returns-clause-leads
-returns-clause-leads g c = λ d stands apart.
-    c.write_blocks.ensures.leads d (WriteLine c.args.name.now c.args.volume.now c.args.start c.args.count c.args.fill) stands apart
+returns-clause-leads g c = λ d stands apart off.
+    c.write_blocks.ensures.leads d (WriteLine c.args.name.now c.args.volume.now c.args.start c.args.count c.args.fill) stands (ungrouped_at d.world c.args.name.now apart off)
     (OfWrite c.args.count c.args.fill refl (c.requires.bytes ∙ ap (λ (n : ℕ). replicate (512 * n) c.args.fill) (few_blocks c.args.count (omega (arith, c.if-count-lt1.false))))) c.requires.free
 
 pub returns-clause-called : goal.returns-clause-called
-returns-clause-called g c = λ d stands apart.
+returns-clause-called g c = λ d stands apart off.
     writes_alone (over_group_at d.world c.args.name.now) (site_number d.world c.args.name.now) (replicate (512 * c.args.count) c.args.fill) c.write_blocks.result c.args.yard.now _ apart
     (bytes_as c.args.bytes.now (replicate (512 * c.args.count) c.args.fill) c.write_blocks.result _ c.args.yard.now _
-    (c.requires.bytes ∙ ap (λ (n : ℕ). replicate (512 * n) c.args.fill) (few_blocks c.args.count (omega (arith, c.if-count-lt1.false)))) (c.write_blocks.ensures.called d stands apart))
+    (c.requires.bytes ∙ ap (λ (n : ℕ). replicate (512 * n) c.args.fill) (few_blocks c.args.count (omega (arith, c.if-count-lt1.false)))) (c.write_blocks.ensures.called d stands (ungrouped_at d.world c.args.name.now apart off)))
 
 pub returns-clause-asked : goal.returns-clause-asked
-returns-clause-asked g c = λ d stands apart. writes_keep c.args.bytes.now c.write_blocks.result _ c.args.yard.now _ (c.write_blocks.ensures.called d stands apart)
+returns-clause-asked g c = λ d stands apart off.
+    writes_keep c.args.bytes.now c.write_blocks.result _ c.args.yard.now _ (c.write_blocks.ensures.called d stands (ungrouped_at d.world c.args.name.now apart off))

@@ -1,12 +1,18 @@
 -- An apply of what waits, before the crash.
-use Rattle.std.proofs.Common.{◌∙◌, ℕ, ap, sym, arith}
+use Rattle.std.proofs.Common.{◌∙◌, ℕ, ap, sym, arith, subst}
 use Rattle.std.specs.Prelude.{min}
 use Rattle.vx_diskset.proofs.Blamed.{blamed_receiver}
 use Rattle.vx_diskset.proofs.Reaching.{reached_full, reached_idle, reached_none_up, reached_up}
 use Rattle.vx_rvg.specs.Groups.{has_numbers}
-use Rattle.vx_diskset.specs.Received.{reached_by}
+use Rattle.vx_diskset.specs.Received.{reached_by, ReachedUp}
 use Rattle.vx_diskset.proofs.HeadCalls.{called_received, reached_called}
+use Rattle.vx_diskset.specs.Asked.{IsRawSet}
 use Rattle.vx_diskset.proofs.LeavesNumbers.{has_them}
+use Rattle.vx_diskset.specs.Noted.{OversCalled}
+use Rattle.vx_diskset.specs.declared.disk_set.DiskSet.TheVariants.{Over}
+use Rattle.vx_diskset.specs.Stands.{SiteStands}
+use Rattle.vx_diskset.proofs.OverCalled.{blamed_over, over_later, over_role}
+use Rattle.vx_diskset.proofs.OverNoted.{overs_raw}
 use Rattle.vx_diskset.proofs.disk_set.DiskSet.apply_received.Goals as goal
 
 pub returns-in-Up-clause-applied : goal.returns-in-Up-clause-applied
@@ -38,9 +44,45 @@ apply_oldest-requires-clause-numbers g c κs within =
     has_them c.in-Receives.site.rvg.core c.min-few.result (ap (λ (k : ℕ). has_numbers c.in-Receives.site.rvg.core k) (sym c.from-in-Receives.ensures) ∙ sym c.has_numbers.ensures ∙ c.if-not-has_numbers.false)
 
 pub returns-else-not-has_numbers-clause-called : goal.returns-else-not-has_numbers-clause-called
-returns-else-not-has_numbers-clause-called g c = λ beside n stands.
+returns-else-not-has_numbers-clause-called g c = λ beside n stands raw.
     called_received (reached_by c.apply_oldest.result) beside n c.args.self.now c.in-Receives.site _ c.in-Receives.is stands
     (λ up. reached_called c.apply_oldest.result c.in-Receives.site.rvg c.apply_oldest.new.rvg up (c.apply_oldest.ensures.off up) c.apply_oldest.ensures.spends)
 
 pub returns-else-not-has_numbers-clause-blames : goal.returns-else-not-has_numbers-clause-blames
-returns-else-not-has_numbers-clause-blames g c = λ beside n stands. blamed_receiver c.apply_oldest.result beside n c.args.self.now c.in-Receives.site c.in-Receives.is stands c.apply_oldest.ensures.blames
+returns-else-not-has_numbers-clause-blames g c = λ beside n stands.
+    let is_rack = (g.met.R.Rack g.world.𝓛 g.world.𝓜 g.world.𝓡 ((λ s x. x), (λ x. x), (λ x. x), λ x. x)).rack in
+    blamed_receiver c.apply_oldest.result beside n c.args.self.now c.in-Receives.site c.in-Receives.is stands (is_rack c.in-Receives.site.rvg.shelf) c.apply_oldest.ensures.blames
+
+pub returns-in-Over-clause-called : goal.returns-in-Over-clause-called
+returns-in-Over-clause-called g c = λ beside n stands raw. absurd (subst (λ e. IsRawSet e) c.in-Over.is raw)
+
+pub returns-in-Up-clause-overs : goal.returns-in-Up-clause-overs
+returns-in-Up-clause-overs g c = overs_raw c.args.self.now _ _ (subst (λ e. IsRawSet e) (sym c.in-Up.is) tt)
+
+pub returns-then-few-eq0-clause-overs : goal.returns-then-few-eq0-clause-overs
+returns-then-few-eq0-clause-overs g c = overs_raw c.args.self.now _ _ (subst (λ e. IsRawSet e) (sym c.in-Receives.is) tt)
+
+pub returns-then-not-has_numbers-clause-overs : goal.returns-then-not-has_numbers-clause-overs
+returns-then-not-has_numbers-clause-overs g c = overs_raw c.args.self.now _ _ (subst (λ e. IsRawSet e) (sym c.in-Receives.is) tt)
+
+pub returns-else-not-has_numbers-clause-overs : goal.returns-else-not-has_numbers-clause-overs
+returns-else-not-has_numbers-clause-overs g c = overs_raw c.args.self.now _ _ (subst (λ e. IsRawSet e) (sym c.in-Receives.is) tt)
+
+pub returns-in-Over-clause-overs : goal.returns-in-Over-clause-overs
+returns-in-Over-clause-overs g c = subst (λ e. OversCalled e (Over c.apply_waiting.new.self) c.apply_waiting.result) (sym c.in-Over.is) (c.apply_waiting.ensures.called, c.apply_waiting.ensures.off)
+
+pub returns-in-Over-clause-applied : goal.returns-in-Over-clause-applied
+returns-in-Over-clause-applied g c = λ beside n stands can.
+    subst (λ e. ReachedUp beside n c.args.count e (Over c.apply_waiting.new.self) c.apply_waiting.result) (sym c.in-Over.is) (c.apply_waiting.ensures.applied beside n (subst (λ e. SiteStands beside n e) c.in-Over.is stands) can)
+
+pub returns-in-Over-clause-brought : goal.returns-in-Over-clause-brought
+returns-in-Over-clause-brought g c = λ beside n stands can. c.apply_waiting.ensures.brought beside n (subst (λ e. SiteStands beside n e) c.in-Over.is stands) can
+
+pub returns-in-Over-clause-role : goal.returns-in-Over-clause-role
+returns-in-Over-clause-role g c = over_role c.args.self.now c.in-Over.over c.apply_waiting.new.self c.in-Over.is c.apply_waiting.ensures.called
+
+pub returns-in-Over-clause-later : goal.returns-in-Over-clause-later
+returns-in-Over-clause-later g c = over_later c.args.self.now c.in-Over.over c.apply_waiting.new.self c.in-Over.is c.apply_waiting.ensures.called
+
+pub returns-in-Over-clause-blames : goal.returns-in-Over-clause-blames
+returns-in-Over-clause-blames g c = λ beside n stands. blamed_over c.apply_waiting.result n (subst (λ e. SiteStands beside n e) c.in-Over.is stands).0.0

@@ -2,10 +2,13 @@
 use Rattle.std.proofs.Common.{◌∙◌, ap, subst, sym}
 use Rattle.vx_grouped.specs.GroupSites.{UpNoted}
 use Rattle.vx_grouped.specs.SiteEnds.{SiteDeported}
+use Rattle.vx_diskset.specs.Aboves.{site_in}
 use Rattle.vx_diskset.specs.Asked.{FuseGoesOn, SameFailing}
 use Rattle.vx_diskset.proofs.KeepsFailing.{failing_same}
 use Rattle.vx_diskset.specs.GroupCalls.{CalledOn, cut_in}
-use Rattle.vx_diskset.specs.declared.disk_set.DiskSet.TheVariants.{OfGroup}
+use Rattle.vx_diskset.specs.declared.disk_set.DiskSet.TheVariants.{OfGroup, Over}
+use Rattle.vx_diskset.specs.GroupSets.{cut_value}
+use Rattle.vx_diskset.proofs.OverCalling.{at_overs, on_overs, plain_failing, plain_fuse, plain_later}
 use Rattle.vx_diskset.proofs.GroupCalling.{at_none, at_sites, called_rest, deported_settled, group_failing, group_fuse, group_later, on_sites}
 use Rattle.vx_grouped.specs.SiteMaps.{DeportMapped}
 use Rattle.vx_diskset.proofs.disk_set.DiskSet.deport_group.Goals as goal
@@ -32,13 +35,13 @@ pub returns-in-OfGroup-clause-since : goal.returns-in-OfGroup-clause-since
 returns-in-OfGroup-clause-since g c = subst (λ x. CalledOn x (OfGroup (record c.in-OfGroup.group { site = c.deport-site.result.0 }))) (sym (sym c.replace.ensures.value ∙ c.in-OfGroup.is)) c.deport-site.ensures.since
 
 pub returns-in_default-clause-deported : goal.returns-in_default-clause-deported
-returns-in_default-clause-deported g c = λ n note. at_none (UpNoted n note) _ c.args.self.now (λ o is. c.in_default.not-OfGroup o (c.replace.ensures.value ∙ is))
+returns-in_default-clause-deported g c = λ n note. at_none (UpNoted n note) _ c.args.self.now (λ o is. c.in_default.not-OfGroup o (c.replace.ensures.value ∙ is)) (λ o is. c.in_default.not-Over o (c.replace.ensures.value ∙ is))
 
 pub returns-in_default-clause-cut : goal.returns-in_default-clause-cut
 returns-in_default-clause-cut g c = ap (λ x. cut_in x) c.replace.ensures.value
 
 pub returns-in_default-clause-fuse : goal.returns-in_default-clause-fuse
-returns-in_default-clause-fuse g c = λ n note. at_none (UpNoted n note) _ c.args.self.now (λ o is. c.in_default.not-OfGroup o (c.replace.ensures.value ∙ is))
+returns-in_default-clause-fuse g c = λ n note. at_none (UpNoted n note) _ c.args.self.now (λ o is. c.in_default.not-OfGroup o (c.replace.ensures.value ∙ is)) (λ o is. c.in_default.not-Over o (c.replace.ensures.value ∙ is))
 
 pub returns-in_default-clause-failing : goal.returns-in_default-clause-failing
 returns-in_default-clause-failing g c = subst (λ x. SameFailing c.args.self.now x) (sym c.replace.ensures.value) (failing_same c.args.self.now)
@@ -50,4 +53,28 @@ pub returns-in-OfGroup-clause-maps : goal.returns-in-OfGroup-clause-maps
 returns-in-OfGroup-clause-maps g c = λ n note. on_sites (UpNoted n note) (λ o e. DeportMapped o e c.deport-site.result.1) c.args.self.now c.in-OfGroup.group (record c.in-OfGroup.group { site = c.deport-site.result.0 }) (sym c.replace.ensures.value ∙ c.in-OfGroup.is) (c.deport-site.ensures.maps n note)
 
 pub returns-in_default-clause-maps : goal.returns-in_default-clause-maps
-returns-in_default-clause-maps g c = λ n note. at_none (UpNoted n note) _ c.args.self.now (λ o is. c.in_default.not-OfGroup o (c.replace.ensures.value ∙ is))
+returns-in_default-clause-maps g c = λ n note. at_none (UpNoted n note) _ c.args.self.now (λ o is. c.in_default.not-OfGroup o (c.replace.ensures.value ∙ is)) (λ o is. c.in_default.not-Over o (c.replace.ensures.value ∙ is))
+
+pub returns-in-Over-clause-deported : goal.returns-in-Over-clause-deported
+returns-in-Over-clause-deported g c = λ n note. on_overs (UpNoted n note) (λ o e. SiteDeported n note o e c.deport-answer.result) c.args.self.now c.in-Over.over c.deport-answer.new.self (sym c.replace.ensures.value ∙ c.in-Over.is) (c.deport-answer.ensures.deported n note)
+
+pub returns-in-Over-clause-maps : goal.returns-in-Over-clause-maps
+returns-in-Over-clause-maps g c = λ n note. on_overs (UpNoted n note) (λ o e. DeportMapped o e c.deport-answer.result) c.args.self.now c.in-Over.over c.deport-answer.new.self (sym c.replace.ensures.value ∙ c.in-Over.is) (c.deport-answer.ensures.maps n note)
+
+pub returns-in-Over-clause-cut : goal.returns-in-Over-clause-cut
+returns-in-Over-clause-cut g c = ap (λ x. cut_value x) c.deport-answer.ensures.cut ∙ sym (ap (λ x. cut_in x) (sym c.replace.ensures.value ∙ c.in-Over.is))
+
+pub returns-in-Over-clause-fuse : goal.returns-in-Over-clause-fuse
+returns-in-Over-clause-fuse g c = λ n note.
+    let is_rack = (g.met.R.Rack g.world.𝓛 g.world.𝓜 g.world.𝓡 ((λ s x. x), (λ x. x), (λ x. x), λ x. x)).rack in
+    at_overs (UpNoted n note) (FuseGoesOn c.args.self.now (Over c.deport-answer.new.self)) c.args.self.now c.in-Over.over (sym c.replace.ensures.value ∙ c.in-Over.is)
+    (λ it. plain_fuse c.args.self.now c.in-Over.over c.deport-answer.new.self (sym c.replace.ensures.value ∙ c.in-Over.is) c.deport-answer.ensures.since (deported_settled is_rack n note (site_in c.in-Over.over) (site_in c.deport-answer.new.self) c.deport-answer.result (c.deport-answer.ensures.deported n note it)))
+
+pub returns-in-Over-clause-failing : goal.returns-in-Over-clause-failing
+returns-in-Over-clause-failing g c = plain_failing c.args.self.now c.in-Over.over c.deport-answer.new.self (sym c.replace.ensures.value ∙ c.in-Over.is) c.deport-answer.ensures.since
+
+pub returns-in-Over-clause-later : goal.returns-in-Over-clause-later
+returns-in-Over-clause-later g c = plain_later c.args.self.now c.in-Over.over c.deport-answer.new.self (sym c.replace.ensures.value ∙ c.in-Over.is) c.deport-answer.ensures.since c.deport-answer.ensures.told
+
+pub returns-in-Over-clause-since : goal.returns-in-Over-clause-since
+returns-in-Over-clause-since g c = subst (λ x. CalledOn x (Over c.deport-answer.new.self)) (sym (sym c.replace.ensures.value ∙ c.in-Over.is)) c.deport-answer.ensures.since

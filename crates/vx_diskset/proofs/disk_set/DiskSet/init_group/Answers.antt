@@ -2,8 +2,8 @@
 use Rattle.std.proofs.Common.{ap, subst, sym}
 use Rattle.vx_grouped.specs.Begins.{BeginsGroup}
 use Rattle.vx_grouped.specs.GroupSites.{site_disks, site_below}
-use Rattle.vx_diskset.specs.GroupCalls.{AtSite, bare_disks}
-use Rattle.vx_diskset.specs.Stands.{SiteStands, IsToldAt}
+use Rattle.vx_diskset.specs.GroupCalls.{bare_disks, AtPlain}
+use Rattle.vx_diskset.specs.Stands.{SiteStands, IsRackTold}
 use Rattle.vx_diskset.proofs.GroupBegun.{begin_bare, begin_failing, begin_fuse, begin_later, begin_settled, begun_stays, marked_at, marked_bare, marked_can}
 use Rattle.vx_diskset.proofs.GroupCalling.{has_bare, has_group, has_spoiled, told_before}
 use Rattle.vx_diskset.proofs.disk_set.DiskSet.init_group.Goals as goal
@@ -11,7 +11,7 @@ use Rattle.vx_diskset.proofs.disk_set.DiskSet.init_group.Goals as goal
 pub returns-in-Bare-clause-begun : goal.returns-in-Bare-clause-begun
 returns-in-Bare-clause-begun g c = λ beside n stands state some large.
     let it = subst (λ e. SiteStands beside n e) c.in-Bare.is stands in
-    (subst (λ m. AtSite (λ e. BeginsGroup c.args.site n m e c.begin_on.result.1) c.begin_on.result.0) (sym (ap (λ x. bare_disks x) c.in-Bare.is)) (c.begin_on.ensures.begun n (begin_bare n (g.R.Shelf.meaning c.in-Bare.rack) it.bare state some large)), c.begin_on.ensures.cut)
+    (subst (λ m. AtPlain (λ e. BeginsGroup c.args.site n m e c.begin_on.result.1) c.begin_on.result.0) (sym (ap (λ x. bare_disks x) c.in-Bare.is)) (c.begin_on.ensures.begun n (begin_bare n (g.R.Shelf.meaning c.in-Bare.rack) it.bare state some large)), c.begin_on.ensures.cut)
 
 pub returns-in-Bare-clause-stays : goal.returns-in-Bare-clause-stays
 returns-in-Bare-clause-stays g c = λ beside n stands state some large.
@@ -28,12 +28,12 @@ pub returns-in-Bare-clause-failing : goal.returns-in-Bare-clause-failing
 returns-in-Bare-clause-failing g c = begin_failing c.args.self c.begin_on.result.0 (g.R.Shelf.meaning c.in-Bare.rack) (has_bare c.args.self c.in-Bare.rack c.in-Bare.is) c.begin_on.ensures.since
 
 pub returns-in-Bare-clause-later : goal.returns-in-Bare-clause-later
-returns-in-Bare-clause-later g c = begin_later c.args.self c.begin_on.result.0 (g.R.Shelf.meaning c.in-Bare.rack) (has_bare c.args.self c.in-Bare.rack c.in-Bare.is) c.begin_on.ensures.since (g.R.Shelf.meaning c.in-Bare.rack) (λ told. subst (λ e. IsToldAt e) (sym c.in-Bare.is) told) c.begin_on.ensures.told
+returns-in-Bare-clause-later g c = begin_later c.args.self c.begin_on.result.0 (g.R.Shelf.meaning c.in-Bare.rack) (has_bare c.args.self c.in-Bare.rack c.in-Bare.is) c.begin_on.ensures.since (g.R.Shelf.meaning c.in-Bare.rack) (λ told. subst (λ e. IsRackTold e) (sym c.in-Bare.is) told) c.begin_on.ensures.told
 
 pub returns-in-Spoiled-clause-begun : goal.returns-in-Spoiled-clause-begun
 returns-in-Spoiled-clause-begun g c = λ beside n stands state some large.
     let it = subst (λ e. SiteStands beside n e) c.in-Spoiled.is stands in
-    (subst (λ m. AtSite (λ e. BeginsGroup c.args.site n m e c.begin_on-in-Spoiled.result.1) c.begin_on-in-Spoiled.result.0) (sym (ap (λ x. bare_disks x) c.in-Spoiled.is)) (c.begin_on-in-Spoiled.ensures.begun n (begin_bare n (g.R.Shelf.meaning c.in-Spoiled.rack) it state some large)), c.begin_on-in-Spoiled.ensures.cut)
+    (subst (λ m. AtPlain (λ e. BeginsGroup c.args.site n m e c.begin_on-in-Spoiled.result.1) c.begin_on-in-Spoiled.result.0) (sym (ap (λ x. bare_disks x) c.in-Spoiled.is)) (c.begin_on-in-Spoiled.ensures.begun n (begin_bare n (g.R.Shelf.meaning c.in-Spoiled.rack) it state some large)), c.begin_on-in-Spoiled.ensures.cut)
 
 pub returns-in-Spoiled-clause-stays : goal.returns-in-Spoiled-clause-stays
 returns-in-Spoiled-clause-stays g c = λ beside n stands state some large.
@@ -50,13 +50,13 @@ pub returns-in-Spoiled-clause-failing : goal.returns-in-Spoiled-clause-failing
 returns-in-Spoiled-clause-failing g c = begin_failing c.args.self c.begin_on-in-Spoiled.result.0 (g.R.Shelf.meaning c.in-Spoiled.rack) (has_spoiled c.args.self c.in-Spoiled.rack c.in-Spoiled.is) c.begin_on-in-Spoiled.ensures.since
 
 pub returns-in-Spoiled-clause-later : goal.returns-in-Spoiled-clause-later
-returns-in-Spoiled-clause-later g c = begin_later c.args.self c.begin_on-in-Spoiled.result.0 (g.R.Shelf.meaning c.in-Spoiled.rack) (has_spoiled c.args.self c.in-Spoiled.rack c.in-Spoiled.is) c.begin_on-in-Spoiled.ensures.since (g.R.Shelf.meaning c.in-Spoiled.rack) (λ told. subst (λ e. IsToldAt e) (sym c.in-Spoiled.is) told) c.begin_on-in-Spoiled.ensures.told
+returns-in-Spoiled-clause-later g c = begin_later c.args.self c.begin_on-in-Spoiled.result.0 (g.R.Shelf.meaning c.in-Spoiled.rack) (has_spoiled c.args.self c.in-Spoiled.rack c.in-Spoiled.is) c.begin_on-in-Spoiled.ensures.since (g.R.Shelf.meaning c.in-Spoiled.rack) (λ told. subst (λ e. IsRackTold e) (sym c.in-Spoiled.is) told) c.begin_on-in-Spoiled.ensures.told
 
 pub returns-in-OfGroup-clause-begun : goal.returns-in-OfGroup-clause-begun
 returns-in-OfGroup-clause-begun g c = λ beside n stands state some large.
     let it = marked_at beside n c.args.self c.in-OfGroup.group c.in-OfGroup.is stands in
     let begun = c.begin_again.ensures.begun n it.stands state (marked_can n c.in-OfGroup.group.site it.stands state it.few some large) in
-    (subst (λ m. AtSite (λ e. BeginsGroup c.args.site n m e c.begin_again.result.1) c.begin_again.result.0) (sym (marked_bare c.args.self c.in-OfGroup.group c.in-OfGroup.is)) begun.0, begun.1)
+    (subst (λ m. AtPlain (λ e. BeginsGroup c.args.site n m e c.begin_again.result.1) c.begin_again.result.0) (sym (marked_bare c.args.self c.in-OfGroup.group c.in-OfGroup.is)) begun.0, begun.1)
 
 pub returns-in-OfGroup-clause-stays : goal.returns-in-OfGroup-clause-stays
 returns-in-OfGroup-clause-stays g c = λ beside n stands state some large.

@@ -13,7 +13,7 @@ returns-in-Bare-clause-found g c = λ beside n stands state untold.
     let clean = subst (λ e. SiteStands beside n e) c.in-Bare.is stands in
     let later = subst (λ e. Later e c.find_on.result.0) (sym c.in-Bare.is) c.find_on.ensures.later in
     subst (λ e. FindsIs c.args.site n e c.find_on.result.0 c.find_on.result.1) (sym c.in-Bare.is)
-    (finds_is c.args.site n c.in-Bare.rack clean lawful c.find_on.result.0 c.find_on.result.1 (untold_later c.args.self c.find_on.result.0 later untold) (c.find_on.ensures.found n (find_can n (g.R.Shelf.meaning c.in-Bare.rack) clean state)))
+    (finds_is c.args.site n c.in-Bare.rack clean lawful c.find_on.result.0 c.find_on.result.1 (untold_later c.in-Bare.rack c.args.self c.find_on.result.0 c.in-Bare.is later untold) (c.find_on.ensures.found n (find_can n (g.R.Shelf.meaning c.in-Bare.rack) clean state)))
 
 pub returns-in-Bare-clause-failing : goal.returns-in-Bare-clause-failing
 returns-in-Bare-clause-failing g c = subst (λ e. SameFailing e c.find_on.result.0) (sym c.in-Bare.is) c.find_on.ensures.failing

@@ -2,10 +2,12 @@
 use Rattle.std.proofs.Common.{◌∙◌, refl, subst, sym}
 use Rattle.vx_grouped.specs.GroupSites.{CutNoted, UpNoted}
 use Rattle.vx_grouped.specs.SiteMaps.{StaysMapped}
+use Rattle.vx_grouped.specs.Volumes.{GoesOff}
 use Rattle.vx_grouped.specs.declared.group_site.GroupSite.TheVariants.{Down}
 use Rattle.vx_untold.specs.Shades.{shade_meaning, rack_of}
 use Rattle.vx_grouped.proofs.SiteLemmas.{down_noted}
 use Rattle.vx_grouped.proofs.TraceLemmas.{lit_since}
+use Rattle.vx_grouped.proofs.VolumeLemmas.{rest_off}
 use Rattle.vx_grouped.proofs.UpMapLemmas.{crash_up}
 use Rattle.vx_grouped.proofs.group_site.GroupSite.crash.Goals as goal
 
@@ -25,3 +27,9 @@ returns-in-Up-clause-cut g c = λ n note it.
 
 pub returns-in-Up-clause-maps : goal.returns-in-Up-clause-maps
 returns-in-Up-clause-maps g c = subst (λ e. StaysMapped e (Down c.crash.result)) (sym c.in-Up.is) (crash_up c.in-Up.group c.crash.result c.crash.ensures.maps c.crash.ensures.rests)
+
+pub returns-in-Up-clause-off : goal.returns-in-Up-clause-off
+returns-in-Up-clause-off g c = subst (λ e. GoesOff e (Down c.crash.result)) (sym c.in-Up.is) tt
+
+pub returns-in_default-clause-off : goal.returns-in_default-clause-off
+returns-in_default-clause-off g c = rest_off c.args.self (λ l is. c.in_default.not-Up l is)

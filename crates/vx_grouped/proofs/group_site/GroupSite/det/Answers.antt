@@ -4,6 +4,8 @@ use Rattle.std.specs.Prelude.{Some}
 use Rattle.vx_grouped.specs.GroupSites.{UpNoted}
 use Rattle.vx_grouped.specs.SiteEnds.{DetCalled, refuses_det}
 use Rattle.vx_grouped.proofs.SiteCarry.{others_as}
+use Rattle.vx_grouped.proofs.VolumeLemmas.{rest_goes, site_goes}
+use Rattle.vx_disk.specs.Moves.{Nowhere}
 use Rattle.vx_grouped.specs.SiteMaps.{DetMapped}
 use Rattle.vx_grouped.proofs.group_site.GroupSite.det.Goals as goal
 
@@ -22,3 +24,9 @@ pub returns-in-Up-clause-maps : goal.returns-in-Up-clause-maps
 returns-in-Up-clause-maps g c = λ n note it.
     subst (λ e. DetMapped c.args.vol c.args.plex e c.det_site-site.result.0 c.det_site-site.result.1) (sym (sym c.replace.ensures.value ∙ c.in-Up.is))
     (c.det_site-site.ensures.maps n note (subst (λ e. UpNoted n note e) (sym c.replace.ensures.value ∙ c.in-Up.is) it))
+
+pub returns-in-Up-clause-volumes : goal.returns-in-Up-clause-volumes
+returns-in-Up-clause-volumes g c = site_goes Nowhere c.args.self.now c.in-Up.group c.det_site-site.result.0 (sym c.replace.ensures.value ∙ c.in-Up.is) c.det_site-site.ensures.volumes
+
+pub returns-in_default-clause-volumes : goal.returns-in_default-clause-volumes
+returns-in_default-clause-volumes g c = rest_goes Nowhere c.args.self.now c.replace.result c.replace.ensures.value (λ l is. c.in_default.not-Up l is)

@@ -1,8 +1,12 @@
 -- `import`: a recovery, or an import of disks that were deported.
 use Rattle.std.proofs.Common.{subst, sym}
 use Rattle.vx_grouped.specs.GroupSites.{AwayNoted, DownNoted, site_below, site_disks}
-use Rattle.vx_grouped.specs.SiteReturns.{ReturnSince, SiteImports, SiteRecovers}
+use Rattle.vx_grouped.specs.SiteReturns.{ReturnSince, SiteImports, SiteRecovers, as_imported}
 use Rattle.vx_watched.specs.Traces.{TellsLess}
+use Rattle.vx_grouped.specs.Brings.{BringsAtSite}
+use Rattle.vx_grouped.proofs.ComeLemmas.{brings_refused, comes_away, comes_down, comes_refused}
+use Rattle.vx_model.specs.declared.errors.Stop.TheVariants.{No as Refused}
+use Rattle.vx_model.specs.declared.no.No.TheVariants.{Role}
 use Rattle.vx_grouped.specs.SiteMaps.{CameMapped}
 use Rattle.vx_grouped.proofs.group_site.GroupSite.import.Goals as goal
 
@@ -31,3 +35,21 @@ returns-in-Down-clause-maps g c = subst (λ e. CameMapped e c.recover_idle.resul
 
 pub returns-in-Deported-clause-maps : goal.returns-in-Deported-clause-maps
 returns-in-Deported-clause-maps g c = subst (λ e. CameMapped e c.import_idle.result.0 c.import_idle.result.1) (sym c.in-Deported.is) c.import_idle.ensures.maps
+
+pub returns-in-Down-clause-brings : goal.returns-in-Down-clause-brings
+returns-in-Down-clause-brings g c = subst (λ e. BringsAtSite (as_imported e) c.recover_idle.result.0 c.recover_idle.result.1) (sym c.in-Down.is) c.recover_idle.ensures.brings
+
+pub returns-in-Deported-clause-brings : goal.returns-in-Deported-clause-brings
+returns-in-Deported-clause-brings g c = subst (λ e. BringsAtSite (as_imported e) c.import_idle.result.0 c.import_idle.result.1) (sym c.in-Deported.is) c.import_idle.ensures.brings
+
+pub returns-in_default-clause-brings : goal.returns-in_default-clause-brings
+returns-in_default-clause-brings g c = brings_refused (as_imported c.args.self) c.args.self (Refused Role)
+
+pub returns-in-Down-clause-comes : goal.returns-in-Down-clause-comes
+returns-in-Down-clause-comes g c = comes_down c.args.self c.recover_idle.result.0 c.in-Down.idle c.recover_idle.result.1 c.recover_idle.ensures.comes c.in-Down.is
+
+pub returns-in-Deported-clause-comes : goal.returns-in-Deported-clause-comes
+returns-in-Deported-clause-comes g c = comes_away c.args.self c.import_idle.result.0 c.in-Deported.idle c.import_idle.result.1 c.import_idle.ensures.comes c.in-Deported.is
+
+pub returns-in_default-clause-comes : goal.returns-in_default-clause-comes
+returns-in_default-clause-comes g c = comes_refused c.args.self (Refused Role)

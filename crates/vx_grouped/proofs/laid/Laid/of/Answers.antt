@@ -7,4 +7,5 @@ pub invariant_of-result : goal.invariant_of-result
 invariant_of-result g c = record {
   stands = to_logged c.apart-shelf.result.1.core c.apart-shelf.result.1.logs.items c.apart-shelf.result.1.alike c.apart-shelf.result.1.stopped (shade_meaning g.R.Shelf.meaning c.apart-shelf.result.0) c.apart-shelf.ensures.stands;
   begins = c.apart-shelf.ensures.begins;
+  settles = c.apart-shelf.ensures.settles;
 }

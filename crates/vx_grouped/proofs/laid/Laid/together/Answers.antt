@@ -8,3 +8,6 @@ together-requires-clause-stands g c = from_logged c.args.self.core c.args.self.l
 
 pub together-requires-clause-begins : goal.together-requires-clause-begins
 together-requires-clause-begins g c = c.args.self.begins
+
+pub together-requires-clause-settles : goal.together-requires-clause-settles
+together-requires-clause-settles g c = c.args.self.settles

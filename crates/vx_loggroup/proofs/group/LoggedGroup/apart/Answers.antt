@@ -7,3 +7,6 @@ returns-clause-stands g c = from_logged c.args.self.core c.args.self.logs.items 
 
 pub returns-clause-begins : goal.returns-clause-begins
 returns-clause-begins g c = c.args.self.begins
+
+pub returns-clause-settles : goal.returns-clause-settles
+returns-clause-settles g c = c.args.self.settles

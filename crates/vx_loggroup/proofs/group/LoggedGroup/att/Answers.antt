@@ -1,5 +1,5 @@
 -- `att`: what `att_held` asks, and what stands then.
-use Rattle.std.proofs.Common.{◌≡◌, ◌∙◌, false, true, refl, sym}
+use Rattle.std.proofs.Common.{◌≡◌, ◌∙◌, false, true, refl, sym, length}
 use Rattle.vx_config.specs.declared.entry.VolumeLog.TheVariants.{Fmr}
 use Rattle.vx_loggroup.proofs.AttMoves.{att_begins, att_moves, attached_on, going_on}
 use Rattle.vx_loggroup.proofs.EndedLemmas.{maps_end}
@@ -9,13 +9,16 @@ use Rattle.vx_loggroup.proofs.FreshLemmas.{fresh_still}
 use Rattle.vx_loggroup.specs.Attaching.{leaves_maps, map_by, maps_gone}
 use Rattle.vx_loggroup.specs.LoggedVolumes.{is_alike}
 use Rattle.vx_loggroup.proofs.MirrorLemmas.{keep_att}
+use Rattle.vx_loggroup.proofs.SettledFacts.{settled_by, sure_next, volumes_few}
+use Rattle.vx_group.proofs.UnsureMarks.{same_unsure}
+use Rattle.vx_disk.specs.Shelf.{Nothing}
 use Rattle.vx_loggroup.proofs.group.LoggedGroup.att.Goals as goal
 
 pub att_held-requires : goal.att_held-requires
 att_held-requires g c = record { stands = from_logged c.args.self.now.core c.args.self.now.logs.items c.args.self.now.alike c.args.self.now.stopped (g.S.Shelf.meaning c.args.self.now.shelf) c.args.self.now.stands }
 
 pub invariant_of-self : goal.invariant_of-self
-invariant_of-self g c = record { stands = to_logged c.att_held.new.core c.att_held.new.logs.items c.args.self.now.alike c.args.self.now.stopped (g.S.Shelf.meaning c.att_held.new.shelf) c.att_held.ensures.stands; begins = fresh_still c.args.self.now.core c.att_held.new.core c.args.self.now.fresh (g.S.Shelf.meaning c.args.self.now.shelf) (g.S.Shelf.meaning c.att_held.new.shelf) c.att_held.ensures.attaches.goes c.args.self.now.begins }
+invariant_of-self g c = record { stands = to_logged c.att_held.new.core c.att_held.new.logs.items c.args.self.now.alike c.args.self.now.stopped (g.S.Shelf.meaning c.att_held.new.shelf) c.att_held.ensures.stands; begins = fresh_still c.args.self.now.core c.att_held.new.core c.args.self.now.fresh (g.S.Shelf.meaning c.args.self.now.shelf) (g.S.Shelf.meaning c.att_held.new.shelf) c.att_held.ensures.attaches.goes c.args.self.now.begins; settles = settled_by c.args.self.now.core c.att_held.new.core c.args.self.now.alike c.args.self.now.alike (g.S.Shelf.meaning c.args.self.now.shelf) (g.S.Shelf.meaning c.att_held.new.shelf) c.att_held.ensures.settles (λ up. sure_next (length c.args.self.now.core.inner.config.volumes) (length c.att_held.new.core.inner.config.volumes) c.args.self.now.core.inner.unsure c.att_held.new.core.inner.unsure c.args.self.now.alike c.args.self.now.alike (volumes_few c.args.self.now.core c.att_held.new.core (g.S.Shelf.meaning c.args.self.now.shelf) (g.S.Shelf.meaning c.att_held.new.shelf) Nothing c.att_held.ensures.attaches.goes) (same_unsure c.args.self.now.core.inner.unsure c.att_held.new.core.inner.unsure c.att_held.ensures.attaches.unsure) (λ v is set. set) (c.args.self.now.settles.sure (λ down. up (c.att_held.ensures.attaches.goes.falls down)))) c.args.self.now.settles }
 
 pub returns-clause-mirrors : goal.returns-clause-mirrors
 returns-clause-mirrors g c = keep_att _ c.args.vol c.args.plex (map_by c.args.self.now.logs.items c.args.self.now.core.inner.config c.args.self.now.stopped (g.S.Shelf.meaning c.args.self.now.shelf).down c.args.vol c.args.plex) c.args.self.now.core c.att_held.new.core (g.S.Shelf.meaning c.args.self.now.shelf) (g.S.Shelf.meaning c.att_held.new.shelf) c.att_held.ensures.attaches c.att_held.ensures.regains

@@ -1,5 +1,5 @@
 -- `deport`: clauses can and tells; what `deport_whole` asks, and what stands then.
-use Rattle.std.proofs.Common.{refl}
+use Rattle.std.proofs.Common.{refl, length}
 use Rattle.vx_config.specs.declared.entry.VolumeLog.TheVariants.{Fmr}
 use Rattle.vx_group.specs.Holding.{wide}
 use Rattle.vx_group.proofs.CrashLemmas.{group_can}
@@ -9,13 +9,15 @@ use Rattle.vx_loggroup.proofs.EndedLemmas.{same_end}
 use Rattle.vx_loggroup.proofs.FactLemmas.{from_logged, to_logged}
 use Rattle.vx_loggroup.proofs.FreshLemmas.{fresh_still}
 use Rattle.vx_loggroup.proofs.KeepingLemmas.{frames_places}
+use Rattle.vx_loggroup.proofs.SettledFacts.{settled_by, sure_next, volumes_few}
+use Rattle.vx_disk.specs.Shelf.{Nothing}
 use Rattle.vx_loggroup.proofs.group.LoggedGroup.deport.Goals as goal
 
 pub deport_whole-requires : goal.deport_whole-requires
-deport_whole-requires g c = record { stands = from_logged c.args.self.core c.args.self.logs.items c.args.self.alike c.args.self.stopped (g.S.Shelf.meaning c.args.self.shelf) c.args.self.stands }
+deport_whole-requires g c = record { stands = from_logged c.args.self.core c.args.self.logs.items c.args.self.alike c.args.self.stopped (g.S.Shelf.meaning c.args.self.shelf) c.args.self.stands; sure = c.args.self.settles.sure }
 
 pub invariant_of-result : goal.invariant_of-result
-invariant_of-result g c = record { stands = to_logged c.deport_whole.new.core c.args.self.logs.items c.args.self.alike c.args.self.stopped (g.S.Shelf.meaning c.deport_whole.new.shelf) c.in-Err.ensures.stands; begins = fresh_still c.args.self.core c.deport_whole.new.core c.args.self.fresh (g.S.Shelf.meaning c.args.self.shelf) (g.S.Shelf.meaning c.deport_whole.new.shelf) c.in-Err.ensures.back c.args.self.begins }
+invariant_of-result g c = record { stands = to_logged c.deport_whole.new.core c.args.self.logs.items c.args.self.alike c.args.self.stopped (g.S.Shelf.meaning c.deport_whole.new.shelf) c.in-Err.ensures.stands; begins = fresh_still c.args.self.core c.deport_whole.new.core c.args.self.fresh (g.S.Shelf.meaning c.args.self.shelf) (g.S.Shelf.meaning c.deport_whole.new.shelf) c.in-Err.ensures.back c.args.self.begins; settles = settled_by c.args.self.core c.deport_whole.new.core c.args.self.alike c.args.self.alike (g.S.Shelf.meaning c.args.self.shelf) (g.S.Shelf.meaning c.deport_whole.new.shelf) c.in-Err.ensures.settles (λ up. sure_next (length c.args.self.core.inner.config.volumes) (length c.deport_whole.new.core.inner.config.volumes) c.args.self.core.inner.unsure c.deport_whole.new.core.inner.unsure c.args.self.alike c.args.self.alike (volumes_few c.args.self.core c.deport_whole.new.core (g.S.Shelf.meaning c.args.self.shelf) (g.S.Shelf.meaning c.deport_whole.new.shelf) Nothing c.in-Err.ensures.back) c.in-Err.ensures.ends.quiesces.sure (λ v is set. set) (c.args.self.settles.sure (λ down. up (c.in-Err.ensures.back.falls down)))) c.args.self.settles }
 
 pub returns-in-Ok-clause-can : goal.returns-in-Ok-clause-can
 returns-in-Ok-clause-can g c = group_can (wide c.args.self.core).config c.args.self.core.inner (g.S.Shelf.meaning c.args.self.shelf) (g.S.Shelf.meaning c.deport_whole.new.shelf) c.in-Ok.ensures.ends

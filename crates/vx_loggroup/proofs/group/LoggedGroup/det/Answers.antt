@@ -9,6 +9,8 @@ use Rattle.vx_loggroup.proofs.KeepingLemmas.{frames_places}
 use Rattle.vx_loggroup.proofs.MirrorLemmas.{keep_det}
 use Rattle.vx_group.proofs.TrustLemmas.{ok_from}
 use Rattle.vx_loggroup.proofs.SureLemmas.{says_losses}
+use Rattle.vx_loggroup.proofs.SettledFacts.{settled_same, volumes_few}
+use Rattle.vx_disk.specs.Shelf.{Nothing}
 use Rattle.vx_loggroup.proofs.group.LoggedGroup.det.Goals as goal
 
 pub det_fresh-requires-clause-stands : goal.det_fresh-requires-clause-stands
@@ -18,7 +20,7 @@ pub det_fresh-requires-clause-fresh : goal.det_fresh-requires-clause-fresh
 det_fresh-requires-clause-fresh g c = c.args.self.now.begins
 
 pub invariant_of-self : goal.invariant_of-self
-invariant_of-self g c = record { stands = to_logged c.det_fresh.new.core c.det_fresh.new.logs.items c.args.self.now.alike c.args.self.now.stopped (g.S.Shelf.meaning c.det_fresh.new.shelf) c.det_fresh.ensures.stands; begins = c.det_fresh.ensures.fresh }
+invariant_of-self g c = record { stands = to_logged c.det_fresh.new.core c.det_fresh.new.logs.items c.args.self.now.alike c.args.self.now.stopped (g.S.Shelf.meaning c.det_fresh.new.shelf) c.det_fresh.ensures.stands; begins = c.det_fresh.ensures.fresh; settles = settled_same c.args.self.now.core c.det_fresh.new.core c.args.self.now.alike (g.S.Shelf.meaning c.args.self.now.shelf) (g.S.Shelf.meaning c.det_fresh.new.shelf) c.det_fresh.ensures.finds (volumes_few c.args.self.now.core c.det_fresh.new.core (g.S.Shelf.meaning c.args.self.now.shelf) (g.S.Shelf.meaning c.det_fresh.new.shelf) Nothing c.det_fresh.ensures.goes) c.det_fresh.ensures.goes.falls c.args.self.now.settles }
 
 pub returns-clause-mirrors : goal.returns-clause-mirrors
 returns-clause-mirrors g c = keep_det c.args.vol c.args.plex c.args.self.now.core c.det_fresh.new.core (g.S.Shelf.meaning c.args.self.now.shelf) (g.S.Shelf.meaning c.det_fresh.new.shelf) c.det_fresh.ensures.others c.det_fresh.ensures.disks

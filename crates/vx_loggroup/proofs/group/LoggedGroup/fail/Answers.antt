@@ -9,4 +9,7 @@ pub fail_whole-requires-clause-fresh : goal.fail_whole-requires-clause-fresh
 fail_whole-requires-clause-fresh g c = λ κs within. c.args.self.now.begins
 
 pub invariant_of-self : goal.invariant_of-self
-invariant_of-self g c = record { stands = to_logged c.args.self.now.core c.args.self.now.logs.items c.args.self.now.alike c.args.self.now.stopped (g.R.Shelf.meaning c.fail_whole.new.rack) c.fail_whole.ensures.stands; begins = c.fail_whole.ensures.fresh }
+invariant_of-self g c = record { stands = to_logged c.args.self.now.core c.args.self.now.logs.items c.args.self.now.alike c.args.self.now.stopped (g.R.Shelf.meaning c.fail_whole.new.rack) c.fail_whole.ensures.stands; begins = c.fail_whole.ensures.fresh; settles = c.fail_whole.ensures.settles }
+
+pub fail_whole-requires-clause-settles : goal.fail_whole-requires-clause-settles
+fail_whole-requires-clause-settles g c = λ κs within. c.args.self.now.settles

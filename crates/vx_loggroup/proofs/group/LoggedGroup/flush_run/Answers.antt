@@ -12,6 +12,8 @@ use Rattle.vx_loggroup.specs.Mirrors.{names_none}
 use Rattle.vx_loggroup.proofs.MirrorLemmas.{keep_loses}
 use Rattle.vx_group.proofs.TrustLemmas.{ok_from}
 use Rattle.vx_loggroup.proofs.SureLemmas.{says_losses}
+use Rattle.vx_loggroup.proofs.SettledFacts.{settled_same, volumes_few}
+use Rattle.vx_disk.specs.Shelf.{Nothing}
 use Rattle.vx_loggroup.proofs.group.LoggedGroup.flush_run.Goals as goal
 
 pub flush_run-requires-clause-stands : goal.flush_run-requires-clause-stands
@@ -21,7 +23,7 @@ pub returns-clause-loses : goal.returns-clause-loses
 returns-clause-loses g c = c.flush_run.ensures.loses.loses
 
 pub invariant_of-self : goal.invariant_of-self
-invariant_of-self g c = record { stands = to_logged c.flush_run.new.core c.flush_run.new.logs.items c.args.self.now.alike c.args.self.now.stopped (g.S.Shelf.meaning c.flush_run.new.shelf) c.flush_run.ensures.stands; begins = fresh_still c.args.self.now.core c.flush_run.new.core c.args.self.now.fresh (g.S.Shelf.meaning c.args.self.now.shelf) (g.S.Shelf.meaning c.flush_run.new.shelf) c.flush_run.ensures.goes c.args.self.now.begins }
+invariant_of-self g c = record { stands = to_logged c.flush_run.new.core c.flush_run.new.logs.items c.args.self.now.alike c.args.self.now.stopped (g.S.Shelf.meaning c.flush_run.new.shelf) c.flush_run.ensures.stands; begins = fresh_still c.args.self.now.core c.flush_run.new.core c.args.self.now.fresh (g.S.Shelf.meaning c.args.self.now.shelf) (g.S.Shelf.meaning c.flush_run.new.shelf) c.flush_run.ensures.goes c.args.self.now.begins; settles = settled_same c.args.self.now.core c.flush_run.new.core c.args.self.now.alike (g.S.Shelf.meaning c.args.self.now.shelf) (g.S.Shelf.meaning c.flush_run.new.shelf) c.flush_run.ensures.finds (volumes_few c.args.self.now.core c.flush_run.new.core (g.S.Shelf.meaning c.args.self.now.shelf) (g.S.Shelf.meaning c.flush_run.new.shelf) Nothing c.flush_run.ensures.goes) c.flush_run.ensures.goes.falls c.args.self.now.settles }
 
 pub returns-clause-mirrors : goal.returns-clause-mirrors
 returns-clause-mirrors g c = keep_loses names_none c.args.self.now.core c.flush_run.new.core (g.S.Shelf.meaning c.args.self.now.shelf) (g.S.Shelf.meaning c.flush_run.new.shelf) c.flush_run.ensures.loses.loses

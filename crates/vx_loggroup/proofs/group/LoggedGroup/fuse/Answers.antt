@@ -9,4 +9,7 @@ pub fuse_whole-requires-clause-fresh : goal.fuse_whole-requires-clause-fresh
 fuse_whole-requires-clause-fresh g c = λ κs within. c.args.self.now.begins
 
 pub invariant_of-self : goal.invariant_of-self
-invariant_of-self g c = record { stands = to_logged c.args.self.now.core c.args.self.now.logs.items c.args.self.now.alike c.args.self.now.stopped (g.R.Shelf.meaning c.fuse_whole.new.rack) c.fuse_whole.ensures.stands; begins = c.fuse_whole.ensures.fresh }
+invariant_of-self g c = record { stands = to_logged c.args.self.now.core c.args.self.now.logs.items c.args.self.now.alike c.args.self.now.stopped (g.R.Shelf.meaning c.fuse_whole.new.rack) c.fuse_whole.ensures.stands; begins = c.fuse_whole.ensures.fresh; settles = c.fuse_whole.ensures.settles }
+
+pub fuse_whole-requires-clause-settles : goal.fuse_whole-requires-clause-settles
+fuse_whole-requires-clause-settles g c = λ κs within. c.args.self.now.settles

@@ -9,6 +9,7 @@ use Rattle.vx_loggroup.proofs.KeepingLemmas.{extends_places}
 use Rattle.vx_loggroup.proofs.MovedLemmas.{move_none}
 use Rattle.vx_loggroup.proofs.MirrorLemmas.{keep_make}
 use Rattle.vx_loggroup.proofs.SureLemmas.{says_losses}
+use Rattle.vx_loggroup.proofs.SettledFacts.{settled_made}
 use Rattle.vx_loggroup.proofs.group.LoggedGroup.make_volume.Goals as goal
 
 pub make_fresh-requires-clause-stands : goal.make_fresh-requires-clause-stands
@@ -18,7 +19,7 @@ pub make_fresh-requires-clause-fresh : goal.make_fresh-requires-clause-fresh
 make_fresh-requires-clause-fresh g c = c.args.self.now.begins
 
 pub invariant_of-self : goal.invariant_of-self
-invariant_of-self g c = record { stands = to_logged c.make_fresh.new.core c.make_fresh.new.logs.items c.make_fresh.new.alike c.args.self.now.stopped (g.S.Shelf.meaning c.make_fresh.new.shelf) c.make_fresh.ensures.stands; begins = c.make_fresh.ensures.fresh }
+invariant_of-self g c = record { stands = to_logged c.make_fresh.new.core c.make_fresh.new.logs.items c.make_fresh.new.alike c.args.self.now.stopped (g.S.Shelf.meaning c.make_fresh.new.shelf) c.make_fresh.ensures.stands; begins = c.make_fresh.ensures.fresh; settles = settled_made c.args.self.now.core c.make_fresh.new.core c.args.name.now c.args.want.now (g.S.Shelf.meaning c.args.self.now.shelf) (g.S.Shelf.meaning c.make_fresh.new.shelf) (c.make_fresh.new.shelf ≡ c.args.self.now.shelf) c.args.self.now.alike c.make_fresh.new.alike c.make_fresh.result c.make_fresh.ensures.finds c.make_fresh.ensures.refused c.make_fresh.ensures.ends c.make_fresh.ensures.alike c.make_fresh.ensures.flags c.make_fresh.ensures.stays.goes.falls c.args.self.now.settles }
 
 pub returns-clause-mirrors : goal.returns-clause-mirrors
 returns-clause-mirrors g c = keep_make c.args.self.now.core c.make_fresh.new.core (g.S.Shelf.meaning c.args.self.now.shelf) (g.S.Shelf.meaning c.make_fresh.new.shelf) c.make_fresh.ensures.stays c.make_fresh.ensures.disks

@@ -9,6 +9,10 @@ use Rattle.vx_loggroup.proofs.FactLemmas.{from_logged, to_logged}
 use Rattle.vx_loggroup.specs.Mirrors.{names_none}
 use Rattle.vx_loggroup.proofs.KeepingLemmas.{frames_places}
 use Rattle.vx_loggroup.proofs.MirrorLemmas.{keep_loses}
+use Rattle.vx_loggroup.proofs.SettledFacts.{settled_next, volumes_few, wrote_flags}
+use Rattle.vx_disk.specs.Shelf.{Written}
+use Rattle.vx_group.specs.Holding.{wide}
+use Rattle.vx_group.specs.Stands.{inner_meaning}
 use Rattle.vx_loggroup.proofs.shelving.LoggedGroupShelf.write.Goals as goal
 
 pub write_fresh-requires-clause-stands : goal.write_fresh-requires-clause-stands
@@ -21,7 +25,7 @@ pub returns-clause-loses : goal.returns-clause-loses
 returns-clause-loses g c = c.write_fresh.ensures.loses.loses
 
 pub invariant_of-self : goal.invariant_of-self
-invariant_of-self g c = record { stands = to_logged c.write_fresh.new.core c.write_fresh.new.logs.items c.write_fresh.new.alike c.write_fresh.new.stopped (g.S.Shelf.meaning c.write_fresh.new.shelf) c.write_fresh.ensures.stands; begins = c.write_fresh.ensures.fresh }
+invariant_of-self g c = record { stands = to_logged c.write_fresh.new.core c.write_fresh.new.logs.items c.write_fresh.new.alike c.write_fresh.new.stopped (g.S.Shelf.meaning c.write_fresh.new.shelf) c.write_fresh.ensures.stands; begins = c.write_fresh.ensures.fresh; settles = settled_next c.args.self.now.core c.write_fresh.new.core c.args.self.now.alike c.write_fresh.new.alike (g.S.Shelf.meaning c.args.self.now.shelf) (g.S.Shelf.meaning c.write_fresh.new.shelf) c.write_fresh.ensures.finds (volumes_few c.args.self.now.core c.write_fresh.new.core (g.S.Shelf.meaning c.args.self.now.shelf) (g.S.Shelf.meaning c.write_fresh.new.shelf) (Written c.args.unit c.args.block c.args.bytes.now) c.write_fresh.ensures.goes) c.write_fresh.ensures.goes.falls (wrote_flags (Unit {0}) c.args.unit c.args.self.now.core.inner.unsure c.write_fresh.new.core.inner.unsure c.args.self.now.alike c.write_fresh.new.alike (inner_meaning (wide c.args.self.now.core) (g.S.Shelf.meaning c.args.self.now.shelf)) (inner_meaning (wide c.write_fresh.new.core) (g.S.Shelf.meaning c.write_fresh.new.shelf)) c.write_fresh.result c.write_fresh.ensures.alike c.write_fresh.ensures.flags c.write_fresh.ensures.unsure c.write_fresh.ensures.cause) c.args.self.now.settles }
 
 pub returns-clause-mirrors : goal.returns-clause-mirrors
 returns-clause-mirrors g c = keep_loses names_none c.args.self.now.core c.write_fresh.new.core (g.S.Shelf.meaning c.args.self.now.shelf) (g.S.Shelf.meaning c.write_fresh.new.shelf) c.write_fresh.ensures.loses.loses

@@ -23,9 +23,9 @@ returns c =
     let start : content_of c.in_ok-node.field-0 ≡ zeros (sizes blocks) = c.in_ok-node.ensures ∙ ap (λ (bs : List ℕ). zeros (sizes bs)) c.deref-2.ensures.value in
     let base : content_of c.in_ok-node-2.field-0 ≡ zeros (sizes blocks) = c.in_ok-node-2.ensures ∙ ap (λ (bs : List ℕ). zeros (sizes bs)) c.deref-3.ensures.value in
     node_changed (record w { lines = lines }) c.args.self.now.nodes.items c.args.site v
-    (record v { state = Up; ring = c.ring_of-node.result; volumes = c.in_ok-volumes.volumes; role = Primary; mark = Consistent; line = first_line c.args.site; top = 1; stood = c.push.new.self; session = 1; start = c.in_ok-node.field-0; base = c.in_ok-node-2.field-0; log = c.clear.new.self; safe = 0; halted = None })
+    (record v { state = Up; ring = c.ring_of-node.result; volumes = c.in_ok-volumes.volumes; names = c.clear.new.self; role = Primary; mark = Consistent; line = first_line c.args.site; top = 1; stood = c.push.new.self; session = 1; start = c.in_ok-node.field-0; base = c.in_ok-node-2.field-0; log = c.clear-2.new.self; safe = 0; halted = None })
     (λ (n : Node). raw_set c.args.site n) refl refl c.requires c.index_mut-node.ensures.value
-    (raw_is (node_of v) c.args.site c.ring_of-node.result blocks c.push.new.self.items (content_of c.in_ok-node.field-0) (content_of c.in_ok-node-2.field-0) c.clear.new.self.items
-    c.ring_of-node.ensures many c.in_ok-push.ensures.items start base c.clear.ensures.items)
+    (raw_is (node_of v) c.args.site c.ring_of-node.result blocks c.clear.new.self.items c.push.new.self.items (content_of c.in_ok-node.field-0) (content_of c.in_ok-node-2.field-0) c.clear-2.new.self.items
+    c.ring_of-node.ensures many c.clear.ensures.items c.in_ok-push.ensures.items start base c.clear-2.ensures.items)
     ∙ raw_made_is w c.args.site (node_of v) lines (content_of c.in_ok-start.start) blocks (node_at c.args.self.now.nodes.items c.args.site v c.requires c.index_mut-node.ensures.value)
     many first c.in_ok-begin_line.ensures

@@ -1,0 +1,16 @@
+-- A pump of a site that is up on a rack.
+use Rattle.std.proofs.Common.{subst, sym}
+use Rattle.std.specs.Prelude.{IfErr}
+use Rattle.vx_peers.specs.Senders.{pump_asks}
+use Rattle.vx_diskset.specs.Pumps.{PumpStop}
+use Rattle.vx_diskset.specs.Stands.{faults_at}
+use Rattle.vx_diskset.specs.declared.disk_set.DiskSet.TheVariants.{Up}
+use Rattle.vx_diskset.proofs.Blamed.{disks_are}
+use Rattle.vx_diskset.proofs.disk_set.DiskSet.pump.Goals as goal
+use Rattle.vx_diskset.proofs.RawSets.{up_there}
+
+pub returns-in-Up-clause-stops : goal.returns-in-Up-clause-stops
+returns-in-Up-clause-stops g c = λ beside n stands origin state over none.
+    let is_rack = (g.met.R.Rack g.world.𝓛 g.world.𝓜 g.world.𝓡 ((λ s x. x), (λ x. x), (λ x. x), λ x. x)).rack in
+    subst (λ e. IfErr c.pump_group.result (PumpStop n (pump_asks c.args.link.now n.safe) (faults_at e) (faults_at (Up c.pump_group.new.rvg)))) (sym c.in-Up.is)
+    (c.pump_group.ensures.stops beside n (up_there beside n c.args.self.now c.in-Up.rvg c.in-Up.is stands).1 none (λ raw. disks_are (g.R.Shelf.meaning c.in-Up.rvg.shelf) (is_rack c.in-Up.rvg.shelf)))

@@ -1,0 +1,41 @@
+-- A group that stays up, or crashes.
+use Rattle.std.proofs.Common.{◌∙◌, refl, sym}
+use Rattle.vx_disk.specs.Disks.{Crashed}
+use Rattle.vx_grouped.specs.GroupSites.{idle_disks, laid_disks}
+use Rattle.vx_watched.proofs.SinceLemmas.{since_stop}
+use Rattle.vx_diskset.proofs.over_group.stays.Goals as goal
+
+pub returns-then-is_down-clause-since : goal.returns-then-is_down-clause-since
+returns-then-is_down-clause-since g c = λ first since.
+    since_stop first (laid_disks c.args.laid) (idle_disks c.crash.result) (Crashed (laid_disks c.args.laid).size 0xffff_ffff_ffff_ffff) since (sym c.is_down.ensures ∙ c.if-is_down.true) c.crash.ensures.stopped c.crash.ensures.disks
+
+pub returns-then-is_down-clause-told : goal.returns-then-is_down-clause-told
+returns-then-is_down-clause-told g c = c.crash.ensures.told
+
+pub returns-then-is_down-clause-calm : goal.returns-then-is_down-clause-calm
+returns-then-is_down-clause-calm g c = c.crash.ensures.stopped.unarmed
+
+pub returns-then-is_down-clause-stays : goal.returns-then-is_down-clause-stays
+returns-then-is_down-clause-stays g c = (
+  record {
+    down = sym c.is_down.ensures ∙ c.if-is_down.true;
+    stopped = c.crash.ensures.stopped;
+    away = c.crash.ensures.away;
+    agreed = c.crash.ensures.agreed;
+    told = c.crash.ensures.told;
+    rests = c.crash.ensures.rests;
+  },
+  refl,
+)
+
+pub returns-clause-since : goal.returns-clause-since
+returns-clause-since g c = λ first since. since
+
+pub returns-clause-told : goal.returns-clause-told
+returns-clause-told g c = λ told. told
+
+pub returns-clause-calm : goal.returns-clause-calm
+returns-clause-calm g c = sym c.is_down.ensures ∙ c.if-is_down.false
+
+pub returns-clause-stays : goal.returns-clause-stays
+returns-clause-stays g c = (refl, refl, sym c.is_down.ensures ∙ c.if-is_down.false)

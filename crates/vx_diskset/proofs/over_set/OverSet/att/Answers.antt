@@ -1,0 +1,56 @@
+-- A plex of a volume that is attached, below a replicated volume group.
+use Rattle.std.proofs.Common.{◌≡◌, ◌∙◌, ap, sym, subst}
+use Rattle.vx_disk.specs.Moves.{Nowhere}
+use Rattle.vx_watched.specs.Since.{CalledSince}
+use Rattle.vx_watched.specs.Traces.{TellsLess}
+use Rattle.vx_grouped.specs.GroupSites.{UpNoted, site_below, site_disks}
+use Rattle.vx_grouped.specs.SiteMaps.{AttMapped}
+use Rattle.vx_diskset.specs.Aboves.{above_in, site_in}
+use Rattle.vx_diskset.proofs.OverFrames.{site_stays}
+use Rattle.vx_diskset.proofs.OverKept.{keeps_over, nowhere_aside}
+use Rattle.vx_untold.specs.Shades.{shade_lawful, shade_rack}
+use Rattle.vx_diskset.proofs.OverPlain.{carried_site, ok_carried}
+use Rattle.std.specs.Prelude.{IfOk, IsTrue, None, Some, false}
+use Rattle.vx_grouped.specs.SiteEnds.{AttCalled, RegionsOf, is_plex_on, refuses_att}
+use Rattle.vx_diskset.proofs.over_set.OverSet.att.Goals as goal
+
+pub of-requires : goal.of-requires
+of-requires g c = site_stays Nowhere c.parts-site.result.1 c.parts-site.result.0 c.att-answer.new.self c.att-answer.ensures.volumes c.parts-site.ensures.stays
+
+pub returns-clause-called : goal.returns-clause-called
+returns-clause-called g c = λ n note up. carried_site (λ o e. AttCalled n note c.args.volume c.args.plex o e c.att-answer.result) (site_in c.args.self.now) c.parts-site.result.0 (site_in c.of.result) c.att-answer.new.self (c.parts-site.ensures.site ∙ ap (λ s. site_in s) c.replace.ensures.value) c.of.ensures.site (c.att-answer.ensures.called n note (subst (λ s. UpNoted n note s) (sym (c.parts-site.ensures.site ∙ ap (λ s. site_in s) c.replace.ensures.value)) up))
+
+pub returns-clause-maps : goal.returns-clause-maps
+returns-clause-maps g c = λ n note up. carried_site (λ o e. AttMapped c.args.volume c.args.plex o e c.att-answer.result) (site_in c.args.self.now) c.parts-site.result.0 (site_in c.of.result) c.att-answer.new.self (c.parts-site.ensures.site ∙ ap (λ s. site_in s) c.replace.ensures.value) c.of.ensures.site (c.att-answer.ensures.maps n note (subst (λ s. UpNoted n note s) (sym (c.parts-site.ensures.site ∙ ap (λ s. site_in s) c.replace.ensures.value)) up))
+
+pub returns-clause-refused : goal.returns-clause-refused
+returns-clause-refused g c = λ n note why up is. c.att-answer.ensures.refused n note why (subst (λ s. UpNoted n note s) (sym (c.parts-site.ensures.site ∙ ap (λ s. site_in s) c.replace.ensures.value)) up) (subst (λ s. refuses_att s c.args.volume c.args.plex ≡ Some why) (sym (c.parts-site.ensures.site ∙ ap (λ s. site_in s) c.replace.ensures.value)) is)
+
+pub returns-clause-already : goal.returns-clause-already
+returns-clause-already g c = λ n note up may on. c.att-answer.ensures.already n note (subst (λ s. UpNoted n note s) (sym (c.parts-site.ensures.site ∙ ap (λ s. site_in s) c.replace.ensures.value)) up) (subst (λ s. refuses_att s c.args.volume c.args.plex ≡ None) (sym (c.parts-site.ensures.site ∙ ap (λ s. site_in s) c.replace.ensures.value)) may) (subst (λ s. IsTrue (is_plex_on s c.args.volume c.args.plex)) (sym (c.parts-site.ensures.site ∙ ap (λ s. site_in s) c.replace.ensures.value)) on)
+
+pub returns-clause-count : goal.returns-clause-count
+returns-clause-count g c = λ off. subst (λ s. IfOk c.att-answer.result (λ k. RegionsOf s c.args.volume k)) (c.parts-site.ensures.site ∙ ap (λ s. site_in s) c.replace.ensures.value) (c.att-answer.ensures.count (subst (λ s. is_plex_on s c.args.volume c.args.plex ≡ false) (sym (c.parts-site.ensures.site ∙ ap (λ s. site_in s) c.replace.ensures.value)) off))
+
+pub returns-clause-on : goal.returns-clause-on
+returns-clause-on g c = λ off. ok_carried c.att-answer.result (λ on. subst (λ s. IsTrue (is_plex_on s c.args.volume c.args.plex)) (sym c.of.ensures.site) on) (c.att-answer.ensures.on (subst (λ s. is_plex_on s c.args.volume c.args.plex ≡ false) (sym (c.parts-site.ensures.site ∙ ap (λ s. site_in s) c.replace.ensures.value)) off))
+
+pub returns-clause-others : goal.returns-clause-others
+returns-clause-others g c = ok_carried c.att-answer.result (λ all w p other. ap (λ s. is_plex_on s w p) c.of.ensures.site ∙ all w p other ∙ ap (λ s. is_plex_on s w p) (c.parts-site.ensures.site ∙ ap (λ s. site_in s) c.replace.ensures.value)) c.att-answer.ensures.others
+
+pub returns-clause-cut : goal.returns-clause-cut
+returns-clause-cut g c = c.of.ensures.cut ∙ c.parts-site.ensures.cut ∙ ap (λ s. s.cut) c.replace.ensures.value
+
+pub returns-clause-since : goal.returns-clause-since
+returns-clause-since g c = carried_site (λ o e. CalledSince (site_disks o) (site_disks e)) (site_in c.args.self.now) c.parts-site.result.0 (site_in c.of.result) c.att-answer.new.self (c.parts-site.ensures.site ∙ ap (λ s. site_in s) c.replace.ensures.value) c.of.ensures.site c.att-answer.ensures.since
+
+pub returns-clause-told : goal.returns-clause-told
+returns-clause-told g c = carried_site (λ o e. TellsLess (site_below o) (site_below e)) (site_in c.args.self.now) c.parts-site.result.0 (site_in c.of.result) c.att-answer.new.self (c.parts-site.ensures.site ∙ ap (λ s. site_in s) c.replace.ensures.value) c.of.ensures.site c.att-answer.ensures.told
+
+pub returns-clause-kept : goal.returns-clause-kept
+returns-clause-kept g c =
+    let lawful = (g.met.R.Shelf g.world.𝓛 g.world.𝓜 g.world.𝓡 ((λ s x. x), (λ x. x), (λ x. x), λ x. x)).lawful in
+    let is_rack = (g.met.R.Rack g.world.𝓛 g.world.𝓜 g.world.𝓡 ((λ s x. x), (λ x. x), (λ x. x), λ x. x)).rack in
+    keeps_over (shade_lawful g.R.Shelf.meaning lawful) (shade_rack g.R.Shelf.meaning is_rack) Nowhere c.args.self.now c.of.result c.parts-site.result.1 c.parts-site.result.0 c.att-answer.new.self
+    (c.parts-site.ensures.above ∙ ap (λ s. above_in s) c.replace.ensures.value) (c.parts-site.ensures.site ∙ ap (λ s. site_in s) c.replace.ensures.value) c.of.ensures.site c.of.ensures.above c.att-answer.ensures.volumes c.parts-site.ensures.stays
+    (nowhere_aside c.parts-site.result.1)

@@ -1,0 +1,47 @@
+-- The group below a replicated volume group that is deported.
+use Rattle.std.proofs.Common.{◌∙◌, ap, sym, subst}
+use Rattle.vx_disk.specs.Moves.{Nowhere}
+use Rattle.vx_watched.specs.Since.{CalledSince}
+use Rattle.vx_watched.specs.Traces.{TellsLess}
+use Rattle.vx_grouped.specs.GroupSites.{UpNoted, site_below, site_disks}
+use Rattle.vx_grouped.specs.SiteEnds.{SiteDeported}
+use Rattle.vx_grouped.specs.SiteMaps.{DeportMapped}
+use Rattle.vx_diskset.specs.Aboves.{above_in, site_in}
+use Rattle.vx_diskset.proofs.OverFrames.{site_stays}
+use Rattle.vx_diskset.proofs.OverAway.{deports_over}
+use Rattle.vx_diskset.proofs.OverKept.{keeps_over, nowhere_aside}
+use Rattle.vx_untold.specs.Shades.{shade_lawful, shade_rack}
+use Rattle.vx_diskset.proofs.OverPlain.{carried_site}
+use Rattle.vx_diskset.proofs.over_set.OverSet.deport.Goals as goal
+
+pub of-requires : goal.of-requires
+of-requires g c = site_stays Nowhere c.parts-site.result.1 c.parts-site.result.0 c.deport-site.result.0 c.deport-site.ensures.volumes c.parts-site.ensures.stays
+
+pub returns-clause-deported : goal.returns-clause-deported
+returns-clause-deported g c = λ n note up. carried_site (λ o e. SiteDeported n note o e c.deport-site.result.1) (site_in c.args.self.now) c.parts-site.result.0 (site_in c.of.result) c.deport-site.result.0 (c.parts-site.ensures.site ∙ ap (λ s. site_in s) c.replace.ensures.value) c.of.ensures.site (c.deport-site.ensures.deported n note (subst (λ s. UpNoted n note s) (sym (c.parts-site.ensures.site ∙ ap (λ s. site_in s) c.replace.ensures.value)) up))
+
+pub returns-clause-maps : goal.returns-clause-maps
+returns-clause-maps g c = λ n note up. carried_site (λ o e. DeportMapped o e c.deport-site.result.1) (site_in c.args.self.now) c.parts-site.result.0 (site_in c.of.result) c.deport-site.result.0 (c.parts-site.ensures.site ∙ ap (λ s. site_in s) c.replace.ensures.value) c.of.ensures.site (c.deport-site.ensures.maps n note (subst (λ s. UpNoted n note s) (sym (c.parts-site.ensures.site ∙ ap (λ s. site_in s) c.replace.ensures.value)) up))
+
+pub returns-clause-cut : goal.returns-clause-cut
+returns-clause-cut g c = c.of.ensures.cut ∙ c.parts-site.ensures.cut ∙ ap (λ s. s.cut) c.replace.ensures.value
+
+pub returns-clause-since : goal.returns-clause-since
+returns-clause-since g c = carried_site (λ o e. CalledSince (site_disks o) (site_disks e)) (site_in c.args.self.now) c.parts-site.result.0 (site_in c.of.result) c.deport-site.result.0 (c.parts-site.ensures.site ∙ ap (λ s. site_in s) c.replace.ensures.value) c.of.ensures.site c.deport-site.ensures.since
+
+pub returns-clause-told : goal.returns-clause-told
+returns-clause-told g c = carried_site (λ o e. TellsLess (site_below o) (site_below e)) (site_in c.args.self.now) c.parts-site.result.0 (site_in c.of.result) c.deport-site.result.0 (c.parts-site.ensures.site ∙ ap (λ s. site_in s) c.replace.ensures.value) c.of.ensures.site c.deport-site.ensures.told
+
+pub returns-clause-kept : goal.returns-clause-kept
+returns-clause-kept g c =
+    let lawful = (g.met.R.Shelf g.world.𝓛 g.world.𝓜 g.world.𝓡 ((λ s x. x), (λ x. x), (λ x. x), λ x. x)).lawful in
+    let is_rack = (g.met.R.Rack g.world.𝓛 g.world.𝓜 g.world.𝓡 ((λ s x. x), (λ x. x), (λ x. x), λ x. x)).rack in
+    keeps_over (shade_lawful g.R.Shelf.meaning lawful) (shade_rack g.R.Shelf.meaning is_rack) Nowhere c.args.self.now c.of.result c.parts-site.result.1 c.parts-site.result.0 c.deport-site.result.0
+    (c.parts-site.ensures.above ∙ ap (λ s. above_in s) c.replace.ensures.value) (c.parts-site.ensures.site ∙ ap (λ s. site_in s) c.replace.ensures.value) c.of.ensures.site c.of.ensures.above c.deport-site.ensures.volumes c.parts-site.ensures.stays
+    (nowhere_aside c.parts-site.result.1)
+
+pub returns-clause-away : goal.returns-clause-away
+returns-clause-away g c =
+    let lawful = (g.met.R.Shelf g.world.𝓛 g.world.𝓜 g.world.𝓡 ((λ s x. x), (λ x. x), (λ x. x), λ x. x)).lawful in
+    deports_over (shade_lawful g.R.Shelf.meaning lawful) c.args.self.now c.of.result c.parts-site.result.1 c.parts-site.result.0 c.deport-site.result.0
+    (c.parts-site.ensures.above ∙ ap (λ s. above_in s) c.replace.ensures.value) (c.parts-site.ensures.site ∙ ap (λ s. site_in s) c.replace.ensures.value) c.of.ensures.site c.deport-site.ensures.closes c.parts-site.ensures.stays

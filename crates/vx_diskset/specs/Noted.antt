@@ -1,0 +1,106 @@
+-- What a site notes of its group of disks, below a replicated volume group or not.
+use Rattle.std.specs.Prelude.{◌≡◌, ◌⊎◌, ℕ, [], false, IsFalse, None, Result}
+use Rattle.vx_disk.specs.Shelf.{Meaning}
+use Rattle.vx_disk.specs.declared.shelf.Shelf.{Ghosts}
+use Rattle.vx_model.specs.declared.no.No.{No}
+use Rattle.vx_model.specs.declared.site.Role.TheVariants.{Primary}
+use Rattle.vx_model.specs.declared.site.SiteState.TheVariants.{Up as IsUp}
+use Rattle.vx_history.specs.Groups.{GroupNode, NoteWorks}
+use Rattle.vx_history.specs.Steps.{crashed}
+use Rattle.vx_history.specs.Stops.{IsFused}
+use Rattle.vx_history.specs.World.{FuseSet, Node}
+use Rattle.vx_groupmaps.specs.Loading.{DeviceRose}
+use Rattle.vx_grouped.specs.ConfigMoves.{LosesSome}
+use Rattle.vx_grouped.specs.GroupSites.{AwayNoted, CutNoted, DownNoted, UpNoted, site_below, site_disks, with_note}
+use Rattle.vx_grouped.specs.SiteEnds.{ConfigGoes}
+use Rattle.vx_grouped.specs.declared.group_site.GroupSite.{GroupSite}
+use Rattle.vx_grouped.specs.declared.group_site.GroupSite.TheVariants.{Up, Deported, Down}
+use Rattle.vx_diskset.specs.Aboves.{InsideOf, IsInside, above_in, site_in}
+use Rattle.vx_watched.specs.Since.{CalledSince}
+use Rattle.vx_watched.specs.Traces.{TellsLess}
+use Rattle.vx_diskset.specs.Burning.{OffIf}
+use Rattle.vx_diskset.specs.Holds.{KeptBeside}
+use Rattle.vx_diskset.specs.Layouts.{units_of}
+use Rattle.vx_diskset.specs.Stands.{RoleBy, SiteStands}
+use Rattle.vx_diskset.specs.declared.over_set.OverSet.{OverSet}
+use Rattle.vx_diskset.specs.GroupSets.{cut_value}
+use Rattle.vx_diskset.specs.declared.disk_set.DiskSet.{DiskSet}
+use Rattle.vx_diskset.specs.declared.disk_set.DiskSet.TheVariants.{OfGroup, Over}
+
+-- a site as its group has it, without its replicated volume group
+abbrev pub below_rvg : Node → Node
+below_rvg n = record n { role = Primary; volumes = []; log = []; safe = 0; halted = None }
+
+-- Where imports agreed, and nothing was begun, it is so behind calls in which none failed.
+abbrev pub AgreesStill : GroupNode → GroupNode → Meaning → Meaning → Type 0
+AgreesStill note next old new = note.loose ≡ false → note.begun ≡ [] → (DeviceRose old new → ⊥) → (next.loose ≡ false) × (next.begun ≡ [])
+
+module _ {R : Type 0} {g : Ghosts R} where
+  -- the group, up or not, is as it is noted
+  abbrev pub NotedOn : Node → GroupNode → GroupSite R g → Type 0
+  NotedOn n note (Up laid) = UpNoted n note (Up laid)
+  NotedOn n note (Deported idle) = AwayNoted n note (Deported idle)
+  NotedOn n note (Down idle) = DownNoted n note (Down idle)
+  NotedOn n note other = ⊥
+
+  -- so it is of the disks of a site, with the write that is cut
+  abbrev pub SiteNoted : Node → GroupNode → DiskSet R g → Type 0
+  SiteNoted n note (OfGroup s) = NotedOn n note s.site × (cut_value s.cut ≡ note.cut)
+  SiteNoted n note (Over s) = NotedOn (below_rvg n) note (site_in s) × (cut_value s.cut ≡ note.cut) × InsideOf (units_of n) note
+  SiteNoted n note other = ⊥
+
+  -- How a call on the replicated volume group of a site moves the note: its group is up still, or it crashed as its fuse ran out.
+  abbrev pub NotesMoved : Node → GroupNode → GroupSite R g → DiskSet R g → GroupSite R g → DiskSet R g → Type 0
+  NotesMoved n note below old below' new =
+      (next : GroupNode) × NoteWorks note next × ConfigGoes (LosesSome (site_disks below) (site_disks below')) note next below below'
+      × ((SiteNoted (with_note next n) next new × AgreesStill note next (site_disks below) (site_disks below')) ⊎ (SiteNoted (crashed (with_note next n) 0) next new × IsFused n.fuse))
+
+  abbrev pub NotesOver : Node → GroupNode → DiskSet R g → DiskSet R g → Type 0
+  NotesOver n note (Over old) (Over new) = NotesMoved n note (site_in old) (Over old) (site_in new) (Over new)
+  NotesOver n note old new = Unit {0}
+
+  -- a call on the replicated volume group of a site that is up: of a site without a group it says nothing
+  pub record NotesOn (old new : DiskSet R g) : Type 0 where
+    pub each : (beside : KeptBeside) (n : Node) (note : GroupNode) → SiteStands beside n old → n.state ≡ IsUp → SiteNoted n note old → NotesOver n note old new
+
+  -- The same before the crash: the group is up still, or its disks are down.
+  abbrev pub NotesWorked : Node → GroupNode → GroupSite R g → GroupSite R g → Type 0
+  NotesWorked n note below below' =
+      (next : GroupNode) × NoteWorks note next × ConfigGoes (LosesSome (site_disks below) (site_disks below')) note next below below'
+      × ((UpNoted (below_rvg (with_note next n)) next below' × AgreesStill note next (site_disks below) (site_disks below')) ⊎ (CutNoted (below_rvg (with_note next n)) next below' × IsFused n.fuse))
+
+  -- What each call on the replicated volume group of a site over a group makes of the group: the disks that are made to fail are the same, a fuse has no more calls
+  -- left, no count falls; and so the note moves.
+  pub record OverCalled (old new : OverSet R g) : Type 0 where
+    pub since : CalledSince (site_disks (site_in old)) (site_disks (site_in new))
+    pub told : TellsLess (site_below (site_in old)) (site_below (site_in new))
+    pub cut : cut_value new.cut ≡ cut_value old.cut
+    pub notes : (n : Node) (note : GroupNode) → UpNoted (below_rvg n) note (site_in old) → IsInside note (above_in old) → NotesWorked n note (site_in old) (site_in new)
+    pub above : (n : Node) → RoleBy n (above_in old) → RoleBy n (above_in new)
+
+  -- a call that leaves the note of a site over a group as it is
+  pub record StaysNoted (old new : OverSet R g) : Type 0 where
+    pub cut : cut_value new.cut ≡ cut_value old.cut
+    pub each : (n : Node) (note : GroupNode) → NotedOn n note (site_in old) → NotedOn n note (site_in new)
+
+  -- one that sets the fuse of a site that is up
+  pub record FusesNoted (calls : ℕ) (old new : OverSet R g) : Type 0 where
+    pub cut : cut_value new.cut ≡ cut_value old.cut
+    pub each : (n : Node) (note : GroupNode) → UpNoted n note (site_in old) → UpNoted (record n { fuse = FuseSet calls }) note (site_in new)
+
+  -- So it is of disks that are below a replicated volume group, which are down behind the call exactly where it was answered 6; of others it says nothing.
+  abbrev pub OversCalled : {T : Type 0} → DiskSet R g → DiskSet R g → Result T No → Type 0
+  OversCalled (Over old) (Over new) r = OverCalled old new × (IsFalse (site_disks (site_in old)).down → OffIf r (site_disks (site_in new)).down)
+  OversCalled (Over old) other r = ⊥
+  OversCalled old new r = Unit {0}
+
+  -- the crash behind it
+  pub record OverFalls (old new : OverSet R g) : Type 0 where
+    pub fallen : (n : Node) (note : GroupNode) → CutNoted n note (site_in old) → DownNoted (crashed n 0) note (site_in new)
+    pub counts : (d : ℕ) → (site_disks (site_in new)).disk_faults d ≡ (site_disks (site_in old)).disk_faults d
+    pub cut : new.cut ≡ old.cut
+
+  abbrev pub OversFall : DiskSet R g → DiskSet R g → Type 0
+  OversFall (Over old) (Over new) = OverFalls old new
+  OversFall (Over old) other = ⊥
+  OversFall old new = Unit {0}

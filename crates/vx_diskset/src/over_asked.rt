@@ -1,0 +1,81 @@
+// What is asked of the replicated volume group of a site over a disk group.
+
+use crate::disk_set::last_in;
+use crate::room::used_in;
+use crate::{OverSet, OverSite};
+use vx_config::Config;
+use vx_disk::Rack;
+use vx_model::State;
+use vx_rvg::RvgCore;
+
+impl<R: Rack> OverSet<R> {
+    /// The replicated volume group but for its shelf, where it is up.
+    pub fn core(&self) -> Option<&RvgCore> {
+        match &self.site {
+            OverSite::Origin(founded) => Some(&founded.core),
+            OverSite::Receiver(founded) => Some(&founded.core),
+            OverSite::Deported(_) | OverSite::Down(_) | OverSite::Gone => None,
+        }
+    }
+
+    /// The configuration of the group below, where it is up.
+    pub fn config(&self) -> Option<&Config> {
+        match &self.site {
+            OverSite::Origin(founded) => Some(founded.laid.config()),
+            OverSite::Receiver(founded) => Some(founded.laid.config()),
+            OverSite::Deported(_) | OverSite::Down(_) | OverSite::Gone => None,
+        }
+    }
+
+    /// Whether it receives the writes of another, with room for the updates that wait.
+    pub fn receives(&self) -> bool {
+        matches!(&self.site, OverSite::Receiver(_))
+    }
+
+    pub(crate) fn last(&self) -> u64 {
+        match self.core() {
+            Some(core) => last_in(core),
+            None => 0,
+        }
+    }
+
+    pub(crate) fn state(&self) -> Option<&State> {
+        match self.core() {
+            Some(core) => Some(core.state()),
+            None => None,
+        }
+    }
+
+    pub(crate) fn session(&self) -> u64 {
+        match self.core() {
+            Some(core) => core.session(),
+            None => 0,
+        }
+    }
+
+    pub(crate) fn used(&self, above: u64) -> Option<u64> {
+        match &self.site {
+            OverSite::Origin(founded) => used_in(&founded.core, above),
+            _ => None,
+        }
+    }
+
+    pub(crate) fn waiting(&self) -> u32 {
+        match &self.site {
+            OverSite::Receiver(founded) => founded.waiting.len(),
+            _ => 0,
+        }
+    }
+
+    pub(crate) fn received(&self) -> u64 {
+        match &self.site {
+            OverSite::Origin(founded) => founded.core.head(),
+            OverSite::Receiver(founded) => {
+                // For its bound.
+                let _ring = founded.core.ring();
+                founded.core.head() + u64::from(founded.waiting.len())
+            }
+            OverSite::Deported(_) | OverSite::Down(_) | OverSite::Gone => 0,
+        }
+    }
+}

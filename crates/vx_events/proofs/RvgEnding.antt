@@ -1,0 +1,313 @@
+-- How a line ended at a site over a group of disks with a replicated volume group is an end of events of the world: from one that differs in what a site
+-- notes of its group.
+use Rattle.std.proofs.Common.{◌≡◌, ◌∙◌, append_assoc, inl, inr, ℕ, ◌<◌, Bool, true, false, List, [], ◌∷◌, ◌++◌, refl, sym, ap}
+use Rattle.std.specs.Prelude.{◌⊎◌, Some, None}
+use Rattle.vx_model.specs.declared.site.SiteState.{SiteState}
+use Rattle.vx_model.specs.declared.site.SiteState.TheVariants.{Bare, Up, Deported, Down}
+use Rattle.vx_history.proofs.Updates.{by_test}
+use Rattle.vx_history.specs.Doubts.{Doubted}
+use Rattle.vx_history.specs.Groups.{GroupNode}
+use Rattle.vx_history.specs.Likes.{IsLike}
+use Rattle.vx_history.specs.Stops.{EventsEnd, AllDone as EventsDone, Halts, Cuts, Reads, IsLikeDoubted, IsOpen, all_fails, told_fails}
+use Rattle.vx_history.specs.World.{NoFuse, Node, World}
+use Rattle.vx_history.specs.declared.event.Event.{Event}
+use Rattle.vx_history.specs.declared.event.Event.TheVariants.{Crash as CrashAt, Fall as FallAt, Recover as RecoverAt}
+use Rattle.vx_script.specs.declared.line.ScriptLine.{ScriptLine}
+use Rattle.vx_script.specs.declared.line.ScriptLine.TheVariants.{Site, Raw, Disk as DiskLine, Crash, Fuse as FuseLine, GroupImport, Recover, Write, Put, Read, Show, Apply, Status}
+use Rattle.vx_events.proofs.GroupStopping.{events_tell, group_stops, noted_like}
+use Rattle.vx_events.proofs.LinkStopping.{link_stops}
+use Rattle.vx_events.proofs.Noting.{as_like, disks_like, like_disks, like_noted, like_self, like_then, same_like}
+use Rattle.vx_events.proofs.RvgFull.{brings_found}
+use Rattle.vx_events.proofs.RvgKnown.{back_dark}
+use Rattle.vx_events.proofs.RvgStopping.{ended as ended_rvg, noted_doubted, same_doubted}
+use Rattle.vx_events.proofs.Stopping.{BeginsWrite, ended, runs_as}
+use Rattle.vx_events.specs.Doubts.{IsAs, run_as, with_disks}
+use Rattle.vx_events.specs.Ends.{place_of}
+use Rattle.vx_events.specs.Facts.{site_number}
+use Rattle.vx_events.specs.Fails.{Fails}
+use Rattle.vx_events.specs.GroupEnds.{BringsUp}
+use Rattle.vx_events.specs.GroupLines.{group_events, group_noted, noting}
+use Rattle.vx_events.specs.GroupNotes.{IsKnown, note_at}
+use Rattle.vx_events.specs.Lists.{Choice, events_of, recovery_of}
+use Rattle.vx_events.specs.RvgBack.{FindsNoRvg, FindsPlain, FindsRvg, GetsRvg, GroupCutOff, GroupHeld, GroupUnfound, HadRvg, IsLeftBack, KeptLost, IsLeftBut, LogCut, LogFails, LogLacks, RestsWithRvg, RvgBack, RvgFinds, RvgUp, fall_first, fuse_left, rest_again}
+use Rattle.vx_events.specs.RvgLinks.{AllKnown, LinksOver, noting_each}
+use Rattle.vx_events.specs.RvgMakes.{RvgStops, noting_in}
+use Rattle.vx_events.specs.RvgNotes.{volume_events}
+use Rattle.vx_events.specs.RvgOver.{CutBelow, EndsOrShows, EndsOver, OpensFor, OverRvg, OverRvgBy, ShowFails, ShowsAny, TakesOr, is_below, is_inside}
+use Rattle.vx_events.specs.RvgParts.{RvgShort, ShortGroup, ShortLog, ShortMade}
+use Rattle.vx_events.specs.RvgViews.{is_over_rvg}
+use Rattle.vx_events.specs.RvgWorks.{AgreesOr}
+use Rattle.vx_events.specs.declared.said.Said.{Said}
+
+-- ---- ends in worlds that differ in notes alone
+
+doubted_then : (x y z : Doubted) → IsLikeDoubted x y → IsLikeDoubted y z → IsLikeDoubted x z
+doubted_then x y z a b = record { worlds = like_then a.worlds b.worlds; after = λ i. b.after i ∙ a.after i }
+
+ends_like : (d : Doubted) (events : List Event) (fails : Fails) (last new : Doubted) → EventsEnd d events fails last → IsLikeDoubted last new
+    → EventsEnd d events fails new
+ends_like d events fails last new (EventsDone x runs is like) more = EventsDone x runs is (doubted_then x last new like more)
+ends_like d events fails last new (Halts e site disk middle comes one like) more = Halts e site disk middle comes one (doubted_then _ last new like more)
+ends_like d events fails last new (Cuts e site kept taken middle comes fused none like) more =
+    Cuts e site kept taken middle comes fused none (doubted_then _ last new like more)
+ends_like d events fails last new (Reads before rest e site disk middle split runs none one like) more =
+    Reads before rest e site disk middle split runs none one (doubted_then middle last new like more)
+
+-- ---- what events tell of failing disks
+
+told_both : (xs ys : List Event) → all_fails (xs ++ ys) ≡ all_fails xs ++ all_fails ys
+told_both [] ys = refl
+told_both (x ∷ xs) ys = ap (λ (fs : Fails). told_fails x ++ fs) (told_both xs ys) ∙ sym (append_assoc (told_fails x) (all_fails xs) (all_fails ys))
+
+-- behind events that tell of none
+told_behind : (xs ys : List Event) → all_fails xs ≡ [] → all_fails (xs ++ ys) ≡ all_fails ys
+told_behind xs ys none = told_both xs ys ∙ ap (λ (fs : Fails). fs ++ all_fails ys) none
+
+falls_tell : (t : SiteState) (s kept : ℕ) → all_fails (fall_first t s kept) ≡ []
+falls_tell Bare s kept = refl
+falls_tell Up s kept = refl
+falls_tell Deported s kept = refl
+falls_tell Down s kept = refl
+
+again_tells : (line : ScriptLine) (s : ℕ) → all_fails (rest_again line s) ≡ []
+again_tells (GroupImport site) s = refl
+again_tells other s = refl
+
+rests_tell : (d : Doubted) (line : ScriptLine) (s kept : ℕ) (middle next : GroupNode) (from : Doubted) (events : List Event) → RestsWithRvg d line s kept middle next from events
+    → all_fails events ≡ []
+rests_tell d line s kept middle next from events (HadRvg has same noted is fall) = ap all_fails fall ∙ falls_tell (d.world.nodes s).state s kept
+rests_tell d line s kept middle next from events (GetsRvg units over has there one noted is all) =
+    ap all_fails all
+    ∙ told_behind (group_events (d.world.nodes s) s line) (volume_events middle s units ++ rest_again line s) (events_tell (d.world.nodes s) s line)
+    ∙ again_tells line s
+
+rests_like : (d : Doubted) (line : ScriptLine) (s kept : ℕ) (middle next : GroupNode) (from : Doubted) (events : List Event) → RestsWithRvg d line s kept middle next from events
+    → IsLikeDoubted d from
+rests_like d line s kept middle next from events (HadRvg has same noted is fall) = same_like d from is
+rests_like d line s kept middle next from events (GetsRvg units over has there one noted is all) = doubted_then d (noting_in d s middle) from (noted_doubted d s middle) (same_like (noting_in d s middle) from is)
+
+-- ---- what is left is no more than notes
+
+pub back_like : (s : ℕ) (line : ScriptLine) (taken : Bool) (next : GroupNode) (before last new : Doubted) → IsLeftBack s line taken next before last new → IsLikeDoubted last new
+back_like s line taken next before last new is =
+    let u : World = with_disks taken s before.world last.world in
+    let v : World = noting u s next in
+    as_like last new (group_noted s line v)
+    (like_then (disks_like taken s before.world last.world) (like_then (like_disks u s (u.nodes s).failing (Some next)) (noted_like s line v))) is
+
+lost_like : (lost : Bool) (v : World) (s : ℕ) → IsLike v (fuse_left lost v s)
+lost_like true v s = like_noted v s NoFuse
+lost_like false v s = like_self v
+
+pub but_like : (lost : Bool) (s : ℕ) (line : ScriptLine) (taken : Bool) (next : GroupNode) (before last new : Doubted) → IsLeftBut lost s line taken next before last new
+    → IsLikeDoubted last new
+but_like lost s line taken next before last new is =
+    let u : World = with_disks taken s before.world last.world in
+    let v : World = noting u s next in
+    let x : World = group_noted s line v in
+    as_like last new (fuse_left lost x s)
+    (like_then (disks_like taken s before.world last.world)
+    (like_then (like_disks u s (u.nodes s).failing (Some next)) (like_then (noted_like s line v) (lost_like lost x s)))) is
+
+-- events that are all done, and of which one may tell of a disk, from such worlds on
+but_by : (lost : Bool) (d from : Doubted) → IsLikeDoubted d from → (s : ℕ) (line : ScriptLine) (taken : Bool) (next : GroupNode) (events : List Event) (ending : Fails)
+    (new : Doubted) → all_fails events ≡ ending → IsLeftBut lost s line taken next from (run_as taken from events) new → RvgStops d new
+but_by lost d from like s line taken next events ending new tells left = record {
+  before = from;
+  like = like;
+  events = events;
+  ending = ending;
+  stops = EventsDone (run_as taken from events) (runs_as taken from events) (sym tells) (but_like lost s line taken next from (run_as taken from events) new left);
+}
+
+done_by : (d from : Doubted) → IsLikeDoubted d from → (s : ℕ) (line : ScriptLine) (taken : Bool) (next : GroupNode) (events : List Event) (ending : Fails) (new : Doubted)
+    → all_fails events ≡ ending → IsLeftBack s line taken next from (run_as taken from events) new → RvgStops d new
+done_by d from like s line taken next events ending new tells left = but_by false d from like s line taken next events ending new tells left
+
+-- ---- recoveries and imports
+
+-- nothing came up, and a site that was up crashed
+pub fall_stops : (d : Doubted) (s : ℕ) (line : ScriptLine) (kept : ℕ) (taken lost : Bool) (next : GroupNode) (new : Doubted)
+    → IsLeftBut lost s line taken next d (run_as taken d (fall_first (d.world.nodes s).state s kept)) new → RvgStops d new
+fall_stops d s line kept taken lost next new left =
+    but_by lost d d (same_doubted d) s line taken next (fall_first (d.world.nodes s).state s kept) [] new (falls_tell (d.world.nodes s).state s kept) left
+
+module _ (told : Type 0) (d : Doubted) (line : ScriptLine) (s : ℕ) (fails : Fails) (said : Said) (new : Doubted) where
+  pub back_stops : RvgBack told d line s fails said new → RvgStops d new
+  back_stops (RvgUp kept taken middle found next from rest are brings back rests works says left) =
+      done_by d from (rests_like d line s kept middle found from rest rests) s line taken next (rest ++ RecoverAt s None ∷ []) [] new
+      (told_behind rest (RecoverAt s None ∷ []) (rests_tell d line s kept middle found from rest rests)) left
+  back_stops (LogFails kept taken disk middle found next from rest left are has brings back rests is (inl none) says leads) =
+      but_by true d from (rests_like d line s kept middle found from rest rests) s line taken next (rest ++ left) [] new
+      (told_behind rest left (rests_tell d line s kept middle found from rest rests) ∙ ap all_fails none) leads
+  back_stops (LogFails kept taken disk middle found next from rest left are has brings back rests is (inr begun) says leads) =
+      but_by true d from (rests_like d line s kept middle found from rest rests) s line taken next (rest ++ left) ((s, disk) ∷ []) new
+      (told_behind rest left (rests_tell d line s kept middle found from rest rests) ∙ ap all_fails begun) leads
+  back_stops (LogLacks kept taken middle found next from rest are brings back rests is lacks says left) =
+      but_by true d from (rests_like d line s kept middle found from rest rests) s line taken next rest [] new (rests_tell d line s kept middle found from rest rests) left
+  back_stops (KeptLost kept taken disk middle found next from rest site is are has back rests notes says left) =
+      done_by d from (rests_like d line s kept middle found from rest rests) s line taken next (rest ++ RecoverAt s None ∷ CrashAt s 0 ∷ []) [] new
+      (told_behind rest (RecoverAt s None ∷ CrashAt s 0 ∷ []) (rests_tell d line s kept middle found from rest rests)) left
+  back_stops (LogCut middle found next from rest left site is are fused back rests noted (inl none) says leads) =
+      done_by d from (rests_like d line s 0 middle found from rest rests) s line false next (rest ++ (left ++ FallAt s ∷ [])) [] new
+      (told_behind rest (left ++ FallAt s ∷ []) (rests_tell d line s 0 middle found from rest rests) ∙ told_behind left (FallAt s ∷ []) (ap all_fails none)) leads
+  back_stops (LogCut middle found next from rest left site is are fused back rests noted (inr begun) says leads) =
+      done_by d from (rests_like d line s 0 middle found from rest rests) s line false next (rest ++ (left ++ FallAt s ∷ [])) ((s, 0) ∷ []) new
+      (told_behind rest (left ++ FallAt s ∷ []) (rests_tell d line s 0 middle found from rest rests) ∙ told_both left (FallAt s ∷ [])
+      ∙ ap (λ (es : List Event). all_fails es ++ all_fails (FallAt s ∷ [])) begun) leads
+  back_stops (GroupCutOff next site is has are fused notes says left) =
+      done_by d d (same_doubted d) s line false next (FallAt s ∷ []) [] new refl left
+  back_stops (GroupUnfound kept taken lost why next has are brings not leaves says left) = fall_stops d s line kept taken lost next new left
+  back_stops (GroupHeld kept taken lost disk next has are failed brings notes says left) = fall_stops d s line kept taken lost next new left
+
+  -- ---- other lines
+
+  below_stops : CutBelow d line s fails said new → RvgStops d new
+  below_stops cut =
+      let last : Doubted = run_as cut.taken d (CrashAt s cut.kept ∷ []) in
+      record {
+        before = d;
+        like = same_doubted d;
+        events = CrashAt s cut.kept ∷ [];
+        ending = [];
+        stops = EventsDone last (runs_as cut.taken d (CrashAt s cut.kept ∷ [])) refl (back_like s line cut.taken cut.next d last new cut.left);
+      }
+
+  over_stops : IsKnown told (note_at (d.world.nodes s))
+      → ((c : Choice) → BeginsWrite (events_of d.world line c) → IsOpen (d.world.nodes (place_of d.world line)) × (place_of d.world line < d.world.sites))
+      → EndsOver told d line s fails said new → RvgStops d new
+  over_stops known opens h =
+      let stops = ended (IsKnown told (note_at (d.world.nodes s))) known d line opens h.ending h.inner h.middle h.ends in
+      record {
+        before = d;
+        like = same_doubted d;
+        events = stops.events;
+        ending = stops.ending;
+        stops = ends_like d stops.events stops.ending h.middle new stops.stops
+            (as_like h.middle new (noting h.middle.world s h.next) (like_disks h.middle.world s (h.middle.world.nodes s).failing (Some h.next)) h.left);
+      }
+
+-- what want of memory leaves of a recovery or an import
+pub short_stops : (told : Type 0) (d : Doubted) (line : ScriptLine) (s : ℕ) (new : Doubted) → RvgShort told d line s new → RvgStops d new
+short_stops told d line s new (ShortGroup kept taken lost next over brings notes left) = fall_stops d s line kept taken lost next new left
+short_stops told d line s new (ShortLog kept taken fails middle found next from rest are brings back rests is left) =
+    but_by true d from (rests_like d line s kept middle found from rest rests) s line taken next rest [] new (rests_tell d line s kept middle found from rest rests) left
+short_stops told d line s new (ShortMade site srl maps volumes fails next is are notes left) = ended_rvg d d new (same_doubted d) s next [] refl left
+
+-- ---- where a line writes its site is open
+
+recovery_begins : (t : SiteState) (s kept : ℕ) → BeginsWrite (recovery_of t s kept) → ⊥
+recovery_begins Bare s kept h = h
+recovery_begins Up s kept h = h
+recovery_begins Deported s kept h = h
+recovery_begins Down s kept h = h
+
+pub opens_at : (w : World) (line : ScriptLine) → OpensFor w line → (c : Choice) → BeginsWrite (events_of w line c)
+    → IsOpen (w.nodes (place_of w line)) × (place_of w line < w.sites)
+opens_at w (Site name disks blocks) opens c h = absurd h
+opens_at w (Raw site) opens c h = absurd h
+opens_at w (DiskLine site disk state) opens c h = absurd h
+opens_at w (Crash site pick) opens c h = absurd h
+opens_at w (FuseLine site calls pick) opens c h = absurd h
+opens_at w (Recover site) opens c h = absurd (recovery_begins (w.nodes (site_number w site)).state (site_number w site) c.kept h)
+opens_at w (Write site volume start count fill) opens c h = opens
+opens_at w (Put site volume start bytes) opens c h = opens
+opens_at w (Read site volume start count) opens c h = absurd h
+opens_at w (Show site volume start count) opens c h = absurd h
+opens_at w (Apply site to) opens c h = absurd h
+opens_at w (Status site) opens c h = absurd h
+opens_at w other opens c h = absurd h
+
+-- ---- any line at such a site
+
+module _ (told : Type 0) (is_told : told) (d : Doubted) (s : ℕ) (bright : (note_at (d.world.nodes s)).dark ≡ false) (fails : Fails) (said : Said) (new : Doubted) where
+  -- what the disks hold is known, and imports agree, so nothing else is found on them
+  pub never_found : (line : ScriptLine) → (note_at (d.world.nodes s)).loose ≡ false → RvgFinds told d line s fails said new → ⊥
+  never_found line agree (FindsRvg kept taken next mid n k row c units are brings (inl untold) dark is same comes config fits lies says left) = untold is_told
+  never_found line agree (FindsRvg kept taken next mid n k row c units are brings (inr (inl loose)) dark is same comes config fits lies says left) = absurd (let e : true ≡ false = sym loose ∙ agree in cc)
+  never_found line agree (FindsRvg kept taken next mid n k row c units are brings (inr (inr unknown)) dark is same comes config fits lies says left) = absurd (let e : true ≡ false = sym unknown ∙ bright in cc)
+  never_found line agree (FindsPlain kept taken next mid has are brings (inl untold) dark is none says left) = untold is_told
+  never_found line agree (FindsPlain kept taken next mid has are brings (inr (inl loose)) dark is none says left) = absurd (let e : true ≡ false = sym loose ∙ agree in cc)
+  never_found line agree (FindsPlain kept taken next mid has are brings (inr (inr unknown)) dark is none says left) = absurd (let e : true ≡ false = sym unknown ∙ bright in cc)
+  never_found line agree (FindsNoRvg kept taken lost next why has are brings (inl untold) free notes says left) = untold is_told
+  never_found line agree (FindsNoRvg kept taken lost next why has are brings (inr (inl loose)) free notes says left) = absurd (let e : true ≡ false = sym loose ∙ agree in cc)
+  never_found line agree (FindsNoRvg kept taken lost next why has are brings (inr (inr unknown)) free notes says left) = absurd (let e : true ≡ false = sym unknown ∙ bright in cc)
+
+  -- Where it is known behind the line what they hold, nothing else was found either: at most none was found, and a site that is up crashed.
+  pub finds_stops : (line : ScriptLine) → AgreesOr (note_at (d.world.nodes s)) (note_at (new.world.nodes s)) → RvgFinds told d line s fails said new → RvgStops d new
+  finds_stops line (inl agree) finds = absurd (never_found line agree finds)
+  finds_stops line (inr known) (FindsRvg kept taken next mid n k row c units are brings unknown dark is same comes config fits lies says left) =
+      absurd (let e : true ≡ false = sym (dark is_told) ∙ sym (back_dark s line taken next d _ new left) ∙ known in cc)
+  finds_stops line (inr known) (FindsPlain kept taken next mid has are brings unknown dark is none says left) =
+      absurd (let e : true ≡ false = sym (dark is_told) ∙ sym (back_dark s line taken next d _ new left) ∙ known in cc)
+  finds_stops line (inr known) (FindsNoRvg kept taken lost next why has are brings unknown free notes says left) = fall_stops d s line kept taken lost next new left
+
+  unchanged : IsAs d d.world new → RvgStops d new
+  unchanged left = record {
+    before = d;
+    like = same_doubted d;
+    events = [];
+    ending = [];
+    stops = EventsDone d refl refl (as_like d new d.world (like_self d.world) left);
+  }
+
+  shows_or : (inside : Bool) (line : ScriptLine) → OpensFor d.world line → EndsOrShows inside told d line s fails said new → RvgStops d new
+  shows_or true line opens (ShowsAny site volume start count bytes is are got size left) = unchanged left
+  shows_or true line opens (ShowFails disk are has says left) = unchanged left
+  shows_or false line opens ends = over_stops told d line s fails said new (is_told, bright) (opens_at d.world line opens) ends
+
+  back_or : (line : ScriptLine) → RvgBack told d line s fails said new ⊎ RvgFinds told d line s fails said new → RvgStops d new ⊎ RvgFinds told d line s fails said new
+  back_or line (inl back) = inl (back_stops told d line s fails said new back)
+  back_or line (inr finds) = inr finds
+
+  takes_or : (line : ScriptLine) → OpensFor d.world line → TakesOr told d line s fails said new → RvgStops d new ⊎ RvgFinds told d line s fails said new
+  takes_or (GroupImport site) opens ends = back_or (GroupImport site) ends
+  takes_or (Recover site) opens ends = back_or (Recover site) ends
+  takes_or other opens ends = inl (shows_or (is_inside (note_at (d.world.nodes s)) other) other opens ends)
+
+  by_place : (below : Bool) (line : ScriptLine) → OpensFor d.world line → OverRvgBy below told d line s fails said new
+      → RvgStops d new ⊎ RvgFinds told d line s fails said new
+  by_place true line opens (inl ends) =
+      let stops = group_stops told d line s fails said new ends in
+      inl (record { before = d; like = same_doubted d; events = stops.events; ending = []; stops = stops.stops })
+  by_place true line opens (inr cut) = inl (below_stops told d line s fails said new cut)
+  by_place false line opens ends = takes_or line opens ends
+
+  -- the line ended as events do, or found something on disks of which nothing is known
+  pub stops_or_finds : (line : ScriptLine) → OpensFor d.world line → OverRvg told d line s fails said new → RvgStops d new ⊎ RvgFinds told d line s fails said new
+  stops_or_finds line opens ends = by_place (is_below (note_at (d.world.nodes s)) line) line opens ends
+
+  pub over_rvg_stops : (line : ScriptLine) → (BringsUp line → AgreesOr (note_at (d.world.nodes s)) (note_at (new.world.nodes s))) → OpensFor d.world line
+      → OverRvg told d line s fails said new → RvgStops d new
+  over_rvg_stops line agree opens ends = by (stops_or_finds line opens ends)
+    where
+      by : RvgStops d new ⊎ RvgFinds told d line s fails said new → RvgStops d new
+      by (inl stops) = stops
+      by (inr finds) = finds_stops line (agree (brings_found told d line s fails said new finds)) finds
+
+-- ---- lines of links
+
+each_like : (w : World) (next : ℕ → GroupNode) (v : World) → IsLike v (noting_each w next v)
+each_like w next v = record {
+  sites = refl;
+  nodes = λ i. by_test (λ (n : Node). n ≡ record (v.nodes i) { fuse = n.fuse; failing = n.failing; group = n.group }) (is_over_rvg (w.nodes i))
+      (record (v.nodes i) { group = Some (next i) }) (v.nodes i) (λ _. refl) (λ _. refl);
+  links = λ p q. record { linked = refl; same = λ _. refl };
+  lines = λ l. refl;
+  packets = refl;
+  promised = refl;
+  gathering = λ i. refl;
+}
+
+pub links_over_stop : (told : Type 0) (d : Doubted) (line : ScriptLine) (fails : Fails) (said : Said) (new : Doubted) → AllKnown told d.world line
+    → LinksOver told d line fails said new → RvgStops d new
+links_over_stop told d line fails said new known h =
+    let stops = link_stops (AllKnown told d.world line) known d line h.ending said h.middle h.ends in
+    record {
+      before = d;
+      like = same_doubted d;
+      events = stops.events;
+      ending = stops.ending;
+      stops = ends_like d stops.events stops.ending h.middle new stops.stops
+          (as_like h.middle new (noting_each d.world h.next h.middle.world) (each_like d.world h.next h.middle.world) h.left);
+    }

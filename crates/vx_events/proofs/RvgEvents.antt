@@ -1,0 +1,116 @@
+-- However a line ends, it ends as events of the world do, where it is known what the disks of groups hold and imports of them agree.
+use Rattle.std.proofs.Common.{◌≡◌, inl, inr, ℕ, Bool, true, false, [], Option, Some, None, refl}
+use Rattle.std.specs.Prelude.{◌&&◌, not, eqb, is_some, length}
+use Rattle.vx_model.specs.declared.no.No.{No}
+use Rattle.vx_history.specs.Doubts.{Doubted}
+use Rattle.vx_history.specs.Stops.{AllDone as EventsDone}
+use Rattle.vx_history.specs.World.{Node, World}
+use Rattle.vx_script.specs.declared.line.ScriptLine.{ScriptLine}
+use Rattle.vx_script.specs.declared.line.ScriptLine.TheVariants.{GroupImport, Put, Recover, Rvg, Write}
+use Rattle.vx_events.proofs.GroupStopping.{group_stops}
+use Rattle.vx_events.proofs.LinkStopping.{link_stops}
+use Rattle.vx_events.proofs.Noting.{same_like}
+use Rattle.vx_events.proofs.RvgEnding.{back_stops, finds_stops, links_over_stop, opens_at, over_rvg_stops}
+use Rattle.vx_events.proofs.RvgFull.{brings_found}
+use Rattle.vx_events.proofs.RvgSeats.{put_full, write_full}
+use Rattle.vx_events.proofs.RvgStopping.{rvg_stops, same_doubted}
+use Rattle.vx_events.proofs.Stopping.{ended}
+use Rattle.vx_events.specs.Facts.{site_number}
+use Rattle.vx_events.specs.Fails.{Fails}
+use Rattle.vx_events.specs.GroupEnds.{BringsUp, GroupEnds}
+use Rattle.vx_events.specs.GroupLines.{is_over_group}
+use Rattle.vx_events.specs.GroupNotes.{note_at}
+use Rattle.vx_events.specs.Lines.{EndsBy, IsRefusedLine, is_of_links}
+use Rattle.vx_events.specs.RvgLinks.{links_rvg}
+use Rattle.vx_events.specs.RvgMakes.{RvgStops}
+use Rattle.vx_events.specs.RvgOver.{OpensFor}
+use Rattle.vx_events.specs.RvgSteps.{AgreeFor, AsBefore, FoundOne, FullBy, Gained, StepFull, WorksAbove, WorksBeside, WorksFull, is_for_rvg, refused_full, rvg_place}
+use Rattle.vx_events.specs.RvgViews.{is_over_rvg}
+use Rattle.vx_events.specs.RvgWorks.{AgreesOr}
+use Rattle.vx_events.specs.StepsOver.{WorksOver, group_place, is_for_group}
+use Rattle.vx_events.specs.declared.said.Said.{Said}
+
+-- imports agree of the site of a line that brings a group up, or it is known what its disks hold
+agrees_at : (w : World) (line : ScriptLine) (v : World) → AgreeFor w line v → BringsUp line
+    → AgreesOr (note_at (w.nodes (rvg_place w line))) (note_at (v.nodes (rvg_place w line)))
+agrees_at w (GroupImport site) v all brings = all.agree tt
+agrees_at w (Recover site) v all brings = all.agree tt
+agrees_at w other v all brings = absurd brings
+
+-- a site with a replicated volume group is over no group without one
+apart_of : (group : Bool) (none : Bool) → (group && not none) ≡ true → (group && none) ≡ false
+apart_of true true e = absurd (let f : false ≡ true = e in cc)
+apart_of true false e = refl
+apart_of false none e = refl
+
+pub rvg_apart : (n : Node) → is_over_rvg n ≡ true → is_over_group n ≡ false
+rvg_apart n over = apart_of (is_some n.group) (eqb (length n.volumes) 0) over
+
+module _ (told : Type 0) (is_told : told) (files : Bool) (d : Doubted) (fails : Fails) (said : Said) (new : Doubted) where
+  refused_stops : (why : No) → IsRefusedLine why d fails said new → RvgStops d new
+  refused_stops why is = record {
+    before = d;
+    like = same_doubted d;
+    events = [];
+    ending = [];
+    stops = EventsDone d refl refl (same_like d new is.stays);
+  }
+
+  group_too : (line : ScriptLine) (s : ℕ) → GroupEnds told d line s fails said new → RvgStops d new
+  group_too line s ends =
+      let stops = group_stops told d line s fails said new ends in
+      record { before = d; like = same_doubted d; events = stops.events; ending = []; stops = stops.stops }
+
+  -- a line on no group
+  done_by_kind : (links : Bool) (line : ScriptLine) → OpensFor d.world line → EndsBy links told d line fails said new → RvgStops d new
+  done_by_kind true line opens ends =
+      let stops = link_stops told is_told d line fails said new ends in
+      record { before = d; like = same_doubted d; events = stops.events; ending = stops.ending; stops = stops.stops }
+  done_by_kind false line opens ends =
+      let stops = ended told is_told d line (opens_at d.world line opens) fails said new ends in
+      record { before = d; like = same_doubted d; events = stops.events; ending = stops.ending; stops = stops.stops }
+
+  -- ---- where a line writes its site is open
+
+  opens_apart : (line : ScriptLine) → is_for_group d.world line ≡ false → refused_full d.world files line ≡ None → OpensFor d.world line
+  opens_apart (Write site volume start count fill) apart free = write_full d.world files site volume start count fill apart free
+  opens_apart (Put site volume start bytes) apart free = put_full d.world files site volume start bytes apart free
+  opens_apart other apart free = tt
+
+  opens_above : (line : ScriptLine) → is_for_rvg d.world line ≡ true → refused_full d.world files line ≡ None → OpensFor d.world line
+  opens_above (Write site volume start count fill) over free = write_full d.world files site volume start count fill (rvg_apart (d.world.nodes (site_number d.world site)) over) free
+  opens_above (Put site volume start bytes) over free = put_full d.world files site volume start bytes (rvg_apart (d.world.nodes (site_number d.world site)) over) free
+  opens_above other over free = tt
+
+  -- ---- the ways of a line
+
+  before_stops : (group : Bool) (line : ScriptLine) → is_for_group d.world line ≡ group → refused_full d.world files line ≡ None → WorksOver group told d line fails said new → RvgStops d new
+  before_stops true line is free ends = group_too line (group_place d.world line) ends
+  before_stops false line is free (inl step) = done_by_kind (is_of_links line) line (opens_apart line is free) step.ends
+  before_stops false line is free (inr kept) = absurd (kept.untold is_told)
+
+  beside_stops : (line : ScriptLine) → AgreeFor d.world line new.world → refused_full d.world files line ≡ None → WorksBeside told d line fails said new → RvgStops d new
+  beside_stops line all free (AsBefore works found) = before_stops (is_for_group d.world line) line refl free works
+  beside_stops line all free (Gained back) = back_stops told d line (group_place d.world line) fails said new back
+  beside_stops line all free (FoundOne finds) =
+      let s : ℕ = group_place d.world line in
+      finds_stops told is_told d s (all.known s) fails said new line (all.agree (brings_found told d line s fails said new finds)) finds
+
+  above_stops : (links above : Bool) (line : ScriptLine) → AgreeFor d.world line new.world → is_for_rvg d.world line ≡ above → refused_full d.world files line ≡ None
+      → WorksAbove links above told d line fails said new → RvgStops d new
+  above_stops true above line all is free ends = links_over_stop told d line fails said new (is_told, λ i _. all.known i) ends
+  above_stops false true line all is free ends =
+      let s : ℕ = rvg_place d.world line in
+      over_rvg_stops told is_told d s (all.known s) fails said new line (agrees_at d.world line new.world all) (opens_above line is free) ends
+  above_stops false false line all is free ends = beside_stops line all free ends
+
+  full_stops : (line : ScriptLine) → AgreeFor d.world line new.world → refused_full d.world files line ≡ None → WorksFull told d line fails said new → RvgStops d new
+  full_stops (Rvg site srl maps volumes) all free ends = rvg_stops told d (Rvg site srl maps volumes) (site_number d.world site) fails said new ends
+  full_stops other all free ends = above_stops (links_rvg d.world other) (is_for_rvg d.world other) other all refl free ends
+
+  by_refusal : (line : ScriptLine) (o : Option No) → AgreeFor d.world line new.world → refused_full d.world files line ≡ o → FullBy o told d line fails said new → RvgStops d new
+  by_refusal line (Some why) all is step = refused_stops why step
+  by_refusal line None all is step = full_stops line all is step
+
+  pub step_stops : (line : ScriptLine) → AgreeFor d.world line new.world → StepFull told files d line fails said new → RvgStops d new
+  step_stops line all step = by_refusal line (refused_full d.world files line) all refl step

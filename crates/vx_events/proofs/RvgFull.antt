@@ -1,0 +1,129 @@
+-- In a world in which no site is over a group of disks with a replicated volume group, a line that makes none does what it does there, but where it brings a
+-- group up and finds one.
+use Rattle.std.proofs.Common.{◌≡◌, ◌∙◌, ℕ, Bool, false, List, refl, ap, sym, subst}
+use Rattle.std.specs.Prelude.{Option, Some, None, ◌||◌, if◌then◌else◌}
+use Rattle.vx_model.specs.declared.no.No.{No}
+use Rattle.vx_history.specs.Doubts.{Doubted}
+use Rattle.vx_history.specs.Events.{packet_at}
+use Rattle.vx_history.specs.World.{Packet, World}
+use Rattle.vx_order.specs.Order.{line_refusal}
+use Rattle.vx_order.specs.declared.facts.SiteFacts.{SiteFacts}
+use Rattle.vx_script.specs.declared.line.ScriptLine.{ScriptLine}
+use Rattle.vx_script.specs.declared.line.ScriptLine.TheVariants.{GroupDeport, GroupImport, Volume, PlexDetach, PlexAttach, Rvg, Disk, Crash, Fuse, Recover, Write, Put, Read, Show, Apply, Status, Deliver, Link, Pump, Set, Settle}
+use Rattle.vx_events.proofs.Over.{values_same}
+use Rattle.vx_events.specs.Facts.{site_number}
+use Rattle.vx_events.specs.Fails.{Fails}
+use Rattle.vx_events.specs.GroupEnds.{BringsUp}
+use Rattle.vx_events.specs.GroupNotes.{note_at}
+use Rattle.vx_events.specs.LinkedFacts.{linked_fact}
+use Rattle.vx_events.specs.RvgBack.{FindsNoRvg, FindsPlain, FindsRvg, GroupCutOff, GroupHeld, GroupUnfound, KeptLost, LogCut, LogFails, LogLacks, RvgBack, RvgFinds, RvgUp}
+use Rattle.vx_events.specs.RvgLinks.{links_rvg, rvg_target}
+use Rattle.vx_events.specs.RvgSteps.{AsBefore, FoundOne, FoundPlain, FullBy, Gained, HasNoRvgs, MakesNoRvg, StepFull, WorksAbove, WorksBeside, WorksFull, fact_full, facts_full, is_for_rvg, refused_full}
+use Rattle.vx_events.specs.RvgViews.{is_over_rvg, over_facts}
+use Rattle.vx_events.specs.StepsOver.{OverBy, StepOver, WorksOver, fact_over, facts_over, group_place, is_for_group, refused_over}
+use Rattle.vx_events.specs.declared.said.Said.{Said}
+
+module _ (w : World) (none : HasNoRvgs w) where
+  fact_same : (i : ℕ) → fact_full w i ≡ fact_over w i
+  fact_same i = ap (λ (b : Bool). if b then over_facts (note_at (w.nodes i)) (linked_fact w i) else fact_over w i) (none i)
+
+  facts_same : facts_full w ≡ facts_over w
+  facts_same = values_same (λ i. fact_full w i) (λ i. fact_over w i) fact_same 0 w.sites
+
+  refused_same : (files : Bool) (line : ScriptLine) → refused_full w files line ≡ refused_over w files line
+  refused_same files (Deliver number) = refl
+  refused_same files other = ap (λ (fs : List SiteFacts). line_refusal fs files other) facts_same
+
+  either_none : (a b : Bool) → a ≡ false → b ≡ false → (a || b) ≡ false
+  either_none a b e f = ap (λ (x : Bool). x || b) e ∙ f
+
+  target_none : (o : Option Packet) → rvg_target w o ≡ false
+  target_none None = refl
+  target_none (Some p) = none p.target
+
+  links_none : (line : ScriptLine) → links_rvg w line ≡ false
+  links_none (Link p s sync prot) = either_none (is_over_rvg (w.nodes (site_number w p))) (is_over_rvg (w.nodes (site_number w s))) (none (site_number w p)) (none (site_number w s))
+  links_none (Set p s sync prot) = none (site_number w p)
+  links_none (Pump p s) = none (site_number w p)
+  links_none (Deliver number) = target_none (packet_at w.packets number)
+  links_none (Settle p s) = either_none (is_over_rvg (w.nodes (site_number w p))) (is_over_rvg (w.nodes (site_number w s))) (none (site_number w p)) (none (site_number w s))
+  links_none other = refl
+
+  for_none : (line : ScriptLine) → is_for_rvg w line ≡ false
+  for_none (GroupDeport site) = none (site_number w site)
+  for_none (GroupImport site) = none (site_number w site)
+  for_none (Volume site volume blocks mirrors layout log map policy) = none (site_number w site)
+  for_none (PlexDetach site volume plex) = none (site_number w site)
+  for_none (PlexAttach site volume plex) = none (site_number w site)
+  for_none (Disk site disk state) = none (site_number w site)
+  for_none (Crash site pick) = none (site_number w site)
+  for_none (Fuse site calls pick) = none (site_number w site)
+  for_none (Recover site) = none (site_number w site)
+  for_none (Write site volume start count fill) = none (site_number w site)
+  for_none (Put site volume start bytes) = none (site_number w site)
+  for_none (Read site volume start count) = none (site_number w site)
+  for_none (Show site volume start count) = none (site_number w site)
+  for_none (Apply site to) = none (site_number w site)
+  for_none (Status site) = none (site_number w site)
+  for_none other = refl
+
+-- what finds a replicated volume group brings a group up
+pub brings_back : (told : Type 0) (d : Doubted) (line : ScriptLine) (s : ℕ) (fails : Fails) (said : Said) (new : Doubted) → RvgBack told d line s fails said new → BringsUp line
+brings_back told d line s fails said new (RvgUp kept taken middle found next from rest are brings back rests works says left) = brings
+brings_back told d line s fails said new (LogFails kept taken disk middle found next from rest left are has brings back rests is begun says leads) = brings
+brings_back told d line s fails said new (LogLacks kept taken middle found next from rest are brings back rests is lacks says left) = brings
+brings_back told d line s fails said new (KeptLost kept taken disk middle found next from rest site is are has back rests notes says left) =
+    subst (λ (l : ScriptLine). BringsUp l) (sym is) tt
+brings_back told d line s fails said new (LogCut middle found next from rest left site is are fused back rests noted begun says leads) =
+    subst (λ (l : ScriptLine). BringsUp l) (sym is) tt
+brings_back told d line s fails said new (GroupCutOff next site is has are fused notes says left) = subst (λ (l : ScriptLine). BringsUp l) (sym is) tt
+brings_back told d line s fails said new (GroupUnfound kept taken lost why next has are brings not leaves says left) = brings
+brings_back told d line s fails said new (GroupHeld kept taken lost disk next has are failed brings notes says left) = brings
+
+pub brings_found : (told : Type 0) (d : Doubted) (line : ScriptLine) (s : ℕ) (fails : Fails) (said : Said) (new : Doubted) → RvgFinds told d line s fails said new → BringsUp line
+brings_found told d line s fails said new (FindsRvg kept taken next mid n k row c units are brings unknown dark is same comes config fits lies says left) = brings
+brings_found told d line s fails said new (FindsPlain kept taken next mid has are brings unknown dark is none says left) = brings
+brings_found told d line s fails said new (FindsNoRvg kept taken lost next why has are brings unknown free notes says left) = brings
+
+module _ (told : Type 0) (files : Bool) (d : Doubted) (none : HasNoRvgs d.world) (fails : Fails) (said : Said) (new : Doubted) where
+  abbrev Full : ScriptLine → Type 0
+  Full line = WorksFull told d line fails said new
+
+  -- what a line works on there
+  beside_full : (line : ScriptLine) → MakesNoRvg line → WorksBeside told d line fails said new → Full line
+  beside_full (Rvg site srl maps volumes) makes works = absurd makes
+  beside_full other makes works =
+      subst (λ (b : Bool). WorksAbove b (is_for_rvg d.world other) told d other fails said new) (sym (links_none d.world none other))
+      (subst (λ (b : Bool). WorksAbove false b told d other fails said new) (sym (for_none d.world none other)) works)
+
+  full_beside : (line : ScriptLine) → MakesNoRvg line → Full line → WorksBeside told d line fails said new
+  full_beside (Rvg site srl maps volumes) makes works = absurd makes
+  full_beside other makes works =
+      subst (λ (b : Bool). WorksAbove false b told d other fails said new) (for_none d.world none other)
+      (subst (λ (b : Bool). WorksAbove b (is_for_rvg d.world other) told d other fails said new) (links_none d.world none other) works)
+
+  over_by : (line : ScriptLine) → MakesNoRvg line → FoundPlain line (group_place d.world line) new → (o : Option No) → OverBy o (is_for_group d.world line) told d line fails said new
+      → FullBy o told d line fails said new
+  over_by line makes found (Some why) step = step
+  over_by line makes found None step = beside_full line makes (AsBefore step found)
+
+  plain_by : (line : ScriptLine) → MakesNoRvg line → (BringsUp line → ⊥) → (o : Option No) → FullBy o told d line fails said new
+      → OverBy o (is_for_group d.world line) told d line fails said new
+  plain_by line makes quiet (Some why) step = step
+  plain_by line makes quiet None step = before (full_beside line makes step)
+    where
+      before : WorksBeside told d line fails said new → WorksOver (is_for_group d.world line) told d line fails said new
+      before (AsBefore works found) = works
+      before (Gained back) = absurd (quiet (brings_back told d line (group_place d.world line) fails said new back))
+      before (FoundOne finds) = absurd (quiet (brings_found told d line (group_place d.world line) fails said new finds))
+
+  pub full_over : (line : ScriptLine) → MakesNoRvg line → FoundPlain line (group_place d.world line) new → StepOver told files d line fails said new
+      → StepFull told files d line fails said new
+  full_over line makes found step =
+      over_by line makes found (refused_full d.world files line)
+      (subst (λ (o : Option No). OverBy o (is_for_group d.world line) told d line fails said new) (sym (refused_same d.world none files line)) step)
+
+  pub over_full : (line : ScriptLine) → MakesNoRvg line → (BringsUp line → ⊥) → StepFull told files d line fails said new → StepOver told files d line fails said new
+  over_full line makes quiet step =
+      subst (λ (o : Option No). OverBy o (is_for_group d.world line) told d line fails said new) (refused_same d.world none files line)
+      (plain_by line makes quiet (refused_full d.world files line) step)

@@ -1,0 +1,152 @@
+-- Disks of a group with a replicated volume group of which it is known what they hold stay so, as those of a group without one.
+use Rattle.std.proofs.Common.{◌≡◌, ◌∙◌, ◌⊎◌, inl, inr, ℕ, Bool, true, false, List, Option, Some, ap, refl, sym, subst}
+use Rattle.std.specs.Prelude.{unwrap_or}
+use Rattle.vx_history.proofs.Updates.{at_place}
+use Rattle.vx_history.specs.Doubts.{Doubted}
+use Rattle.vx_history.specs.Groups.{GroupNode}
+use Rattle.vx_history.specs.Steps.{burned}
+use Rattle.vx_history.specs.Stops.{IsFused}
+use Rattle.vx_history.specs.World.{NoFuse, Node, World}
+use Rattle.vx_history.specs.declared.event.Event.{Event}
+use Rattle.vx_config.specs.declared.config.Config.{Config}
+use Rattle.vx_model.specs.declared.units.Units.{Units}
+use Rattle.vx_script.specs.declared.line.ScriptLine.{ScriptLine}
+use Rattle.vx_script.specs.declared.line.ScriptLine.TheVariants.{Apply, GroupImport, Put, Recover, Write}
+use Rattle.vx_events.proofs.KnownLaws.{back_known, cuts_known, finds_none, group_known, group_stays, no_rise, same_note}
+use Rattle.vx_events.specs.Doubts.{with_disks}
+use Rattle.vx_events.specs.Fails.{Fails}
+use Rattle.vx_events.specs.GroupEnds.{BringsUp}
+use Rattle.vx_events.specs.GroupLines.{noting}
+use Rattle.vx_events.specs.GroupNotes.{Reconfigures, no_note, note_at}
+use Rattle.vx_events.specs.Known.{MayDarken}
+use Rattle.vx_events.specs.RvgBack.{FindsNoRvg, FindsPlain, FindsRvg, GetsRvg, GroupCutOff, GroupHeld, GroupUnfound, HadRvg, IsLeftBack, KeptLost, LogCut, LogFails, LogLacks, RestsWithRvg, RvgBack, RvgFinds, RvgUp, fuse_left}
+use Rattle.vx_events.specs.RvgMakes.{IsLeftRvg, MakesRvg, RvgCut, RvgDone, RvgFails, RvgLacks, units_at}
+use Rattle.vx_events.specs.RvgNotes.{NotesNarrowed}
+use Rattle.vx_events.specs.RvgOver.{EndsOrShows, NotesLine, OverRvg, OverRvgBy, ShowFails, ShowsAny, TakesOr, is_below, is_inside}
+use Rattle.vx_events.specs.RvgWorks.{FuseRanOut, NotesWork, WorksAs}
+use Rattle.vx_events.specs.declared.said.Said.{Said}
+
+-- ---- the note that a line leaves
+
+pub of_note : (w : World) (s : ℕ) (next : GroupNode) → (w.nodes s).group ≡ Some next → next.dark ≡ false → (note_at (w.nodes s)).dark ≡ false
+of_note w s next is known = ap (λ (o : Option GroupNode). (unwrap_or o no_note).dark) is ∙ known
+
+pub noted_here : (v : World) (s : ℕ) (next : GroupNode) → ((noting v s next).nodes s).group ≡ Some next
+noted_here v s next = ap (λ (n : Node). n.group) (at_place v.nodes s (record (v.nodes s) { group = Some next }))
+
+back_note : (s : ℕ) (line : ScriptLine) (taken : Bool) (next : GroupNode) (before last new : Doubted) → IsLeftBack s line taken next before last new → next.dark ≡ false
+    → (note_at (new.world.nodes s)).dark ≡ false
+back_note s line taken next before last new left known =
+    let u : World = with_disks taken s before.world last.world in
+    of_note new.world s next (ap (λ (w : World). (w.nodes s).group) left.world ∙ group_stays s line (noting u s next) ∙ noted_here u s next) known
+
+pub back_dark : (s : ℕ) (line : ScriptLine) (taken : Bool) (next : GroupNode) (before last new : Doubted) → IsLeftBack s line taken next before last new
+    → (note_at (new.world.nodes s)).dark ≡ next.dark
+back_dark s line taken next before last new left =
+    let u : World = with_disks taken s before.world last.world in
+    ap (λ (o : Option GroupNode). (unwrap_or o no_note).dark)
+    (ap (λ (w : World). (w.nodes s).group) left.world ∙ group_stays s line (noting u s next) ∙ noted_here u s next)
+
+-- whatever becomes of the fuse
+pub lost_group : (lost : Bool) (v : World) (s : ℕ) → ((fuse_left lost v s).nodes s).group ≡ (v.nodes s).group
+lost_group true v s = ap (λ (n : Node). n.group) (at_place v.nodes s (record (v.nodes s) { fuse = NoFuse }))
+lost_group false v s = refl
+
+made_note : (s : ℕ) (next : GroupNode) (last new : Doubted) → IsLeftRvg s next last new → next.dark ≡ false → (note_at (new.world.nodes s)).dark ≡ false
+made_note s next last new left known =
+    let v : World = noting last.world s next in
+    of_note new.world s next
+    (ap (λ (w : World). (w.nodes s).group) left.world ∙ ap (λ (n : Node). n.group) (at_place v.nodes s (record (v.nodes s) { fuse = burned (v.nodes s).fuse })) ∙ noted_here last.world s next) known
+
+-- ---- a line that makes a replicated volume group
+
+pub narrowed_dark : (told : Type 0) (units : Units) (note new : GroupNode) → NotesNarrowed told units note new → new.dark ≡ note.dark
+narrowed_dark told units note new x = ap (λ (g : GroupNode). g.dark) x.same
+
+worked_dark : {C : Config → Config → Type 0} (Off : Type 0) (s : ℕ) (fails : Fails) (note new : GroupNode) → Reconfigures C (WorksAs Off s fails) note new → new.dark ≡ note.dark
+worked_dark Off s fails note new x = x.keeps.works.same.dark
+
+pub works_dark : (Off : Type 0) (s : ℕ) (fails : Fails) (note new : GroupNode) → NotesWork Off s fails note new → new.dark ≡ note.dark
+works_dark Off s fails note new x = x.keeps.works.same.dark
+
+pub making_known : (told : Type 0) (d : Doubted) (line : ScriptLine) (s : ℕ) (fails : Fails) (said : Said) (new : Doubted) → MakesRvg told d line s fails said new
+    → (note_at (d.world.nodes s)).dark ≡ false → (note_at (new.world.nodes s)).dark ≡ false
+making_known told d line s fails said new (RvgDone site srl maps volumes middle next is are x says left) known =
+    made_note s next _ new left
+    (ap (λ (g : GroupNode). g.dark) x.is ∙ worked_dark ⊥ s fails middle x.settled x.moves ∙ narrowed_dark told (units_at d s srl maps volumes) (note_at (d.world.nodes s)) middle x.narrowed ∙ known)
+making_known told d line s fails said new (RvgLacks site srl maps volumes next is are x says left) known =
+    made_note s next _ new left
+    (works_dark ⊥ s fails x.middle next x.moves ∙ narrowed_dark told (units_at d s srl maps volumes) (note_at (d.world.nodes s)) x.middle x.narrowed ∙ known)
+making_known told d line s fails said new (RvgFails site srl maps volumes disk next is are has x says left) known =
+    made_note s next _ new left
+    (works_dark ⊥ s fails x.middle next x.moves ∙ narrowed_dark told (units_at d s srl maps volumes) (note_at (d.world.nodes s)) x.middle x.narrowed ∙ known)
+making_known told d line s fails said new (RvgCut site srl maps volumes next is are fused x says left) known =
+    made_note s next _ new left
+    (works_dark (IsFused (d.world.nodes s).fuse) s fails x.middle next x.moves ∙ narrowed_dark told (units_at d s srl maps volumes) (note_at (d.world.nodes s)) x.middle x.narrowed ∙ known)
+
+-- ---- recoveries and imports
+
+pub rests_dark : (d : Doubted) (line : ScriptLine) (s kept : ℕ) (middle next : GroupNode) (from : Doubted) (events : List Event) → RestsWithRvg d line s kept middle next from events
+    → next.dark ≡ middle.dark
+rests_dark d line s kept middle next from events (HadRvg has same noted is fall) = ap (λ (g : GroupNode). g.dark) noted
+rests_dark d line s kept middle next from events (GetsRvg units over has there one noted is all) = ap (λ (g : GroupNode). g.dark) noted
+
+module _ (told : Type 0) (tells : told) (d : Doubted) (s : ℕ) (known : (note_at (d.world.nodes s)).dark ≡ false) (fails : Fails) (said : Said) (new : Doubted) where
+  abbrev here : GroupNode
+  here = note_at (d.world.nodes s)
+
+  pub back_known_too : (line : ScriptLine) → (MayDarken here line said → ⊥) → RvgBack told d line s fails said new → (note_at (new.world.nodes s)).dark ≡ false
+  back_known_too line free (RvgUp kept taken middle found next from rest are brings back rests works says left) =
+      back_note s line taken next from _ new left
+      (works_dark ⊥ s fails found next works ∙ rests_dark d line s kept middle found from rest rests ∙ back_known told s (d.world.nodes s) fails here middle known (λ loose. free (brings, inl loose)) back)
+  back_known_too line free (LogFails kept taken disk middle found next from rest left are has brings back rests is begun says leads) =
+      absurd (no_rise here line said _ says free brings)
+  back_known_too line free (LogLacks kept taken middle found next from rest are brings back rests is lacks says left) = absurd (no_rise here line said _ says free brings)
+  back_known_too line free (KeptLost kept taken disk middle found next from rest site is are has back rests notes says left) =
+      absurd (no_rise here line said _ says free (subst BringsUp (sym is) tt))
+  back_known_too line free (LogCut middle found next from rest left site is are fused back rests notes begun says leads) =
+      absurd (no_rise here line said _ says free (subst BringsUp (sym is) tt))
+  back_known_too line free (GroupCutOff next site is has are fused notes says left) = absurd (no_rise here line said _ says free (subst BringsUp (sym is) tt))
+  back_known_too line free (GroupUnfound kept taken lost why next has are brings not leaves says left) = absurd (no_rise here line said why says free brings)
+  back_known_too line free (GroupHeld kept taken lost disk next has are failed brings notes says left) = absurd (no_rise here line said _ says free brings)
+
+  finds_known : (line : ScriptLine) → (MayDarken here line said → ⊥) → RvgFinds told d line s fails said new → ⊥
+  finds_known line free (FindsRvg kept taken next mid n k row c units are brings unknown dark is same comes config fits lies says left) =
+      finds_none told tells here known (λ loose. free (brings, inl loose)) unknown
+  finds_known line free (FindsPlain kept taken next mid has are brings unknown dark is none says left) =
+      finds_none told tells here known (λ loose. free (brings, inl loose)) unknown
+  finds_known line free (FindsNoRvg kept taken lost next why has are brings unknown device notes says left) =
+      finds_none told tells here known (λ loose. free (brings, inl loose)) unknown
+
+  -- ---- other lines
+
+  line_dark : (Off : Type 0) (line : ScriptLine) (next : GroupNode) → NotesLine Off s fails line here next → next.dark ≡ false
+  line_dark Off (Write site volume start count fill) next x = works_dark Off s fails here next x ∙ known
+  line_dark Off (Put site volume start bytes) next x = works_dark Off s fails here next x ∙ known
+  line_dark Off (Apply site to) next x = works_dark Off s fails here next x ∙ known
+  line_dark Off other next same = same_note here next same known
+
+  shows_known : (inside : Bool) (line : ScriptLine) → EndsOrShows inside told d line s fails said new → (note_at (new.world.nodes s)).dark ≡ false
+  shows_known true line (ShowsAny site volume start count bytes is are got size left) = subst (λ (w : World). (note_at (w.nodes s)).dark ≡ false) (sym left.world) known
+  shows_known true line (ShowFails disk are has says left) = subst (λ (w : World). (note_at (w.nodes s)).dark ≡ false) (sym left.world) known
+  shows_known false line h =
+      of_note new.world s h.next (ap (λ (w : World). (w.nodes s).group) h.left.world ∙ noted_here h.middle.world s h.next) (line_dark (FuseRanOut (d.world.nodes s) h.inner) line h.next h.notes)
+
+  back_or_known : (line : ScriptLine) → (MayDarken here line said → ⊥) → RvgBack told d line s fails said new ⊎ RvgFinds told d line s fails said new
+      → (note_at (new.world.nodes s)).dark ≡ false
+  back_or_known line free (inl back) = back_known_too line free back
+  back_or_known line free (inr finds) = absurd (finds_known line free finds)
+
+  takes_known : (line : ScriptLine) → (MayDarken here line said → ⊥) → TakesOr told d line s fails said new → (note_at (new.world.nodes s)).dark ≡ false
+  takes_known (GroupImport site) free ends = back_or_known (GroupImport site) free ends
+  takes_known (Recover site) free ends = back_or_known (Recover site) free ends
+  takes_known other free ends = shows_known (is_inside here other) other ends
+
+  by_known : (below : Bool) (line : ScriptLine) → is_below here line ≡ below → (MayDarken here line said → ⊥) → OverRvgBy below told d line s fails said new
+      → (note_at (new.world.nodes s)).dark ≡ false
+  by_known true line is free (inl ends) = group_known told tells d line s fails said new ends known free
+  by_known true line is free (inr cut) = back_note s line cut.taken cut.next d _ new cut.left (cuts_known s here line fails cut.next known (no_rise here line said _ cut.says free) cut.cuts)
+  by_known false line is free ends = takes_known line free ends
+
+  pub over_known : (line : ScriptLine) → (MayDarken here line said → ⊥) → OverRvg told d line s fails said new → (note_at (new.world.nodes s)).dark ≡ false
+  over_known line free ends = by_known (is_below here line) line refl free ends

@@ -1,0 +1,173 @@
+-- Where no call of a line failed, and no fuse ran out in it, imports of a group of disks with a replicated volume group agree behind it as before.
+use Rattle.std.proofs.Common.{◌≡◌, ◌∙◌, ◌⊎◌, inl, inr, ℕ, Bool, true, false, List, Option, Some, ap, refl, subst, sym}
+use Rattle.std.specs.Prelude.{unwrap_or}
+use Rattle.vx_model.specs.Content.{Write as WriteBlocks}
+use Rattle.vx_model.specs.declared.no.Counted.TheVariants.{Number}
+use Rattle.vx_model.specs.declared.no.No.{No}
+use Rattle.vx_model.specs.declared.no.No.TheVariants.{Limit}
+use Rattle.vx_history.specs.Doubts.{Doubted}
+use Rattle.vx_history.specs.Groups.{GroupNode, MissedNote, NoteSettles}
+use Rattle.vx_history.specs.World.{Node, World}
+use Rattle.vx_history.specs.declared.event.Event.{Event}
+use Rattle.vx_config.specs.declared.config.Config.{Config}
+use Rattle.vx_script.specs.declared.line.ScriptLine.{ScriptLine}
+use Rattle.vx_script.specs.declared.line.ScriptLine.TheVariants.{Apply, GroupInit, GroupDeport, GroupImport, Volume, PlexDetach, PlexAttach, Disk, Crash, Fuse, Recover, Write, Put, Read, Show, Status}
+use Rattle.vx_events.proofs.KnownLaws.{left_note, never}
+use Rattle.vx_events.proofs.RvgEnding.{never_found}
+use Rattle.vx_events.proofs.RvgKnown.{noted_here}
+use Rattle.vx_events.proofs.RvgStays.{back_group, but_group, each_group, not_below}
+use Rattle.vx_events.specs.Doubts.{IsAs}
+use Rattle.vx_events.specs.Fails.{Fails}
+use Rattle.vx_events.specs.GroupEnds.{BringsUp, FindsGroup, FindsNoGroup, GroupCut, GroupDoes, GroupDone, GroupEnds, GroupFails, GroupLacks, GroupNotFound, ImportFails, InitFails, KeptUnread, NotFoundLeaves}
+use Rattle.vx_events.specs.GroupMaps.{WithMaps}
+use Rattle.vx_events.specs.GroupNotes.{NotesBack, NotesRefused, NotesWrite, Reconfigures, no_note, note_at}
+use Rattle.vx_events.specs.RvgBack.{GetsRvg, GroupCutOff, GroupHeld, GroupUnfound, HadRvg, KeptLost, LogCut, LogFails, LogLacks, RestsWithRvg, RvgBack, RvgFinds, RvgUp}
+use Rattle.vx_events.specs.RvgLinks.{LinksOver, NotesThere, works_at}
+use Rattle.vx_events.specs.RvgOver.{EndsOrShows, NotesLine, OverRvg, OverRvgBy, SaysOver, ShowFails, ShowsAny, TakesOr, is_below, is_inside}
+use Rattle.vx_events.specs.RvgViews.{is_over_rvg}
+use Rattle.vx_events.specs.RvgWorks.{FuseRanOut, NoneFailed, NoteAgrees}
+use Rattle.vx_events.specs.declared.said.Said.{Said}
+
+-- ---- notes
+
+agrees_same : (note next : GroupNode) → next.loose ≡ note.loose → next.begun ≡ note.begun → NoteAgrees note → NoteAgrees next
+agrees_same note next loose begun a = record { loose = loose ∙ a.loose; begun = begun ∙ a.begun }
+
+agrees_note : (note next : GroupNode) → next ≡ note → NoteAgrees note → NoteAgrees next
+agrees_note note next same a = agrees_same note next (ap (λ (g : GroupNode). g.loose) same) (ap (λ (g : GroupNode). g.begun) same) a
+
+agrees_refused : (note next : GroupNode) → NotesRefused note next → NoteAgrees note → NoteAgrees next
+agrees_refused note next (inl same) a = agrees_note note next same a
+agrees_refused note next (inr dark) a = agrees_same note next (ap (λ (g : GroupNode). g.loose) dark) (ap (λ (g : GroupNode). g.begun) dark) a
+
+agrees_unfound : (why : No) (note next : GroupNode) → NotFoundLeaves why note next → NoteAgrees note → NoteAgrees next
+agrees_unfound (Limit Number most) note next leaves a = agrees_refused note next leaves a
+agrees_unfound other note next leaves a = agrees_note note next leaves a
+
+settled : {C : Config → Config → Type 0} (note next : GroupNode) → Reconfigures C NoteSettles note next → NoteAgrees note → NoteAgrees next
+settled note next x a = let rests = x.keeps.tight a.loose a.begun in record { loose = rests.1; begun = rests.0 }
+
+settled_maps : {C : Config → Config → Type 0} {Maps : Config → Config → MissedNote → MissedNote → Type 0} (note next : GroupNode) → WithMaps (Reconfigures C NoteSettles) Maps note next → NoteAgrees note → NoteAgrees next
+settled_maps note next x a = agrees_same x.middle next (ap (λ (g : GroupNode). g.loose) x.is) (ap (λ (g : GroupNode). g.begun) x.is) (settled note x.middle x.goes a)
+
+agrees_at : (m : Node) (next : GroupNode) → m.group ≡ Some next → NoteAgrees next → NoteAgrees (note_at m)
+agrees_at m next is a = subst (λ (g : GroupNode). NoteAgrees g) (sym (ap (λ (o : Option GroupNode). unwrap_or o no_note) is)) a
+
+module _ (told : Type 0) (s : ℕ) (n : Node) (note : GroupNode) (fails : Fails) (said : Said) (next : GroupNode) (a : NoteAgrees note) where
+  written : (x : WriteBlocks) → NotesWrite s fails x note next → NoteAgrees next
+  written x w =
+      agrees_same w.middle next (ap (λ (g : GroupNode). g.loose) w.is) (ap (λ (g : GroupNode). g.begun) w.is) (settled_maps note w.middle w.moves a)
+
+  does_agree : (line : ScriptLine) → is_below note line ≡ true → GroupDoes told s n note line fails said next → NoteAgrees next
+  does_agree (GroupInit site) below does = absurd (never below)
+  does_agree (GroupDeport site) below does = settled_maps note next does.0 a
+  does_agree (GroupImport site) below does = absurd (never below)
+  does_agree (Volume site volume blocks mirrors layout log map policy) below does =
+      let x = does.0 in
+      let rests = x.settles.tight a.loose a.begun in
+      agrees_same x.middle next (ap (λ (g : GroupNode). g.loose) x.zeros.same) (ap (λ (g : GroupNode). g.begun) x.zeros.same) (record { loose = rests.1; begun = rests.0 })
+  does_agree (PlexDetach site volume plex) below does = settled_maps note next does.0 a
+  does_agree (PlexAttach site volume plex) below does = settled_maps note next does.0 a
+  does_agree (Write site volume start count fill) below does = written _ does.0
+  does_agree (Put site volume start bytes) below does = written _ does.0
+  does_agree (Read site volume start count) below does = agrees_note note next does.0 a
+  does_agree (Show site volume start count) below does = agrees_note note next does.0 a
+  does_agree (Recover site) below does = absurd (never below)
+  does_agree (Disk site disk state) below does = agrees_note note next does.0 a
+  does_agree (Crash site pick) below does = agrees_note note next does.0 a
+  does_agree (Fuse site calls pick) below does = agrees_note note next does.0 a
+  does_agree (Status site) below does = agrees_note note next does.0 a
+  does_agree other below does = absurd does
+
+-- ---- a line at such a site
+
+module _ (told : Type 0) (tells : told) (d : Doubted) (s : ℕ) (fails : Fails) (said : Said) (new : Doubted) (none : NoneFailed s fails)
+    (dry : FuseRanOut (d.world.nodes s) said → ⊥) (bright : (note_at (d.world.nodes s)).dark ≡ false) (a : NoteAgrees (note_at (d.world.nodes s))) where
+  abbrev here : GroupNode
+  here = note_at (d.world.nodes s)
+
+  unchanged : IsAs d d.world new → NoteAgrees (note_at (new.world.nodes s))
+  unchanged left = subst (λ (w : World). NoteAgrees (note_at (w.nodes s))) (sym left.world) a
+
+  group_agrees : (line : ScriptLine) → is_below here line ≡ true → GroupEnds told d line s fails said new → NoteAgrees (note_at (new.world.nodes s))
+  group_agrees line below (GroupDone next are does left) =
+      agrees_at (new.world.nodes s) next (left_note s line next _ new left) (does_agree told s (d.world.nodes s) here fails said next a line below does)
+  group_agrees line below (GroupLacks why wants without says left) = agrees_at (new.world.nodes s) here (left_note s line here d new left) a
+  group_agrees line below (GroupFails disk next are has spoils says left) = absurd (none disk has)
+  group_agrees line below (InitFails disk site is are has says left) = absurd (none disk has)
+  group_agrees line below (ImportFails why next site is are refuses begun says left) = absurd (not_below here line (subst BringsUp (sym is) tt) below)
+  group_agrees line below (KeptUnread disk next site is are has back says left) = absurd (none disk has)
+  group_agrees line below (GroupCut next are fused cuts says left) = absurd (dry (fused, says))
+  group_agrees line below (GroupNotFound why next are brings not leaves says left) = absurd (not_below here line brings below)
+  group_agrees line below (FindsGroup next are brings unknown dark says left) = absurd (not_below here line brings below)
+  group_agrees line below (FindsNoGroup next why are brings unknown device refused says left) = absurd (not_below here line brings below)
+
+  -- a group that came up
+  came_agrees : (line : ScriptLine) (kept : ℕ) (middle found : GroupNode) (from : Doubted) (rest : List Event) → NotesBack told s (d.world.nodes s) fails here middle
+      → RestsWithRvg d line s kept middle found from rest → NoteAgrees found
+  came_agrees line kept middle found from rest back (HadRvg has same noted is fall) = agrees_note middle found noted (record { loose = back.loose; begun = back.begun })
+  came_agrees line kept middle found from rest back (GetsRvg units over has there one noted is all) =
+      agrees_same middle found (ap (λ (g : GroupNode). g.loose) noted) (ap (λ (g : GroupNode). g.begun) noted) (record { loose = back.loose; begun = back.begun })
+
+  back_agrees : (line : ScriptLine) → RvgBack told d line s fails said new → NoteAgrees (note_at (new.world.nodes s))
+  back_agrees line (RvgUp kept taken middle found next from rest are brings back rests works says left) =
+      agrees_at (new.world.nodes s) next (back_group s line taken next from _ new left)
+      (works.keeps.quiet none (λ off. off) (came_agrees line kept middle found from rest back rests))
+  back_agrees line (LogFails kept taken disk middle found next from rest events are has brings back rests is begun says left) = absurd (none disk has)
+  back_agrees line (LogLacks kept taken middle found next from rest are brings back rests is lacks says left) =
+      agrees_at (new.world.nodes s) next (but_group true s line taken next from _ new left)
+      (agrees_same is.worked next (ap (λ (g : GroupNode). g.loose) is.is) (ap (λ (g : GroupNode). g.begun) is.is)
+      (is.works.keeps.quiet none (λ off. off) (came_agrees line kept middle found from rest back rests)))
+  back_agrees line (KeptLost kept taken disk middle found next from rest site is are has back rests noted says left) = absurd (none disk has)
+  back_agrees line (LogCut middle found next from rest events site is are fused back rests noted begun says left) = absurd (dry (fused, says))
+  back_agrees line (GroupCutOff next site is has are fused notes says left) = absurd (dry (fused, says))
+  back_agrees line (GroupUnfound kept taken lost why next has are brings not leaves says left) =
+      agrees_at (new.world.nodes s) next (but_group lost s line taken next d _ new left) (agrees_unfound why here next leaves a)
+  back_agrees line (GroupHeld kept taken lost disk next has are failed brings notes says left) = absurd (none disk failed)
+
+  -- ---- other lines
+
+  line_agrees : (Off : Type 0) → (Off → ⊥) → (line : ScriptLine) (next : GroupNode) → NotesLine Off s fails line here next → NoteAgrees next
+  line_agrees Off runs (Write site volume start count fill) next x = x.keeps.quiet none runs a
+  line_agrees Off runs (Put site volume start bytes) next x = x.keeps.quiet none runs a
+  line_agrees Off runs (Apply site to) next x = x.keeps.quiet none runs a
+  line_agrees Off runs other next same = agrees_note here next same a
+
+  shows_agree : (inside : Bool) (line : ScriptLine) → EndsOrShows inside told d line s fails said new → NoteAgrees (note_at (new.world.nodes s))
+  shows_agree true line (ShowsAny site volume start count bytes is are got size left) = unchanged left
+  shows_agree true line (ShowFails disk are has says left) = unchanged left
+  shows_agree false line h =
+      let runs : FuseRanOut (d.world.nodes s) h.inner → ⊥ = λ off. dry (off.0, subst (λ (r : Said). SaysOver (d.world.nodes s) h.next r said) off.1 h.says) in
+      agrees_at (new.world.nodes s) h.next (ap (λ (w : World). (w.nodes s).group) h.left.world ∙ noted_here h.middle.world s h.next)
+      (line_agrees (FuseRanOut (d.world.nodes s) h.inner) runs line h.next h.notes)
+
+  back_or : (line : ScriptLine) → RvgBack told d line s fails said new ⊎ RvgFinds told d line s fails said new → NoteAgrees (note_at (new.world.nodes s))
+  back_or line (inl back) = back_agrees line back
+  back_or line (inr finds) = absurd (never_found told tells d s bright fails said new line a.loose finds)
+
+  takes_agree : (line : ScriptLine) → TakesOr told d line s fails said new → NoteAgrees (note_at (new.world.nodes s))
+  takes_agree (GroupImport site) ends = back_or (GroupImport site) ends
+  takes_agree (Recover site) ends = back_or (Recover site) ends
+  takes_agree other ends = shows_agree (is_inside here other) other ends
+
+  by_place : (below : Bool) (line : ScriptLine) → is_below here line ≡ below → OverRvgBy below told d line s fails said new → NoteAgrees (note_at (new.world.nodes s))
+  by_place true line is (inl ends) = group_agrees line is ends
+  by_place true line is (inr cut) = absurd (dry (cut.fused, cut.says))
+  by_place false line is ends = takes_agree line ends
+
+  pub over_agrees : (line : ScriptLine) → OverRvg told d line s fails said new → NoteAgrees (note_at (new.world.nodes s))
+  over_agrees line ends = by_place (is_below here line) line refl ends
+
+-- ---- lines of links
+
+there_agrees : (works : Bool) (Off : Type 0) (i : ℕ) (fails : Fails) (note next : GroupNode) → NoneFailed i fails → (Off → ⊥) → NoteAgrees note
+    → NotesThere works Off i fails note next → NoteAgrees next
+there_agrees true Off i fails note next none dry a x = x.keeps.quiet none dry a
+there_agrees false Off i fails note next none dry a same = agrees_note note next same a
+
+pub links_agree : (told : Type 0) (d : Doubted) (line : ScriptLine) (fails : Fails) (said : Said) (new : Doubted) → LinksOver told d line fails said new → (i : ℕ)
+    → is_over_rvg (d.world.nodes i) ≡ true → NoneFailed i fails → (FuseRanOut (d.world.nodes i) said → ⊥) → NoteAgrees (note_at (d.world.nodes i))
+    → NoteAgrees (note_at (new.world.nodes i))
+links_agree told d line fails said new h i over none dry a =
+    agrees_at (new.world.nodes i) (h.next i) (ap (λ (w : World). (w.nodes i).group) h.left.world ∙ each_group d.world h.next h.middle.world i over)
+    (there_agrees (works_at d.world line i) (FuseRanOut (d.world.nodes i) said) i fails (note_at (d.world.nodes i)) (h.next i) none dry a (h.notes i over))

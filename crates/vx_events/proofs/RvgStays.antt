@@ -1,0 +1,346 @@
+-- A line at a site over a group of disks with a replicated volume group leaves it noted with the one that it had, on the same volumes.
+use Rattle.std.proofs.Common.{◌≡◌, ◌∙◌, ◌⊎◌, inl, inr, ℕ, Bool, true, false, List, Option, Some, ap, refl, sym, subst}
+use Rattle.std.specs.Prelude.{if◌then◌else◌, slice_get, unwrap_or}
+use Rattle.vx_model.specs.Content.{Write as WriteBlocks}
+use Rattle.vx_model.specs.declared.no.Counted.TheVariants.{Number}
+use Rattle.vx_model.specs.declared.no.No.{No}
+use Rattle.vx_model.specs.declared.no.No.TheVariants.{Limit}
+use Rattle.vx_model.specs.declared.site.PlexState.TheVariants.{Active, Stale}
+use Rattle.vx_history.specs.Doubts.{Doubted}
+use Rattle.vx_history.specs.Groups.{GroupNode, MissedNote}
+use Rattle.vx_history.specs.Stops.{IsFused}
+use Rattle.vx_history.specs.World.{Node, World}
+use Rattle.vx_history.specs.declared.event.Event.{Event}
+use Rattle.vx_config.specs.declared.config.Config.{Config}
+use Rattle.vx_layout.specs.declared.shape.Shape.{Shape}
+use Rattle.vx_script.specs.declared.line.ScriptLine.{ScriptLine}
+use Rattle.vx_script.specs.declared.line.ScriptLine.TheVariants.{Apply, GroupInit, GroupDeport, GroupImport, Volume, PlexDetach, PlexAttach, Disk, Crash, Fuse, Recover, Write, Put, Read, Show, Status}
+use Rattle.vx_events.proofs.KnownLaws.{group_stays, left_note, never}
+use Rattle.vx_events.proofs.Places.{some_same}
+use Rattle.vx_events.proofs.RvgConfigs.{adds_keeps, again_keeps, closed_keeps, keeps_self, keeps_then, loses_keeps, puts_or, stayed}
+use Rattle.vx_events.proofs.RvgEvents.{rvg_apart}
+use Rattle.vx_events.proofs.RvgKnown.{back_dark, lost_group, noted_here}
+use Rattle.vx_events.specs.Doubts.{IsAs, with_disks}
+use Rattle.vx_events.specs.Fails.{Fails}
+use Rattle.vx_events.specs.GroupConfigs.{ConfigLoses, lies_on_disk, opened_again}
+use Rattle.vx_events.specs.GroupEnds.{BringsUp, FindsGroup, FindsNoGroup, GroupCut, GroupCuts, GroupDoes, GroupDone, GroupEnds, GroupFails, GroupLacks, GroupNotFound, GroupSpoils, ImportFails, InitFails, KeptUnread, NotFoundLeaves}
+use Rattle.vx_events.specs.GroupLines.{group_noted, noting, plain_number}
+use Rattle.vx_events.specs.GroupMaps.{WithMaps}
+use Rattle.vx_events.specs.GroupNotes.{IsKnown, NotesBack, NotesCut, NotesDoubt, NotesRefused, NotesVolume, NotesWrite, Reconfigures, no_note, note_at}
+use Rattle.vx_events.specs.GroupViews.{config_of}
+use Rattle.vx_events.specs.RvgBack.{FindsNoRvg, FindsPlain, FindsRvg, GetsRvg, GroupCutOff, GroupHeld, GroupUnfound, HadRvg, IsLeftBack, IsLeftBut, KeptLost, LogCut, LogFails, LogLacks, RestsWithRvg, RvgBack, RvgFinds, RvgUp}
+use Rattle.vx_events.specs.RvgFits.{KeepsRvg, KeptConfig, NoteKeepsRvg, config_rvg, rvg_noted}
+use Rattle.vx_events.specs.RvgLinks.{LinksOver, NotesThere, noting_each, works_at}
+use Rattle.vx_events.specs.RvgOver.{EndsOrShows, NotesLine, OverRvg, OverRvgBy, ShowFails, ShowsAny, TakesOr, is_below, is_inside}
+use Rattle.vx_events.specs.RvgViews.{is_over_rvg}
+use Rattle.vx_events.specs.RvgWorks.{NotesWork, FuseRanOut, WorksCut}
+use Rattle.vx_events.specs.declared.said.Said.{Said}
+
+-- ---- notes
+
+pub same_config : (note next : GroupNode) → next.config ≡ note.config → NoteKeepsRvg note next
+same_config note next same c at = record { now = c; is = ap (λ (bytes : List ℕ). config_of bytes) same ∙ at; keeps = keeps_self c }
+
+same_note : (note next : GroupNode) → next ≡ note → NoteKeepsRvg note next
+same_note note next same = same_config note next (ap (λ (g : GroupNode). g.config) same)
+
+pub then_same : (note middle next : GroupNode) → NoteKeepsRvg note middle → next.config ≡ middle.config → NoteKeepsRvg note next
+then_same note middle next f same c at =
+    let x : KeptConfig c middle = f c at in record { now = x.now; is = ap (λ (bytes : List ℕ). config_of bytes) same ∙ x.is; keeps = x.keeps }
+
+then_keeps : (note middle next : GroupNode) → NoteKeepsRvg note middle → NoteKeepsRvg middle next → NoteKeepsRvg note next
+then_keeps note middle next f g c at =
+    let x : KeptConfig c middle = f c at in
+    let y : KeptConfig x.now next = g x.now x.is in
+    record { now = y.now; is = y.is; keeps = keeps_then c x.now y.now x.keeps y.keeps }
+
+reconfigured : {C : Config → Config → Type 0} {K : GroupNode → GroupNode → Type 0} (note next : GroupNode) → ((c d : Config) → C c d → KeepsRvg c d)
+    → Reconfigures C K note next → NoteKeepsRvg note next
+reconfigured note next keeps x c at = record {
+  now = x.now;
+  is = x.is;
+  keeps = subst (λ (k : Config). KeepsRvg k x.now) (some_same (sym x.was ∙ at)) (keeps x.old x.now x.change);
+}
+
+-- what is noted of the regions that plexes missed may go on too
+mapped : {Goes : GroupNode → GroupNode → Type 0} {Maps : Config → Config → MissedNote → MissedNote → Type 0} (note next : GroupNode) → ((m : GroupNode) → Goes note m → NoteKeepsRvg note m)
+    → WithMaps Goes Maps note next → NoteKeepsRvg note next
+mapped note next keeps x = then_same note x.middle next (keeps x.middle x.goes) (ap (λ (g : GroupNode). g.config) x.is)
+
+pub loses : {K : GroupNode → GroupNode → Type 0} (s : ℕ) (fails : Fails) (note next : GroupNode) → Reconfigures (ConfigLoses s fails) K note next → NoteKeepsRvg note next
+loses s fails note next x = reconfigured note next (λ c d. loses_keeps (λ _. false) s fails c d) x
+
+loses_mapped : {K : GroupNode → GroupNode → Type 0} {Maps : Config → Config → MissedNote → MissedNote → Type 0} (s : ℕ) (fails : Fails) (note next : GroupNode)
+    → WithMaps (Reconfigures (ConfigLoses s fails) K) Maps note next → NoteKeepsRvg note next
+loses_mapped s fails note next x = mapped note next (λ m moves. loses s fails note m moves) x
+
+mapped_by : {C : Config → Config → Type 0} {K : GroupNode → GroupNode → Type 0} {Maps : Config → Config → MissedNote → MissedNote → Type 0} (note next : GroupNode)
+    → ((c d : Config) → C c d → KeepsRvg c d) → WithMaps (Reconfigures C K) Maps note next → NoteKeepsRvg note next
+mapped_by note next keeps x = mapped note next (λ m moves. reconfigured note m keeps moves) x
+
+with_volume_more : (s : ℕ) (fails : Fails) (name : List ℕ) (want : Shape) (note next : GroupNode) → NotesVolume s fails name want note next → NoteKeepsRvg note next
+with_volume_more s fails name want note next x c at = record {
+  now = x.now;
+  is = x.is;
+  keeps = subst (λ (k : Config). KeepsRvg k x.now) (some_same (sym x.was ∙ at))
+      (keeps_then x.old x.made x.now (adds_keeps name want x.old x.made x.adds) (loses_keeps (λ _. false) s fails x.made x.now x.loses));
+}
+
+written : (s : ℕ) (fails : Fails) (w : WriteBlocks) (note next : GroupNode) → NotesWrite s fails w note next → NoteKeepsRvg note next
+written s fails w note next x = then_same note x.middle next (loses_mapped s fails note x.middle x.moves) (ap (λ (g : GroupNode). g.config) x.is)
+
+doubtful : (s : ℕ) (fails : Fails) (w : WriteBlocks) (note next : GroupNode) → NotesDoubt s fails w note next → NoteKeepsRvg note next
+doubtful s fails w note next x = then_same note x.middle next (loses_mapped s fails note x.middle x.moves) (ap (λ (g : GroupNode). g.config) x.is)
+
+cut_off : (s : ℕ) (fails : Fails) (w : WriteBlocks) (note next : GroupNode) → NotesCut s fails w note next → NoteKeepsRvg note next
+cut_off s fails w note next x = then_same note x.middle next (loses_mapped s fails note x.middle x.moves) (ap (λ (g : GroupNode). g.config) x.is)
+
+pub refused_config : (note next : GroupNode) → NotesRefused note next → next.config ≡ note.config
+refused_config note next (inl same) = ap (λ (g : GroupNode). g.config) same
+refused_config note next (inr dark) = ap (λ (g : GroupNode). g.config) dark
+
+unfound_config : (why : No) (note next : GroupNode) → NotFoundLeaves why note next → next.config ≡ note.config
+unfound_config (Limit Number most) note next leaves = refused_config note next leaves
+unfound_config other note next leaves = ap (λ (g : GroupNode). g.config) leaves
+
+-- what a site notes of its group
+pub by_note : (m : Node) (note next : GroupNode) → m.group ≡ Some next → NoteKeepsRvg note next → NoteKeepsRvg note (note_at m)
+by_note m note next is keeps = subst (λ (g : GroupNode). NoteKeepsRvg note g) (sym (ap (λ (o : Option GroupNode). unwrap_or o no_note) is)) keeps
+
+-- ---- lines on the group alone
+
+-- none of them brings the group up
+pub not_below : (note : GroupNode) (line : ScriptLine) → BringsUp line → is_below note line ≡ true → ⊥
+not_below note (GroupImport site) brings below = never below
+not_below note (Recover site) brings below = never below
+not_below note other brings below = absurd brings
+
+does_keeps : (told : Type 0) (s : ℕ) (n : Node) (note : GroupNode) (line : ScriptLine) (fails : Fails) (said : Said) (next : GroupNode) → is_below note line ≡ true
+    → GroupDoes told s n note line fails said next → NoteKeepsRvg note next
+does_keeps told s n note (GroupInit site) fails said next below does = absurd (never below)
+does_keeps told s n note (GroupDeport site) fails said next below does =
+    mapped_by note next
+    (λ c d x.
+    keeps_then c (opened_again c) d (again_keeps c)
+    (keeps_then (opened_again c) (opened_again d) d (loses_keeps (λ _. false) s fails (opened_again c) (opened_again d) x) (closed_keeps d))) does.0
+does_keeps told s n note (GroupImport site) fails said next below does = absurd (never below)
+does_keeps told s n note (Volume site volume blocks mirrors layout log map policy) fails said next below does = with_volume_more s fails volume _ note next does.0
+does_keeps told s n note (PlexDetach site volume plex) fails said next below does =
+    mapped_by note next (λ c d x. puts_or (λ _. false) s fails (plain_number note volume) plex Stale c d (inr x)) does.0
+does_keeps told s n note (PlexAttach site volume plex) fails said next below does =
+    mapped_by note next
+    (λ c d x. puts_or (lies_on_disk c (plain_number note volume) plex) s fails (plain_number note volume) plex Active c d (inr x)) does.0
+does_keeps told s n note (Write site volume start count fill) fails said next below does = written s fails _ note next does.0
+does_keeps told s n note (Put site volume start bytes) fails said next below does = written s fails _ note next does.0
+does_keeps told s n note (Read site volume start count) fails said next below does = same_note note next does.0
+does_keeps told s n note (Show site volume start count) fails said next below does = same_note note next does.0
+does_keeps told s n note (Recover site) fails said next below does = absurd (never below)
+does_keeps told s n note (Disk site disk state) fails said next below does = same_note note next does.0
+does_keeps told s n note (Crash site pick) fails said next below does = same_note note next does.0
+does_keeps told s n note (Fuse site calls pick) fails said next below does = same_note note next does.0
+does_keeps told s n note (Status site) fails said next below does = same_note note next does.0
+does_keeps told s n note other fails said next below does = absurd does
+
+spoils_keeps : (s : ℕ) (note : GroupNode) (line : ScriptLine) (fails : Fails) (next : GroupNode) → GroupSpoils s note line fails next → NoteKeepsRvg note next
+spoils_keeps s note (GroupDeport site) fails next spoils = loses_mapped s fails note next spoils
+spoils_keeps s note (GroupImport site) fails next spoils = same_config note next (refused_config note next spoils)
+spoils_keeps s note (Volume site volume blocks mirrors layout log map policy) fails next spoils = loses_mapped s fails note next spoils
+spoils_keeps s note (PlexDetach site volume plex) fails next spoils = mapped_by note next (λ c d x. loses_keeps (λ _. false) s fails c d x) spoils
+spoils_keeps s note (PlexAttach site volume plex) fails next spoils = mapped_by note next (λ c d x. loses_keeps (lies_on_disk c (plain_number note volume) plex) s fails c d x) spoils
+spoils_keeps s note (Write site volume start count fill) fails next spoils = doubtful s fails _ note next spoils
+spoils_keeps s note (Put site volume start bytes) fails next spoils = doubtful s fails _ note next spoils
+spoils_keeps s note (Read site volume start count) fails next spoils = same_note note next spoils.0
+spoils_keeps s note (Show site volume start count) fails next spoils = same_note note next spoils.0
+spoils_keeps s note (Recover site) fails next spoils = same_config note next (refused_config note next spoils)
+spoils_keeps s note other fails next spoils = absurd spoils
+
+cuts_keeps : (s : ℕ) (note : GroupNode) (line : ScriptLine) (fails : Fails) (next : GroupNode) → GroupCuts s note line fails next → NoteKeepsRvg note next
+cuts_keeps s note (GroupDeport site) fails next cuts = loses_mapped s fails note next cuts
+cuts_keeps s note (GroupImport site) fails next cuts = same_config note next (refused_config note next cuts)
+cuts_keeps s note (Volume site volume blocks mirrors layout log map policy) fails next cuts = loses_mapped s fails note next cuts
+cuts_keeps s note (PlexDetach site volume plex) fails next cuts =
+    mapped_by note next (λ c d x. puts_or (λ _. false) s fails (plain_number note volume) plex Stale c d x) cuts
+cuts_keeps s note (PlexAttach site volume plex) fails next cuts =
+    mapped_by note next (λ c d x. puts_or (lies_on_disk c (plain_number note volume) plex) s fails (plain_number note volume) plex Active c d x) cuts
+cuts_keeps s note (Write site volume start count fill) fails next cuts = cut_off s fails _ note next cuts
+cuts_keeps s note (Put site volume start bytes) fails next cuts = cut_off s fails _ note next cuts
+cuts_keeps s note other fails next cuts = absurd cuts
+
+module _ (told : Type 0) (d : Doubted) (line : ScriptLine) (s : ℕ) (fails : Fails) (said : Said) (new : Doubted) where
+  abbrev noted : GroupNode
+  noted = note_at (d.world.nodes s)
+
+  unchanged : IsAs d d.world new → NoteKeepsRvg (note_at (d.world.nodes s)) (note_at (new.world.nodes s))
+  unchanged left = subst (λ (w : World). NoteKeepsRvg (note_at (d.world.nodes s)) (note_at (w.nodes s))) (sym left.world) (same_config noted noted refl)
+
+  group_keeps : is_below (note_at (d.world.nodes s)) line ≡ true → GroupEnds told d line s fails said new
+      → NoteKeepsRvg (note_at (d.world.nodes s)) (note_at (new.world.nodes s))
+  group_keeps below (GroupDone next are does left) =
+      by_note (new.world.nodes s) noted next (left_note s line next _ new left) (does_keeps told s (d.world.nodes s) noted line fails said next below does)
+  group_keeps below (GroupLacks why wants none says left) = by_note (new.world.nodes s) noted noted (left_note s line noted d new left) (same_config noted noted refl)
+  group_keeps below (GroupFails disk next are has spoils says left) =
+      by_note (new.world.nodes s) noted next (left_note s line next _ new left) (spoils_keeps s noted line fails next spoils)
+  group_keeps below (InitFails disk site is are has says left) = unchanged left
+  group_keeps below (ImportFails why next site is are refuses begun says left) = absurd (not_below noted line (subst BringsUp (sym is) tt) below)
+  group_keeps below (KeptUnread disk next site is are has back says left) = absurd (not_below noted line (subst BringsUp (sym is) tt) below)
+  group_keeps below (GroupCut next are fused cuts says left) =
+      by_note (new.world.nodes s) noted next (left_note s line next _ new left) (cuts_keeps s noted line fails next cuts)
+  group_keeps below (GroupNotFound why next are brings not leaves says left) = absurd (not_below noted line brings below)
+  group_keeps below (FindsGroup next are brings unknown dark says left) = absurd (not_below noted line brings below)
+  group_keeps below (FindsNoGroup next why are brings unknown device refused says left) = absurd (not_below noted line brings below)
+
+-- ---- recoveries and imports
+
+-- the note that such a line leaves
+pub back_group : (s : ℕ) (line : ScriptLine) (taken : Bool) (next : GroupNode) (before last new : Doubted) → IsLeftBack s line taken next before last new
+    → (new.world.nodes s).group ≡ Some next
+back_group s line taken next before last new left =
+    let u : World = with_disks taken s before.world last.world in
+    ap (λ (w : World). (w.nodes s).group) left.world ∙ group_stays s line (noting u s next) ∙ noted_here u s next
+
+pub but_group : (lost : Bool) (s : ℕ) (line : ScriptLine) (taken : Bool) (next : GroupNode) (before last new : Doubted) → IsLeftBut lost s line taken next before last new
+    → (new.world.nodes s).group ≡ Some next
+but_group lost s line taken next before last new left =
+    let u : World = with_disks taken s before.world last.world in
+    let v : World = noting u s next in
+    ap (λ (w : World). (w.nodes s).group) left.world ∙ lost_group lost (group_noted s line v) s ∙ group_stays s line v ∙ noted_here u s next
+
+rests_noted : (d : Doubted) (line : ScriptLine) (s kept : ℕ) (middle next : GroupNode) (from : Doubted) (events : List Event) → is_over_rvg (d.world.nodes s) ≡ true
+    → RestsWithRvg d line s kept middle next from events → NoteKeepsRvg (note_at (d.world.nodes s)) middle × (next ≡ middle)
+rests_noted d line s kept middle next from events over (HadRvg has keeps noted is fall) = (keeps, noted)
+rests_noted d line s kept middle next from events over (GetsRvg units group has there one noted is all) = absurd (never (sym (rvg_apart (d.world.nodes s) over) ∙ group))
+
+-- a group that came up with the replicated volume group that it had, where it is known what the disks hold
+pub back_keeps : (told : Type 0) (s : ℕ) (n : Node) (fails : Fails) (note middle : GroupNode) → IsKnown told middle → rvg_noted middle ≡ rvg_noted note
+    → NotesBack told s n fails note middle → NoteKeepsRvg note middle
+back_keeps told s n fails note middle known same x c at =
+    let old : x.old ≡ c = some_same (sym x.was ∙ at) in
+    record {
+      now = x.now;
+      is = x.is;
+      keeps = record {
+        rvg = sym (ap (λ (o : Option Config). config_rvg o) x.is) ∙ same ∙ ap (λ (o : Option Config). config_rvg o) at;
+        volumes = λ v e get.
+            stayed (slice_get x.now.volumes v) e (x.volumes known v e (subst (λ (k : Config). slice_get k.volumes v ≡ Some e) (sym old) get));
+      };
+    }
+
+module _ (told : Type 0) (d : Doubted) (line : ScriptLine) (s : ℕ) (fails : Fails) (said : Said) (new : Doubted) (over : is_over_rvg (d.world.nodes s) ≡ true) where
+  abbrev here : GroupNode
+  here = note_at (d.world.nodes s)
+
+  -- it came up
+  pub came_keeps : (kept : ℕ) (middle found : GroupNode) (from : Doubted) (rest : List Event) → RestsWithRvg d line s kept middle found from rest → NoteKeepsRvg here found
+  came_keeps kept middle found from rest rests =
+      let noted = rests_noted d line s kept middle found from rest over rests in
+      then_same here middle found noted.0 (ap (λ (g : GroupNode). g.config) noted.1)
+
+  -- and the log was worked on
+  works_keeps : (Off : Type 0) (kept : ℕ) (middle found worked : GroupNode) (from : Doubted) (rest : List Event) → RestsWithRvg d line s kept middle found from rest
+      → NotesWork Off s fails found worked → NoteKeepsRvg here worked
+  works_keeps Off kept middle found worked from rest rests works =
+      then_keeps here found worked (came_keeps kept middle found from rest rests) (loses s fails found worked works)
+
+  -- while what is kept of a write is still to be read
+  left_cut : (Off : Type 0) (kept : ℕ) (middle found next : GroupNode) (from : Doubted) (rest : List Event) → RestsWithRvg d line s kept middle found from rest
+      → WorksCut Off s fails here.cut found next → NoteKeepsRvg here next
+  left_cut Off kept middle found next from rest rests x =
+      then_same here x.worked next (works_keeps Off kept middle found x.worked from rest rests x.works) (ap (λ (g : GroupNode). g.config) x.is)
+
+  left_keeps : (taken : Bool) (next : GroupNode) (before last : Doubted) → IsLeftBack s line taken next before last new → NoteKeepsRvg here next
+      → NoteKeepsRvg here (note_at (new.world.nodes s))
+  left_keeps taken next before last left keeps = by_note (new.world.nodes s) here next (back_group s line taken next before last new left) keeps
+
+  pub but_keeps : (lost taken : Bool) (next : GroupNode) (before last : Doubted) → IsLeftBut lost s line taken next before last new → NoteKeepsRvg here next
+      → NoteKeepsRvg here (note_at (new.world.nodes s))
+  but_keeps lost taken next before last left keeps = by_note (new.world.nodes s) here next (but_group lost s line taken next before last new left) keeps
+
+  pub back_stays : RvgBack told d line s fails said new → NoteKeepsRvg here (note_at (new.world.nodes s))
+  back_stays (RvgUp kept taken middle found next from rest are brings back rests works says left) =
+      left_keeps taken next from _ left (works_keeps ⊥ kept middle found next from rest rests works)
+  back_stays (LogFails kept taken disk middle found next from rest events are has brings back rests is begun says left) =
+      but_keeps true taken next from _ left (left_cut ⊥ kept middle found next from rest rests is)
+  back_stays (LogLacks kept taken middle found next from rest are brings back rests is lacks says left) =
+      but_keeps true taken next from _ left (left_cut ⊥ kept middle found next from rest rests is)
+  back_stays (KeptLost kept taken disk middle found next from rest site is are has back rests noted says left) =
+      left_keeps taken next from _ left (left_cut ⊥ kept middle found next from rest rests noted)
+  back_stays (LogCut middle found next from rest events site is are fused back rests noted begun says left) =
+      left_keeps false next from _ left (left_cut (IsFused (d.world.nodes s).fuse) 0 middle found next from rest rests noted)
+  back_stays (GroupCutOff next site is has are fused notes says left) = left_keeps false next d _ left (same_config here next (refused_config here next notes))
+  back_stays (GroupUnfound kept taken lost why next has are brings not leaves says left) =
+      but_keeps lost taken next d _ left (same_config here next (unfound_config why here next leaves))
+  back_stays (GroupHeld kept taken lost disk next has are failed brings notes says left) =
+      but_keeps lost taken next d _ left (same_config here next (refused_config here next notes))
+
+  -- what is found on disks of which nothing is known may be another one, and stays unknown
+  finds_stays : told → RvgFinds told d line s fails said new → (note_at (new.world.nodes s)).dark ≡ false → NoteKeepsRvg here (note_at (new.world.nodes s))
+  finds_stays tells (FindsRvg kept taken next mid n k row c units are brings unknown dark is same comes config fits lies says left) known =
+      absurd (never (sym known ∙ back_dark s line taken next d _ new left ∙ dark tells))
+  finds_stays tells (FindsPlain kept taken next mid has are brings unknown dark is none says left) known =
+      absurd (never (sym known ∙ back_dark s line taken next d _ new left ∙ dark tells))
+  finds_stays tells (FindsNoRvg kept taken lost next why has are brings unknown device notes says left) known =
+      but_keeps lost taken next d _ left (same_config here next (refused_config here next notes))
+
+  -- ---- other lines
+
+  line_keeps : (Off : Type 0) (l : ScriptLine) (next : GroupNode) → NotesLine Off s fails l here next → NoteKeepsRvg here next
+  line_keeps Off (Write site volume start count fill) next x = loses s fails here next x
+  line_keeps Off (Put site volume start bytes) next x = loses s fails here next x
+  line_keeps Off (Apply site to) next x = loses s fails here next x
+  line_keeps Off other next same = same_note here next same
+
+  shows_keeps : (inside : Bool) → EndsOrShows inside told d line s fails said new → NoteKeepsRvg here (note_at (new.world.nodes s))
+  shows_keeps true (ShowsAny site volume start count bytes is are got size left) = unchanged told d line s fails said new left
+  shows_keeps true (ShowFails disk are has says left) = unchanged told d line s fails said new left
+  shows_keeps false h =
+      by_note (new.world.nodes s) here h.next (ap (λ (w : World). (w.nodes s).group) h.left.world ∙ noted_here h.middle.world s h.next) (line_keeps (FuseRanOut (d.world.nodes s) h.inner) line h.next h.notes)
+
+module _ (told : Type 0) (d : Doubted) (s : ℕ) (fails : Fails) (said : Said) (new : Doubted) (over : is_over_rvg (d.world.nodes s) ≡ true) where
+  abbrev Stays : Type 0
+  Stays = NoteKeepsRvg (note_at (d.world.nodes s)) (note_at (new.world.nodes s))
+
+  back_or : (line : ScriptLine) → RvgBack told d line s fails said new ⊎ RvgFinds told d line s fails said new → Stays ⊎ RvgFinds told d line s fails said new
+  back_or line (inl back) = inl (back_stays told d line s fails said new over back)
+  back_or line (inr finds) = inr finds
+
+  takes_stays : (line : ScriptLine) → TakesOr told d line s fails said new → Stays ⊎ RvgFinds told d line s fails said new
+  takes_stays (GroupImport site) ends = back_or (GroupImport site) ends
+  takes_stays (Recover site) ends = back_or (Recover site) ends
+  takes_stays other ends = inl (shows_keeps told d other s fails said new over (is_inside (note_at (d.world.nodes s)) other) ends)
+
+  by_place : (below : Bool) (line : ScriptLine) → is_below (note_at (d.world.nodes s)) line ≡ below → OverRvgBy below told d line s fails said new
+      → Stays ⊎ RvgFinds told d line s fails said new
+  by_place true line is (inl ends) = inl (group_keeps told d line s fails said new is ends)
+  by_place true line is (inr cut) =
+      inl
+      (by_note (new.world.nodes s) (note_at (d.world.nodes s)) cut.next (back_group s line cut.taken cut.next d _ new cut.left)
+      (cuts_keeps s (note_at (d.world.nodes s)) line fails cut.next cut.cuts))
+  by_place false line is ends = takes_stays line ends
+
+  -- the line left it noted so, or found something on disks of which nothing is known
+  pub stays_or_finds : (line : ScriptLine) → OverRvg told d line s fails said new → Stays ⊎ RvgFinds told d line s fails said new
+  stays_or_finds line ends = by_place (is_below (note_at (d.world.nodes s)) line) line refl ends
+
+  pub over_stays : told → (line : ScriptLine) → OverRvg told d line s fails said new → (note_at (new.world.nodes s)).dark ≡ false → Stays
+  over_stays tells line ends known = by (stays_or_finds line ends)
+    where
+      by : Stays ⊎ RvgFinds told d line s fails said new → Stays
+      by (inl stays) = stays
+      by (inr finds) = finds_stays told d line s fails said new over tells finds known
+
+-- ---- lines of links
+
+there_keeps : (works : Bool) (Off : Type 0) (i : ℕ) (fails : Fails) (note next : GroupNode) → NotesThere works Off i fails note next → NoteKeepsRvg note next
+there_keeps true Off i fails note next x = loses i fails note next x
+there_keeps false Off i fails note next same = same_note note next same
+
+pub each_group : (w : World) (next : ℕ → GroupNode) (v : World) (i : ℕ) → is_over_rvg (w.nodes i) ≡ true → ((noting_each w next v).nodes i).group ≡ Some (next i)
+each_group w next v i over =
+    ap (λ (b : Bool). let n : Node = (if b then record (v.nodes i) { group = Some (next i) } else v.nodes i) in n.group) over
+
+pub links_stay : (told : Type 0) (d : Doubted) (line : ScriptLine) (fails : Fails) (said : Said) (new : Doubted) → LinksOver told d line fails said new → (i : ℕ)
+    → is_over_rvg (d.world.nodes i) ≡ true → NoteKeepsRvg (note_at (d.world.nodes i)) (note_at (new.world.nodes i))
+links_stay told d line fails said new h i over =
+    by_note (new.world.nodes i) (note_at (d.world.nodes i)) (h.next i)
+    (ap (λ (w : World). (w.nodes i).group) h.left.world ∙ each_group d.world h.next h.middle.world i over)
+    (there_keeps (works_at d.world line i) (FuseRanOut (d.world.nodes i) said) i fails (note_at (d.world.nodes i)) (h.next i) (h.notes i over))

@@ -1,0 +1,142 @@
+-- How a line ends at a site over a group of disks with a replicated volume group: as at a raw set, but that disks may fail which a mirror bears, and
+-- that the site notes what the line made of its group.
+use Rattle.std.specs.Prelude.{◌≡◌, ◌⊎◌, ℕ, ◌*◌, ◌<◌, Bool, true, false, List, [], ◌∷◌, ◌++◌, Option, Some, None, length, slice_get, unwrap_or, Contains}
+use Rattle.vx_model.specs.declared.no.No.TheVariants.{Device, Down as IsOff}
+use Rattle.vx_history.specs.Doubts.{Doubted}
+use Rattle.vx_history.specs.Groups.{GroupNode}
+use Rattle.vx_history.specs.Stops.{IsFused, IsOpen}
+use Rattle.vx_history.specs.World.{Node, World}
+use Rattle.vx_history.specs.declared.event.Event.TheVariants.{Crash as CrashAt}
+use Rattle.vx_order.specs.declared.facts.VolumeFacts.{VolumeFacts}
+use Rattle.vx_order.specs.declared.facts.VolumeKind.{VolumeKind}
+use Rattle.vx_order.specs.declared.facts.VolumeKind.TheVariants.{Data, Srl, Map, Plain}
+use Rattle.vx_script.specs.declared.line.ScriptLine.{ScriptLine}
+use Rattle.vx_script.specs.declared.line.ScriptLine.TheVariants.{Apply, GroupDeport, GroupImport, PlexAttach, PlexDetach, Put, Read, Recover, Show, Volume, Write}
+use Rattle.vx_events.specs.Doubts.{IsAs, run_as, with_disks}
+use Rattle.vx_events.specs.Ends.{Ends, place_of as site_of}
+use Rattle.vx_events.specs.Facts.{place_of, site_number}
+use Rattle.vx_events.specs.Fails.{Fails}
+use Rattle.vx_events.specs.GroupEnds.{AreOf, GroupCuts, GroupEnds}
+use Rattle.vx_events.specs.GroupLines.{group_noted, noting}
+use Rattle.vx_events.specs.GroupNotes.{IsKnown, note_at}
+use Rattle.vx_events.specs.RvgBack.{RvgBack, RvgFinds}
+use Rattle.vx_events.specs.RvgViews.{kinds_noted, over_disks}
+use Rattle.vx_events.specs.RvgWorks.{NotesWork, FuseRanOut}
+use Rattle.vx_events.specs.declared.said.Said.{Said}
+use Rattle.vx_events.specs.declared.said.Said.TheVariants.{Got, Refused, Shown}
+
+-- ---- kinds of lines
+
+abbrev pub fact_kind : Option VolumeFacts → VolumeKind
+fact_kind None = Plain
+fact_kind (Some volume) = volume.kind
+
+-- what the volume of this name is to the replicated volume group
+abbrev pub kind_named : GroupNode → List ℕ → VolumeKind
+kind_named note name = fact_kind (slice_get (kinds_noted note) (unwrap_or (place_of (kinds_noted note) name) 0))
+
+abbrev pub is_plain_kind : VolumeKind → Bool
+is_plain_kind Data = false
+is_plain_kind Srl = false
+is_plain_kind Map = false
+is_plain_kind Plain = true
+
+-- of the log or of the maps
+abbrev pub is_inner_kind : VolumeKind → Bool
+is_inner_kind Data = false
+is_inner_kind Srl = true
+is_inner_kind Map = true
+is_inner_kind Plain = false
+
+-- Whether the line works on the group alone: on its volumes and plexes, or on the blocks of a volume outside the replicated volume group. To the replicated
+-- volume group a deport is a crash that keeps what is safe.
+abbrev pub is_below : GroupNode → ScriptLine → Bool
+is_below note (GroupDeport site) = true
+is_below note (Volume site volume blocks mirrors layout log map policy) = true
+is_below note (PlexDetach site volume plex) = true
+is_below note (PlexAttach site volume plex) = true
+is_below note (Write site volume start count fill) = is_plain_kind (kind_named note volume)
+is_below note (Put site volume start bytes) = is_plain_kind (kind_named note volume)
+is_below note (Read site volume start count) = is_plain_kind (kind_named note volume)
+is_below note (Show site volume start count) = is_plain_kind (kind_named note volume)
+is_below note other = false
+
+-- whether the line shows blocks of the log or of the maps
+abbrev pub is_inside : GroupNode → ScriptLine → Bool
+is_inside note (Show site volume start count) = is_inner_kind (kind_named note volume)
+is_inside note other = false
+
+-- ---- notes
+
+-- what calls of a line leave of the note of a group: only lines that write have such calls
+abbrev pub NotesLine : (Off : Type 0) → (s : ℕ) → Fails → ScriptLine → GroupNode → GroupNode → Type 0
+NotesLine Off s fails (Write site volume start count fill) note next = NotesWork Off s fails note next
+NotesLine Off s fails (Put site volume start bytes) note next = NotesWork Off s fails note next
+NotesLine Off s fails (Apply site to) note next = NotesWork Off s fails note next
+NotesLine Off s fails other note next = next ≡ note
+
+-- ---- replies
+
+-- the reply of a raw set, in which a status shows the disks and the volumes of the group too
+abbrev pub SaysOver : Node → GroupNode → Said → Said → Type 0
+SaysOver n note (Shown view) said = said ≡ Shown (over_disks n note view)
+SaysOver n note other said = said ≡ other
+
+-- ---- ends
+
+-- A line on the replicated volume group or on the site. Some failed calls were borne; by the others the line ended, as at a raw set.
+pub record EndsOver (told : Type 0) (d : Doubted) (line : ScriptLine) (s : ℕ) (fails : Fails) (said : Said) (new : Doubted) : Type 0 where
+  pub borne : Fails
+  pub ending : Fails
+  pub split : fails ≡ borne ++ ending
+  pub bears : AreOf s borne
+  pub inner : Said
+  pub middle : Doubted
+  pub ends : Ends (IsKnown told (note_at (d.world.nodes s))) d line (site_of d.world line) ending inner middle
+  pub next : GroupNode
+  pub notes : NotesLine (FuseRanOut (d.world.nodes s) inner) s fails line (note_at (d.world.nodes s)) next
+  pub says : SaysOver (d.world.nodes s) next inner said
+  pub left : IsAs middle (noting middle.world s next) new
+
+-- The fuse of the disks ran out in a line on the group alone. Where a disk halted the replicated volume group, the crash may keep the write that it ended.
+pub record CutBelow (d : Doubted) (line : ScriptLine) (s : ℕ) (fails : Fails) (said : Said) (new : Doubted) : Type 0 where
+  pub are : AreOf s fails
+  pub fused : IsFused (d.world.nodes s).fuse
+  pub kept : ℕ
+  pub taken : Bool
+  pub next : GroupNode
+  pub cuts : GroupCuts s (note_at (d.world.nodes s)) line fails next
+  pub says : said ≡ Refused IsOff
+  pub left : let last = run_as taken d (CrashAt s kept ∷ []) in IsAs last (group_noted s line (noting (with_disks taken s d.world last.world) s next)) new
+
+-- Blocks of the log or of the maps are shown, of which nothing is said; or a disk failed.
+pub data ShowsInside (d : Doubted) (line : ScriptLine) (s : ℕ) (fails : Fails) (said : Said) (new : Doubted) : Type 0 where
+  ShowsAny : (site volume : List ℕ) (start count : ℕ) (bytes : List ℕ) → line ≡ Show site volume start count → AreOf s fails → said ≡ Got bytes
+      → length bytes ≡ 512 * count → IsAs d d.world new → ShowsInside d line s fails said new
+  ShowFails : (disk : ℕ) → AreOf s fails → Contains fails (s, disk) → said ≡ Refused (Device disk) → IsAs d d.world new → ShowsInside d line s fails said new
+
+-- a line that shows such blocks, or another one on the replicated volume group or on the site
+abbrev pub EndsOrShows : (inside : Bool) → Type 0 → Doubted → ScriptLine → ℕ → Fails → Said → Doubted → Type 0
+EndsOrShows true told d line s fails said new = ShowsInside d line s fails said new
+EndsOrShows false told d line s fails said new = EndsOver told d line s fails said new
+
+-- a line that takes the site up again, or another one
+abbrev pub TakesOr : Type 0 → Doubted → ScriptLine → ℕ → Fails → Said → Doubted → Type 0
+TakesOr told d (GroupImport site) s fails said new = RvgBack told d (GroupImport site) s fails said new ⊎ RvgFinds told d (GroupImport site) s fails said new
+TakesOr told d (Recover site) s fails said new = RvgBack told d (Recover site) s fails said new ⊎ RvgFinds told d (Recover site) s fails said new
+TakesOr told d other s fails said new = EndsOrShows (is_inside (note_at (d.world.nodes s)) other) told d other s fails said new
+
+-- a line on the group alone, or another one
+abbrev pub OverRvgBy : (below : Bool) → Type 0 → Doubted → ScriptLine → ℕ → Fails → Said → Doubted → Type 0
+OverRvgBy true told d line s fails said new = GroupEnds told d line s fails said new ⊎ CutBelow d line s fails said new
+OverRvgBy false told d line s fails said new = TakesOr told d line s fails said new
+
+-- a line at site s over a group with a replicated volume group, but for those on links
+abbrev pub OverRvg : Type 0 → Doubted → ScriptLine → ℕ → Fails → Said → Doubted → Type 0
+OverRvg told d line s fails said new = OverRvgBy (is_below (note_at (d.world.nodes s)) line) told d line s fails said new
+
+-- where the line writes to the replicated volume group, its site is up and runs
+abbrev pub OpensFor : World → ScriptLine → Type 0
+OpensFor w (Write site volume start count fill) = IsOpen (w.nodes (site_number w site)) × (site_number w site < w.sites)
+OpensFor w (Put site volume start bytes) = IsOpen (w.nodes (site_number w site)) × (site_number w site < w.sites)
+OpensFor w other = Unit {0}

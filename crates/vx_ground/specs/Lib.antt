@@ -1,0 +1,4 @@
+pub mod Accounts
+pub mod Named
+pub mod Rewrites
+pub mod Lifted

@@ -1,0 +1,34 @@
+-- What an import answers of a group that is up, and of one that is not.
+use Rattle.std.proofs.Common.{◌≡◌, refl, subst, sym}
+use Rattle.std.specs.Prelude.{Err, Result}
+use Rattle.vx_disk.specs.Shelf.{Meaning}
+use Rattle.vx_disk.specs.declared.shelf.Shelf.{Ghosts}
+use Rattle.vx_model.specs.declared.errors.Stop.{Stop}
+use Rattle.vx_grouped.specs.Brings.{AnswersUp, BringsAtSite, ComesUp}
+use Rattle.vx_grouped.specs.declared.group_site.GroupSite.{GroupSite}
+use Rattle.vx_grouped.specs.declared.group_site.GroupSite.TheVariants.{Deported, Down, Gone, Marked, Up}
+use Rattle.vx_grouped.specs.declared.idle.Idle.{Idle}
+
+module _ {R : Type 0} {g : Ghosts R} where
+  -- a refusal brings nothing
+  pub brings_refused : (old : Meaning) (s : GroupSite R g) (stop : Stop) → BringsAtSite old s (Err stop)
+  brings_refused old (Up laid) stop = tt
+  brings_refused old (Deported idle) stop = tt
+  brings_refused old (Down idle) stop = tt
+  brings_refused old (Marked rack) stop = tt
+  brings_refused old Gone stop = tt
+
+  -- and leaves a site that was not to be imported as it was
+  pub comes_refused : (s : GroupSite R g) (stop : Stop) → ComesUp s s (Err stop)
+  comes_refused (Up laid) stop = refl
+  comes_refused (Deported idle) stop = tt
+  comes_refused (Down idle) stop = tt
+  comes_refused (Marked rack) stop = refl
+  comes_refused Gone stop = tt
+
+  module _ (s new : GroupSite R g) (idle : Idle R g) (r : Result (Unit {0}) Stop) (answers : AnswersUp new r) where
+    pub comes_down : s ≡ Down idle → ComesUp s new r
+    comes_down is = subst (λ (e : GroupSite R g). ComesUp e new r) (sym is) answers
+
+    pub comes_away : s ≡ Deported idle → ComesUp s new r
+    comes_away is = subst (λ (e : GroupSite R g). ComesUp e new r) (sym is) answers

@@ -1,0 +1,290 @@
+-- However a line ends that is no refused recovery or import, it stays known what the disks of all groups hold, where imports agree of a group that it brings up.
+use Rattle.std.proofs.Common.{◌≡◌, ◌∙◌, inl, inr, ℕ, List, [], ◌∷◌, ◌++◌, Bool, true, false, ap, sym, subst}
+use Rattle.std.specs.Prelude.{Option, Some, None, unwrap_or}
+use Rattle.vx_model.specs.declared.no.No.{No}
+use Rattle.vx_history.proofs.Updates.{by_test}
+use Rattle.vx_history.specs.Doubts.{Doubted, crashed_as, halved}
+use Rattle.vx_history.specs.Groups.{GroupNode}
+use Rattle.vx_history.specs.World.{Node, World}
+use Rattle.vx_history.specs.declared.event.Event.{Event}
+use Rattle.vx_history.specs.declared.event.Event.TheVariants.{Crash as CrashAt, Fault, Recover as RecoverAt}
+use Rattle.vx_script.specs.declared.line.ScriptLine.{ScriptLine}
+use Rattle.vx_script.specs.declared.line.ScriptLine.TheVariants.{GroupImport, Recover, Rvg}
+use Rattle.vx_events.proofs.KnownLaws.{group_known, left_note}
+use Rattle.vx_events.proofs.RvgEnding.{never_found}
+use Rattle.vx_events.proofs.RvgFull.{brings_found}
+use Rattle.vx_events.proofs.RvgKnown.{back_known_too, making_known, narrowed_dark, noted_here, over_known, works_dark}
+use Rattle.vx_events.proofs.RvgStays.{back_group}
+use Rattle.vx_events.proofs.RvgTests.{gained_note}
+use Rattle.vx_events.specs.Doubts.{IsAs, run_as, with_disks}
+use Rattle.vx_events.specs.Ends.{AllDone, DiskFails, Ends, FindsLinks, FindsNone, FuseRunsOut, HeaderFails, IsLeft, NoNumber, ShowsReceived, noted, place_of}
+use Rattle.vx_events.specs.Facts.{site_number}
+use Rattle.vx_events.specs.Fails.{Fails}
+use Rattle.vx_events.specs.GroupEnds.{BringsUp, FindsGroup, FindsNoGroup, GroupCut, GroupDone, GroupEnds, GroupFails, GroupLacks, GroupNotFound, ImportFails, InitFails, IsLeftOver, KeptUnread}
+use Rattle.vx_events.specs.GroupLines.{cut_events, group_events, group_noted, noting, refused_events, unread_events}
+use Rattle.vx_events.specs.GroupNotes.{IsKnown, no_note, note_at}
+use Rattle.vx_events.specs.Known.{MayDarken, SaysNo}
+use Rattle.vx_events.specs.Lines.{EndsBy, is_of_links}
+use Rattle.vx_events.specs.LinkEnds.{AppliesCut, AppliesPart, AreLeft, LinkEnds, LinksCut, LinksDone, LinksFind, LinksHalt, LogUnread, NoHeader, link_noted}
+use Rattle.vx_events.specs.Lists.{events_of}
+use Rattle.vx_events.specs.LinkLists.{link_events}
+use Rattle.vx_events.specs.RvgBack.{GetsRvg, GroupCutOff, GroupHeld, GroupUnfound, HadRvg, IsLeftBack, KeptLost, LogCut, LogFails, LogLacks, RestsWithRvg, RvgBack, RvgUp}
+use Rattle.vx_events.specs.RvgLinks.{AllKnown, LinksOver, NotesThere, links_rvg, noting_each, works_at}
+use Rattle.vx_events.specs.RvgMakes.{IsLeftRvg, MakesRvg, RvgCut, RvgDone, RvgFails, RvgLacks, noting_in, units_at}
+use Rattle.vx_events.specs.RvgNotes.{volume_events}
+use Rattle.vx_events.specs.RvgOver.{EndsOrShows, OverRvg, OverRvgBy, ShowFails, ShowsAny, TakesOr, is_below, is_inside}
+use Rattle.vx_events.specs.RvgSteps.{AsBefore, FoundOne, FullBy, Gained, StepFull, WorksAbove, WorksBeside, WorksFull, is_for_rvg, refused_full, rvg_place}
+use Rattle.vx_events.specs.RvgViews.{is_over_rvg}
+use Rattle.vx_events.specs.RvgWorks.{FuseRanOut}
+use Rattle.vx_events.specs.StepsOver.{WorksOver, group_place, is_for_group}
+use Rattle.vx_events.specs.declared.said.Said.{Said}
+use Rattle.vx_events.specs.declared.said.Said.TheVariants.{Refused}
+use Rattle.vx_settling.specs.Brights.{AllBright, IsBright, IsHeldDown}
+use Rattle.vx_settling.proofs.Brights.{as_bright, crashed_bright, disks_bright, group_noted_bright, halved_bright, link_noted_bright, noted_bright, noting_bright, run_bright, runs_bright, worked_bright}
+
+-- ---- what a line leaves
+
+left_bright : (s : ℕ) (line : ScriptLine) (taken : Bool) (d last new : Doubted) → IsLeft s line taken d last new → AllBright d → AllBright last → AllBright new
+left_bright s line taken d last new left before b =
+    let u : World = with_disks taken s d.world last.world in
+    as_bright last (noted s line u) new left (noted_bright s line u (disks_bright taken s d.world last.world before.sites b.sites)) b
+
+-- what the site notes is bright, where the site is
+pub next_bright : (m : Node) (next : GroupNode) → m.group ≡ Some next → IsBright m → next.dark ≡ false
+next_bright m next is bright = sym (ap (λ (o : Option GroupNode). (unwrap_or o no_note).dark) is) ∙ bright
+
+over_bright : (s : ℕ) (line : ScriptLine) (next : GroupNode) (last new : Doubted) → IsLeftOver s line next last new → IsBright (new.world.nodes s) → AllBright last
+    → AllBright new
+over_bright s line next last new left here b =
+    let known : next.dark ≡ false = next_bright (new.world.nodes s) next (left_note s line next last new left) here in
+    as_bright last (group_noted s line (noting last.world s next)) new left
+    (group_noted_bright s line (noting last.world s next) (noting_bright last.world s next known b.sites)) b
+
+back_bright : (s : ℕ) (line : ScriptLine) (taken : Bool) (next : GroupNode) (d last new : Doubted) → IsLeftBack s line taken next d last new → IsBright (new.world.nodes s)
+    → AllBright d → AllBright last → AllBright new
+back_bright s line taken next d last new left here before b =
+    let known : next.dark ≡ false = next_bright (new.world.nodes s) next (back_group s line taken next d last new left) here in
+    let u : World = with_disks taken s d.world last.world in
+    let v : World = noting u s next in
+    as_bright last (group_noted s line v) new left
+    (group_noted_bright s line v (noting_bright u s next known (disks_bright taken s d.world last.world before.sites b.sites))) b
+
+pub made_bright : (s : ℕ) (next : GroupNode) (last new : Doubted) → IsLeftRvg s next last new → IsBright (new.world.nodes s) → AllBright last → AllBright new
+made_bright s next last new left here b =
+    let known : next.dark ≡ false = sym (ap (λ (g : GroupNode). g.dark) (gained_note s next last new left)) ∙ here in
+    let v : World = noting last.world s next in
+    as_bright last _ new left (worked_bright v s (noting_bright last.world s next known b.sites)) b
+
+same_bright : (d new : Doubted) → IsAs d d.world new → AllBright d → AllBright new
+same_bright d new left b = as_bright d d.world new left b.sites b
+
+-- another note of the group of a site
+in_bright : (d : Doubted) (s : ℕ) (note : GroupNode) → note.dark ≡ false → AllBright d → AllBright (noting_in d s note)
+in_bright d s note known b = record { sites = noting_bright d.world s note known b.sites; doubts = b.doubts }
+
+-- ---- lines on no group
+
+ends_bright : (told : Type 0) → told → (d : Doubted) (line : ScriptLine) (s : ℕ) (fails : Fails) (said : Said) (new : Doubted) → AllBright d
+    → Ends told d line s fails said new → AllBright new
+ends_bright told tells d line s fails said new b (AllDone c taken borne says left) =
+    left_bright s line taken d (run_as taken d (events_of d.world line c)) new left b (run_bright taken d (events_of d.world line c) b)
+ends_bright told tells d line s fails said new b (DiskFails c taken before e rest leaves disk is led may failed says left) =
+    left_bright s line taken d (run_as taken d (before ++ leaves)) new left b (run_bright taken d (before ++ leaves) b)
+ends_bright told tells d line s fails said new b (HeaderFails c e f disk is leaves writes failed says left) =
+    left_bright s line false d (halved d f s disk) new left b (halved_bright d f s disk b)
+ends_bright told tells d line s fails said new b (FuseRunsOut c e begun is begins keeps fused failed says left) =
+    left_bright s line false d (run_as false d (begun ++ CrashAt s c.kept ∷ [])) new left b (run_bright false d (begun ++ CrashAt s c.kept ∷ []) b)
+ends_bright told tells d line s fails said new b (NoNumber c taken before e rest is may none failed says left) =
+    left_bright s line taken d (run_as taken d before) new left b (run_bright taken d before b)
+ends_bright told tells d line s fails said new b (ShowsReceived site volume start count is role gives borne left) = left_bright s line false d d new left b b
+ends_bright told tells d line s fails said new b (FindsLinks untold c taken site mid n k row is recovers comes borne says left) = absurd (untold tells)
+ends_bright told tells d line s fails said new b (FindsNone untold c taken site mid n why is recovers device failed says left) = absurd (untold tells)
+
+are_bright : (line : ScriptLine) (d last new : Doubted) → AreLeft line d last new → AllBright last → AllBright new
+are_bright line d last new left b = as_bright last (link_noted d.world line last.world) new left (link_noted_bright d.world line last.world b.sites) b
+
+links_bright : (told : Type 0) → told → (d : Doubted) (line : ScriptLine) (fails : Fails) (said : Said) (new : Doubted) → AllBright d → LinkEnds told d line fails said new
+    → AllBright new
+links_bright told tells d line fails said new b (LinksDone last runs none borne says left) =
+    are_bright line d last new left (runs_bright (link_events d.world line) d last b runs)
+links_bright told tells d line fails said new b (LinksHalt e site disk middle comes here is says left) =
+    are_bright line d (halved middle e site disk) new left (halved_bright middle e site disk (runs_bright comes.before d middle b comes.runs))
+links_bright told tells d line fails said new b (AppliesPart before rest site count reached disk last split runs none here is says left) =
+    are_bright line d last new left (runs_bright (before ++ Fault site disk ∷ []) d last b runs)
+links_bright told tells d line fails said new b (AppliesCut before rest site count reached kept taken middle split runs none few opens fused failed says left) =
+    let h : Doubted = halved middle (Fault site 0) site 0 in
+    are_bright line d (crashed_as h site kept taken) new left
+    (crashed_bright h site kept taken (halved_bright middle (Fault site 0) site 0 (runs_bright before d middle b runs)))
+links_bright told tells d line fails said new b (LinksCut e site kept taken middle comes fused none says left) =
+    let h : Doubted = halved middle e site 0 in
+    are_bright line d (crashed_as h site kept taken) new left (crashed_bright h site kept taken (halved_bright middle e site 0 (runs_bright comes.before d middle b comes.runs)))
+links_bright told tells d line fails said new b (LogUnread before rest e site disk middle split reads runs none here is says left) =
+    are_bright line d middle new left (runs_bright before d middle b runs)
+links_bright told tells d line fails said new b (NoHeader before rest e site middle split takes runs none most is says left) =
+    are_bright line d middle new left (runs_bright before d middle b runs)
+links_bright told tells d line fails said new b (LinksFind untold last finds left) = absurd (untold tells)
+
+by_kind : (told : Type 0) → told → (links : Bool) (d : Doubted) (line : ScriptLine) (fails : Fails) (said : Said) (new : Doubted) → AllBright d
+    → EndsBy links told d line fails said new → AllBright new
+by_kind told tells true d line fails said new b ends = links_bright told tells d line fails said new b ends
+by_kind told tells false d line fails said new b ends = ends_bright told tells d line (place_of d.world line) fails said new b ends
+
+-- ---- lines at a site over a group
+
+module _ (told : Type 0) (tells : told) (d : Doubted) (b : AllBright d) (fails : Fails) (said : Said) (new : Doubted) where
+  -- a line that is refused brings no group up
+  loud : (line : ScriptLine) (why : No) → (IsHeldDown line said → ⊥) → said ≡ Refused why → BringsUp line → ⊥
+  loud line why held says brings = held (brings, subst SaysNo (sym says) tt)
+
+  group_bright : (line : ScriptLine) (s : ℕ) → (IsHeldDown line said → ⊥) → IsBright (new.world.nodes s) → GroupEnds told d line s fails said new → AllBright new
+  group_bright line s held here (GroupDone next are does left) =
+      over_bright s line next (run_as false d (group_events (d.world.nodes s) s line)) new left here (run_bright false d (group_events (d.world.nodes s) s line) b)
+  group_bright line s held here (GroupLacks why wants none says left) = over_bright s line (note_at (d.world.nodes s)) d new left here b
+  group_bright line s held here (GroupFails disk next are has spoils says left) =
+      over_bright s line next (run_as false d (refused_events (d.world.nodes s) s line)) new left here (run_bright false d (refused_events (d.world.nodes s) s line) b)
+  group_bright line s held here (InitFails disk site is are has says left) = same_bright d new left b
+  group_bright line s held here (ImportFails why next site is are refuses notes says left) = absurd (loud line why held says (subst BringsUp (sym is) tt))
+  group_bright line s held here (KeptUnread disk next site is are has back says left) =
+      over_bright s line next (run_as false d (unread_events (d.world.nodes s) s)) new left here (run_bright false d (unread_events (d.world.nodes s) s) b)
+  group_bright line s held here (GroupCut next are fused cuts says left) =
+      over_bright s line next (run_as false d (cut_events s line)) new left here (run_bright false d (cut_events s line) b)
+  group_bright line s held here (GroupNotFound why next are brings not leaves says left) =
+      over_bright s line next (run_as false d (refused_events (d.world.nodes s) s line)) new left here (run_bright false d (refused_events (d.world.nodes s) s line) b)
+  group_bright line s held here (FindsGroup next are brings unknown dark says left) =
+      over_bright s line next (run_as false d (group_events (d.world.nodes s) s line)) new left here (run_bright false d (group_events (d.world.nodes s) s line) b)
+  group_bright line s held here (FindsNoGroup next why are brings unknown device notes says left) =
+      over_bright s line next (run_as false d (refused_events (d.world.nodes s) s line)) new left here (run_bright false d (refused_events (d.world.nodes s) s line) b)
+
+  -- the worlds from which the log of a group that came up comes up
+  pub from_bright : (line : ScriptLine) (s kept : ℕ) (middle next : GroupNode) (from : Doubted) (rest : List Event) → next.dark ≡ false
+      → RestsWithRvg d line s kept middle next from rest → AllBright from
+  from_bright line s kept middle next from rest known (HadRvg has same noted is fall) = subst (λ (e : Doubted). AllBright e) (sym is) b
+  from_bright line s kept middle next from rest known (GetsRvg units over has there one noted is all) =
+      subst (λ (e : Doubted). AllBright e) (sym is) (in_bright d s middle (sym (ap (λ (g : GroupNode). g.dark) noted) ∙ known) b)
+
+  rises_bright : (line : ScriptLine) (s : ℕ) → (IsHeldDown line said → ⊥) → IsBright (new.world.nodes s) → RvgBack told d line s fails said new → AllBright new
+  rises_bright line s held here (RvgUp kept taken middle found next from rest are brings back rests works says left) =
+      let last : Doubted = run_as taken from (rest ++ RecoverAt s None ∷ []) in
+      let known : next.dark ≡ false = next_bright (new.world.nodes s) next (back_group s line taken next from last new left) here in
+      let start : AllBright from = from_bright line s kept middle found from rest (sym (works_dark ⊥ s fails found next works) ∙ known) rests in
+      back_bright s line taken next from last new left here start (run_bright taken from (rest ++ RecoverAt s None ∷ []) start)
+  rises_bright line s held here (LogFails kept taken disk middle found next from rest events are has brings back rests is begun says left) =
+      absurd (loud line _ held says brings)
+  rises_bright line s held here (LogLacks kept taken middle found next from rest are brings back rests is lacks says left) = absurd (loud line _ held says brings)
+  rises_bright line s held here (KeptLost kept taken disk middle found next from rest site is are has back rests noted says left) =
+      absurd (loud line _ held says (subst BringsUp (sym is) tt))
+  rises_bright line s held here (LogCut middle found next from rest events site is are fused back rests noted begun says left) =
+      absurd (loud line _ held says (subst BringsUp (sym is) tt))
+  rises_bright line s held here (GroupCutOff next site is has are fused notes says left) = absurd (loud line _ held says (subst BringsUp (sym is) tt))
+  rises_bright line s held here (GroupUnfound kept taken lost why next has are brings not leaves says left) = absurd (loud line why held says brings)
+  rises_bright line s held here (GroupHeld kept taken lost disk next has are failed brings notes says left) = absurd (loud line _ held says brings)
+
+  -- where imports agree, and the line is no refused one that brings a group up, its site stays known
+  dim : (line : ScriptLine) (s : ℕ) → (BringsUp line → (note_at (d.world.nodes s)).loose ≡ false) → (IsHeldDown line said → ⊥)
+      → MayDarken (note_at (d.world.nodes s)) line said → ⊥
+  dim line s agree held (brings, inl loose) = let f : true ≡ false = sym loose ∙ agree brings in cc
+  dim line s agree held (brings, inr refused) = held (brings, refused)
+
+  -- ---- a site with a replicated volume group
+
+  shows_bright : (inside : Bool) (line : ScriptLine) (s : ℕ) → IsBright (new.world.nodes s) → EndsOrShows inside told d line s fails said new → AllBright new
+  shows_bright true line s here (ShowsAny site volume start count bytes is are got size left) = same_bright d new left b
+  shows_bright true line s here (ShowFails disk are has says left) = same_bright d new left b
+  shows_bright false line s here h =
+      let middle : AllBright h.middle = ends_bright (IsKnown told (note_at (d.world.nodes s))) (tells, b.sites s) d line (place_of d.world line) h.ending h.inner h.middle b h.ends in
+      let known : h.next.dark ≡ false = next_bright (new.world.nodes s) h.next (over_group h.middle s h.next h.left) here in
+      as_bright h.middle (noting h.middle.world s h.next) new h.left (noting_bright h.middle.world s h.next known middle.sites) middle
+    where
+      over_group : (middle : Doubted) (s : ℕ) (next : GroupNode) → IsAs middle (noting middle.world s next) new → (new.world.nodes s).group ≡ Some next
+      over_group middle s next left = ap (λ (w : World). (w.nodes s).group) left.world ∙ noted_here middle.world s next
+
+  takes_bright : (line : ScriptLine) (s : ℕ) → (IsHeldDown line said → ⊥) → (BringsUp line → (note_at (d.world.nodes s)).loose ≡ false) → IsBright (new.world.nodes s)
+      → TakesOr told d line s fails said new → AllBright new
+  takes_bright (GroupImport site) s held agree here (inl back) = rises_bright (GroupImport site) s held here back
+  takes_bright (GroupImport site) s held agree here (inr finds) = absurd (never_found told tells d s (b.sites s) fails said new (GroupImport site) (agree tt) finds)
+  takes_bright (Recover site) s held agree here (inl back) = rises_bright (Recover site) s held here back
+  takes_bright (Recover site) s held agree here (inr finds) = absurd (never_found told tells d s (b.sites s) fails said new (Recover site) (agree tt) finds)
+  takes_bright other s held agree here ends = shows_bright (is_inside (note_at (d.world.nodes s)) other) other s here ends
+
+  place_bright : (below : Bool) (line : ScriptLine) (s : ℕ) → (IsHeldDown line said → ⊥) → (BringsUp line → (note_at (d.world.nodes s)).loose ≡ false)
+      → IsBright (new.world.nodes s) → OverRvgBy below told d line s fails said new → AllBright new
+  place_bright true line s held agree here (inl ends) = group_bright line s held here ends
+  place_bright true line s held agree here (inr cut) =
+      back_bright s line cut.taken cut.next d (run_as cut.taken d (CrashAt s cut.kept ∷ [])) new cut.left here b (run_bright cut.taken d (CrashAt s cut.kept ∷ []) b)
+  place_bright false line s held agree here ends = takes_bright line s held agree here ends
+
+  over_rvg_bright : (line : ScriptLine) (s : ℕ) → (IsHeldDown line said → ⊥) → (BringsUp line → (note_at (d.world.nodes s)).loose ≡ false)
+      → OverRvg told d line s fails said new → AllBright new
+  over_rvg_bright line s held agree ends =
+      let here : IsBright (new.world.nodes s) = over_known told tells d s (b.sites s) fails said new line (dim line s agree held) ends in
+      place_bright (is_below (note_at (d.world.nodes s)) line) line s held agree here ends
+
+  -- ---- a line that makes one, and lines of links
+
+  makes_bright : (line : ScriptLine) (s : ℕ) → IsBright (new.world.nodes s) → MakesRvg told d line s fails said new → AllBright new
+  makes_bright line s here (RvgDone site srl maps volumes middle next is are x says left) =
+      let es : List Event = volume_events (note_at (d.world.nodes s)) s (units_at d s srl maps volumes) in
+      let known : middle.dark ≡ false = narrowed_dark told (units_at d s srl maps volumes) (note_at (d.world.nodes s)) middle x.narrowed ∙ b.sites s in
+      made_bright s next (run_as false (noting_in d s middle) es) new left here (run_bright false (noting_in d s middle) es (in_bright d s middle known b))
+  makes_bright line s here (RvgLacks site srl maps volumes next is are x says left) = made_bright s next d new left here b
+  makes_bright line s here (RvgFails site srl maps volumes disk next is are has x says left) = made_bright s next d new left here b
+  makes_bright line s here (RvgCut site srl maps volumes next is are fused x says left) =
+      made_bright s next (run_as false d (CrashAt s 0 ∷ [])) new left here (run_bright false d (CrashAt s 0 ∷ []) b)
+
+  there_bright : (works : Bool) (Off : Type 0) (i : ℕ) (fs : Fails) (note next : GroupNode) → note.dark ≡ false → NotesThere works Off i fs note next → next.dark ≡ false
+  there_bright true Off i fs note next known x = works_dark Off i fs note next x ∙ known
+  there_bright false Off i fs note next known same = ap (λ (g : GroupNode). g.dark) same ∙ known
+
+  each_bright : (line : ScriptLine) → LinksOver told d line fails said new → AllBright new
+  each_bright line h =
+      let middle : AllBright h.middle = links_bright (AllKnown told d.world line) (tells, λ i _. b.sites i) d line h.ending said h.middle b h.ends in
+      as_bright h.middle (noting_each d.world h.next h.middle.world) new h.left
+      (λ i. by_test IsBright (is_over_rvg (d.world.nodes i)) (record (h.middle.world.nodes i) { group = Some (h.next i) }) (h.middle.world.nodes i)
+      (λ over. there_bright (works_at d.world line i) (FuseRanOut (d.world.nodes i) said) i fails (note_at (d.world.nodes i)) (h.next i) (b.sites i) (h.notes i over)) (λ _. middle.sites i)) middle
+
+  -- ---- any line
+
+  beside_bright : (line : ScriptLine) → (IsHeldDown line said → ⊥) → (BringsUp line → (note_at (d.world.nodes (group_place d.world line))).loose ≡ false)
+      → WorksBeside told d line fails said new → AllBright new
+  beside_bright line held agree (AsBefore works found) = by_group (is_for_group d.world line) works
+    where
+      by_group : (group : Bool) → WorksOver group told d line fails said new → AllBright new
+      by_group true ends =
+          let s : ℕ = group_place d.world line in
+          group_bright line s held (group_known told tells d line s fails said new ends (b.sites s) (dim line s agree held)) ends
+      by_group false (inl step) = by_kind told tells (is_of_links line) d line fails said new b step.ends
+      by_group false (inr kept) = absurd (kept.untold tells)
+  beside_bright line held agree (Gained back) =
+      let s : ℕ = group_place d.world line in
+      rises_bright line s held (back_known_too told tells d s (b.sites s) fails said new line (dim line s agree held) back) back
+  beside_bright line held agree (FoundOne finds) =
+      let s : ℕ = group_place d.world line in
+      absurd (never_found told tells d s (b.sites s) fails said new line (agree (brings_found told d line s fails said new finds)) finds)
+
+  agree_at : (line : ScriptLine) → (BringsUp line → (note_at (d.world.nodes (group_place d.world line))).loose ≡ false) → BringsUp line
+      → (note_at (d.world.nodes (rvg_place d.world line))).loose ≡ false
+  agree_at (GroupImport site) agree brings = agree tt
+  agree_at (Recover site) agree brings = agree tt
+  agree_at other agree brings = absurd brings
+
+  above_bright : (links above : Bool) (line : ScriptLine) → (IsHeldDown line said → ⊥)
+      → (BringsUp line → (note_at (d.world.nodes (group_place d.world line))).loose ≡ false) → WorksAbove links above told d line fails said new → AllBright new
+  above_bright true above line held agree ends = each_bright line ends
+  above_bright false true line held agree ends = over_rvg_bright line (rvg_place d.world line) held (agree_at line agree) ends
+  above_bright false false line held agree ends = beside_bright line held agree ends
+
+  full_bright : (line : ScriptLine) → (IsHeldDown line said → ⊥) → (BringsUp line → (note_at (d.world.nodes (group_place d.world line))).loose ≡ false)
+      → WorksFull told d line fails said new → AllBright new
+  full_bright (Rvg site srl maps volumes) held agree ends =
+      let s : ℕ = site_number d.world site in
+      makes_bright (Rvg site srl maps volumes) s (making_known told d (Rvg site srl maps volumes) s fails said new ends (b.sites s)) ends
+  full_bright other held agree ends = above_bright (links_rvg d.world other) (is_for_rvg d.world other) other held agree ends
+
+  refusal_bright : (o : Option No) (line : ScriptLine) → (IsHeldDown line said → ⊥) → (BringsUp line → (note_at (d.world.nodes (group_place d.world line))).loose ≡ false)
+      → FullBy o told d line fails said new → AllBright new
+  refusal_bright (Some why) line held agree step = subst (λ (e : Doubted). AllBright e) (sym step.stays) b
+  refusal_bright None line held agree step = full_bright line held agree step
+
+  pub step_bright : (files : Bool) (line : ScriptLine) → (IsHeldDown line said → ⊥)
+      → (BringsUp line → (note_at (d.world.nodes (group_place d.world line))).loose ≡ false) → StepFull told files d line fails said new → AllBright new
+  step_bright files line held agree step = refusal_bright (refused_full d.world files line) line held agree step
