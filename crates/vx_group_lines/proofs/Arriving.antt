@@ -1,5 +1,5 @@
 -- What the events of a line over a group, and what it notes of its site, leave of the world.
-use Rattle.std.proofs.Common.{◌≡◌, ◌∙◌, ◌<◌, ℕ, false, true, List, [], ap, subst, sym, refl, arith}
+use Rattle.std.proofs.Common.{◌≡◌, ◌∙◌, ◌<◌, ℕ, false, true, List, [], map, ap, subst, sym, refl, arith}
 use Rattle.std.specs.Prelude.{Option, Some, None}
 use Rattle.vx_model.specs.declared.site.Role.TheVariants.{Primary}
 use Rattle.vx_model.specs.declared.site.SiteState.TheVariants.{Bare, Up}
@@ -10,11 +10,14 @@ use Rattle.vx_history.specs.Groups.{GroupNode}
 use Rattle.vx_history.specs.Sound.{is_at_rest}
 use Rattle.vx_history.specs.Steps.{burned, crashed, deported_site, group_set, group_up, worked_on}
 use Rattle.vx_history.specs.World.{Gathering, Link, Node, NoFuse, Packet, with_node}
-use Rattle.vx_history.specs.declared.event.Event.TheVariants.{Crash as CrashAt, Deport as DeportAt, Group as GroupAt}
+use Rattle.vx_history.specs.Volumes.{as_volume, volumes_set}
+use Rattle.vx_history.specs.declared.event.Event.TheVariants.{Crash as CrashAt, Deport as DeportAt, Group as GroupAt, Volumes as VolumesAt}
+use Rattle.vx_history.specs.declared.volumes.DataVolume.{DataVolume}
+use Rattle.vx_grouped.specs.GroupSites.{HasNoRvg}
 use Rattle.vx_diskset.specs.Holds.{header_links, row_links, state_with}
 use Rattle.vx_effects.proofs.Effects.{changes_same, changes_then, crash_effect}
 use Rattle.vx_effects.proofs.Fitting.{fit_happened}
-use Rattle.vx_effects.proofs.Groups.{again_effect, deport_effect, group_effect}
+use Rattle.vx_effects.proofs.Groups.{again_effect, data_effect, deport_effect, group_effect}
 use Rattle.vx_effects.proofs.Leaving.{fit_note}
 use Rattle.vx_effects.proofs.Moves.{Rests}
 use Rattle.vx_effects.proofs.Rows.{touch_kept}
@@ -190,3 +193,14 @@ arrives_away d e s n before arrives below up runs log safe =
     (deport_effect e s false below (ap (λ (x : Node). x.state) arrives.node ∙ up) (ap (λ (x : Node). x.halted) arrives.node ∙ runs))
     (fit_happened e (DeportAt s) false arrives.fits) arrives.sure refl (touch_kept (e.world.links s) e.world.sites ∙ arrives.links)
     (λ was. begins_like s (e.world.nodes s) there (λ bare. never_bare (e.world.nodes s) (ap (λ (x : Node). x.state) arrives.node ∙ up) bare) refl refl refl refl was))
+
+-- a group that is up gets data volumes
+pub arrives_data : (d e : Doubted) (s : ℕ) (n : Node) (log : ℕ) (xs : List DataVolume) (before : Option Gathering) → Arrives d e s n before → s < e.world.sites → n.state ≡ Up → HasNoRvg n → (map as_volume xs ≡ [] → ⊥)
+    → Arrives d (happened e (VolumesAt s log xs) false) s (volumes_set log xs n) before
+arrives_data d e s n log xs before arrives below up none some =
+    arrives_as d (happened e (VolumesAt s log xs) false) s (volumes_set log xs (e.world.nodes s)) (volumes_set log xs n) before (ap (λ (x : Node). volumes_set log xs x) arrives.node)
+    (subst (λ (o : Option Gathering). Arrives d (happened e (VolumesAt s log xs) false) s (volumes_set log xs (e.world.nodes s)) o) arrives.gathering
+    (arrives_then d e (happened e (VolumesAt s log xs) false) s n (volumes_set log xs (e.world.nodes s)) (e.world.links s) (e.world.headers s) (e.after s) e.world.packets before (e.world.gathering s) arrives
+    (data_effect e s log xs false below (ap (λ (x : Node). x.state) arrives.node ∙ up) (ap (λ (x : Node). x.halted) arrives.node ∙ none.running) (ap (λ (x : Node). x.role) arrives.node ∙ none.role)
+    (ap (λ (x : Node). x.volumes) arrives.node ∙ none.volumes) (ap (λ (x : Node). x.log) arrives.node ∙ none.log))
+    (fit_happened e (VolumesAt s log xs) false arrives.fits) arrives.sure refl arrives.links (λ was made bare. absurd (some bare))))

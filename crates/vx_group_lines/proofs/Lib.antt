@@ -9,6 +9,8 @@ pub mod Losing
 pub mod GroupStatus
 pub mod GroupCalls
 pub mod Changing
+pub mod RvgNotes
+pub mod RvgAt
 pub mod GroupPlain
 pub mod GroupWrite
 pub mod GroupRead
