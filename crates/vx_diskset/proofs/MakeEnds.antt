@@ -7,7 +7,6 @@ use Rattle.vx_config.specs.Configs.{HasSpelling}
 use Rattle.vx_config.specs.declared.config.Config.{Config}
 use Rattle.vx_disk.specs.Racks.{IsRack}
 use Rattle.vx_disk.specs.declared.shelf.Shelf.{Ghosts}
-use Rattle.vx_events.specs.RvgNotes.{inside_of, note_gained}
 use Rattle.vx_ground.specs.Accounts.{ground_state}
 use Rattle.vx_ground.specs.Lifted.{laid_volumes}
 use Rattle.vx_ground.proofs.AccountLemmas.{account_loses}

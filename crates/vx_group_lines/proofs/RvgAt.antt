@@ -21,7 +21,6 @@ use Rattle.vx_diskset.specs.Makings.{IsFirstSite}
 use Rattle.vx_diskset.specs.Noted.{NotedOn, SiteNoted}
 use Rattle.vx_diskset.specs.Stands.{IsGroupSet, SiteStands, noted_cut}
 use Rattle.vx_diskset.specs.declared.disk_set.DiskSet.{DiskSet}
-use Rattle.vx_diskset.specs.declared.disk_set.DiskSet.TheVariants.{OfGroup}
 use Rattle.vx_order.specs.Order.{line_refusal}
 use Rattle.vx_order.specs.declared.facts.SiteFacts.{SiteFacts}
 use Rattle.vx_script.specs.declared.line.ScriptLine.TheVariants.{Rvg}
