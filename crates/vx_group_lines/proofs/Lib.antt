@@ -11,6 +11,7 @@ pub mod GroupCalls
 pub mod Changing
 pub mod RvgNotes
 pub mod RvgAt
+pub mod RvgCalls
 pub mod GroupPlain
 pub mod GroupWrite
 pub mod GroupRead
