@@ -12,6 +12,7 @@ pub mod Changing
 pub mod RvgNotes
 pub mod RvgAt
 pub mod RvgCalls
+pub mod RvgFacts
 pub mod GroupPlain
 pub mod GroupWrite
 pub mod GroupRead

@@ -118,7 +118,7 @@ head_whole k whole = by_role (is_origin k.role)
 abbrev group_with : Node → (last low ring : ℕ) → Option ℕ → RvgFacts
 group_with k last low ring halted = record { role = k.role; line = k.line; parent = k.parent; mark = k.mark; low = low; last = last; ring = ring; halted = halted }
 
-group_seen : (k : Node) (ring : ℕ) (ls : List KeptLink) → IsWhole k ring → up_group (state_with k ls) k.safe ring ≡ group_fact k
+pub group_seen : (k : Node) (ring : ℕ) (ls : List KeptLink) → IsWhole k ring → up_group (state_with k ls) k.safe ring ≡ group_fact k
 group_seen k ring ls w =
     ap (λ (last : ℕ). group_with k last 1 ring None) (sym (head_whole k w.whole)) ∙ ap (λ (low : ℕ). group_with k (head_of k) low ring None) (sym w.low)
     ∙ ap (λ (r : ℕ). group_with k (head_of k) k.low r None) w.ring ∙ ap (λ (h : Option ℕ). group_with k (head_of k) k.low k.ring h) (sym w.running)
