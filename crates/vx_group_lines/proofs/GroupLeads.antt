@@ -60,7 +60,7 @@ fact_seen e s m next f node noted is =
     let over : is_over_group (e.world.nodes s) ≡ true = ap (λ (x : Node). is_over_group x) node ∙ noted_over m next noted in
     is ∙ ap (λ (k : GroupNode). fact_of_group m k) (note_is m next noted) ∙ ap (λ (x : Node). fact_of_group x (note_at x)) (sym node) ∙ sym (fact_grouped e.world s over)
 
-feeds_nobody : (n m : Node) → m.role ≡ Primary → Feeds n m
+pub feeds_nobody : (n m : Node) → m.role ≡ Primary → Feeds n m
 feeds_nobody n m role = feeds_none n m (λ up receives. let e : true ≡ false = sym (ap (λ (r : Role). is_origin r) role) ∙ receives in absurd (cc))
 
 -- how large the disks of a site are

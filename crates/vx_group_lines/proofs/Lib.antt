@@ -13,6 +13,8 @@ pub mod RvgNotes
 pub mod RvgAt
 pub mod RvgCalls
 pub mod RvgFacts
+pub mod RvgStanding
+pub mod RvgGained
 pub mod GroupPlain
 pub mod GroupWrite
 pub mod GroupRead

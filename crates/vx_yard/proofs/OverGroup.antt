@@ -67,7 +67,7 @@ some_group : (o : Option GroupNode) → (o ≡ None → ⊥) → is_some o ≡ t
 some_group None some = absurd (some refl)
 some_group (Some note) some = refl
 
-with_data : (o : Option GroupNode) (k : ℕ) → is_some o ≡ true → 1 ≤ k → (is_some o && not (eqb k 0)) ≡ true
+pub with_data : (o : Option GroupNode) (k : ℕ) → is_some o ≡ true → 1 ≤ k → (is_some o && not (eqb k 0)) ≡ true
 with_data o k grouped some = ap (λ (b : Bool). b && not (eqb k 0)) grouped ∙ ap not (not_zero k some)
 
 no_group : (o : Option GroupNode) (b : Bool) → (is_some o && b) ≡ false → (is_some o && not b) ≡ false → o ≡ None
