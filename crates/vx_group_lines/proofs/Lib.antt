@@ -15,6 +15,7 @@ pub mod RvgCalls
 pub mod RvgFacts
 pub mod RvgStanding
 pub mod RvgGained
+pub mod RvgLeads
 pub mod GroupPlain
 pub mod GroupWrite
 pub mod GroupRead

@@ -131,7 +131,7 @@ module _ {R : Type 0} {g : Ghosts R} (d : Doubted) (old new : Yard R g) (name sr
       over : is_over_rvg k ≡ true
       over = with_data k.group (length k.volumes) refl many
 
-      sits : RvgOver (beside_of rvg_next s) k gained after
+      pub sits : RvgOver (beside_of rvg_next s) k gained after
       sits = rvg_over (beside_of rvg_next s) k gained after here (subst (λ (x : Node). SiteNoted x gained after) same_made noted) (many_apart k many) at.up origin
 
       comes : Comes d rvg_next s after

@@ -13,7 +13,7 @@ use Rattle.vx_rvg.specs.Views.{Core}
 use Rattle.vx_grouped.specs.GroupNotes.{NotesConfig}
 use Rattle.vx_grouped.specs.GroupSites.{site_config, site_disks}
 use Rattle.vx_diskset.specs.Aboves.{above_site, below_site, core_of}
-use Rattle.vx_diskset.specs.GroupCalls.{AtSite, config_in, core_in}
+use Rattle.vx_diskset.specs.GroupCalls.{AtSite, core_in}
 use Rattle.vx_diskset.specs.Holds.{KeptBeside}
 use Rattle.vx_diskset.specs.Noted.{NotedOn, SiteNoted, below_rvg}
 use Rattle.vx_diskset.specs.Stands.{IsUpAt, OverStands, SiteStands}
@@ -65,7 +65,7 @@ module _ {R : Type 0} {g : Ghosts R} where
     pub has_core : core_in e ≡ Some core
     pub stands : IsUpAt beside k core volumes
     pub config : Config
-    pub has : config_in e ≡ Some config
+    pub has : AtSite (λ x. site_config x ≡ Some config) e
     pub noted : NotesConfig gained config
     pub up : AtSite (λ x. IsTrue (site_disks x).down → ⊥) e
 
