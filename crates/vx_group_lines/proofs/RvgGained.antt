@@ -88,8 +88,8 @@ module _ {R : Type 0} {g : Ghosts R} (d : Doubted) (old new : Yard R g) (name sr
     abbrev gained : GroupNode
     gained = note_gained units settled
 
-    abbrev data : List DataVolume
-    data = data_of entries units
+    abbrev parts : List DataVolume
+    parts = data_of entries units
 
     abbrev log : ℕ
     log = srl_blocks note units
@@ -98,23 +98,23 @@ module _ {R : Type 0} {g : Ghosts R} (d : Doubted) (old new : Yard R g) (name sr
     noted_node = record (d.world.nodes s) { group = Some middle }
 
     abbrev k : Node
-    k = with_note gained (volumes_set log data noted_node)
+    k = with_note gained (volumes_set log parts noted_node)
 
     abbrev mid_world : Doubted
-    mid_world = happened (noted_at d s middle) (VolumesAt s log data) false
+    mid_world = happened (noted_at d s middle) (VolumesAt s log parts) false
 
     abbrev pub rvg_next : Doubted
     rvg_next = record mid_world { world = worked_on (noting mid_world.world s gained) s }
 
-    many : 1 ≤ length (map as_volume data)
+    many : 1 ≤ length (map as_volume parts)
     many =
         let fits : 1 ≤ length units.vols = units_some config.volumes units (asks_fits d old name srl maps volumes s before stands at) in
-        omega (arith, fits, length-map data as_volume, length-map units.vols (data_at entries))
+        omega (arith, fits, length-map parts as_volume, length-map units.vols (data_at entries))
 
     arrives : Arrives d rvg_next s k (d.world.gathering s)
     arrives =
-        arrives_worked d mid_world s (volumes_set log data noted_node) gained (d.world.gathering s)
-        (arrives_data d (noted_at d s middle) s noted_node log data (d.world.gathering s) (arrives_noted d d s n middle (d.world.gathering s) rvg_begins) at.group.below at.up
+        arrives_worked d mid_world s (volumes_set log parts noted_node) gained (d.world.gathering s)
+        (arrives_data d (noted_at d s middle) s noted_node log parts (d.world.gathering s) (arrives_noted d d s n middle (d.world.gathering s) rvg_begins) at.group.below at.up
         (record { role = none.role; volumes = none.volumes; log = none.log; safe = none.safe; running = none.running })
         (λ empty. omega (arith, many, ap (λ vs. length vs) empty)))
 
