@@ -16,6 +16,7 @@ pub mod RvgFacts
 pub mod RvgStanding
 pub mod RvgGained
 pub mod RvgLeads
+pub mod RvgStays
 pub mod GroupPlain
 pub mod GroupWrite
 pub mod GroupRead

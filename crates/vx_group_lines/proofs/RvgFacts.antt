@@ -3,7 +3,6 @@ use Rattle.std.proofs.Common.{◌≡◌, ◌∙◌, ℕ, Bool, true, List, [], �
 use Rattle.std.specs.Prelude.{Option, Some, None, if◌then◌else◌}
 use Rattle.vx_model.specs.declared.site.SiteState.{SiteState}
 use Rattle.vx_model.specs.declared.site.SiteState.TheVariants.{Up as IsUp}
-use Rattle.vx_model.specs.declared.state.KeptLink.{KeptLink}
 use Rattle.vx_model.specs.declared.state.State.{State}
 use Rattle.vx_disk.specs.Shelf.{Meaning}
 use Rattle.vx_config.specs.declared.config.Config.{Config}
@@ -26,7 +25,7 @@ use Rattle.vx_events.specs.LinkedFacts.{link_facts, linked_fact, links_by, links
 use Rattle.vx_events.specs.RvgSteps.{fact_full}
 use Rattle.vx_events.specs.RvgViews.{is_over_rvg, kinds_from, kinds_noted, kinds_of, over_facts}
 use Rattle.vx_events.specs.StepsOver.{fact_of_group, fact_over}
-use Rattle.vx_site_lines.proofs.RiseSite.{IsWhole, group_seen}
+use Rattle.vx_site_lines.proofs.RiseSite.{group_seen}
 use Rattle.vx_yard.specs.Changes.{up_group}
 use Rattle.vx_group_lines.specs.Noting.{made_facts}
 
