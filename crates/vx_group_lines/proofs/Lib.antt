@@ -17,6 +17,7 @@ pub mod RvgStanding
 pub mod RvgGained
 pub mod RvgLeads
 pub mod RvgStays
+pub mod RvgRefused
 pub mod GroupPlain
 pub mod GroupWrite
 pub mod GroupRead
