@@ -4,7 +4,7 @@ ghost use Rattle.std.specs.Prelude.{◌≡◌, [], ◌∷◌, ◌<◌, ◌≤◌
 use std::alloc::Global;
 use std::test::*;
 use vx_disk::{MemShelf, Rack, Shelf};
-use vx_model::limits::LEAST_BLOCKS;
+use vx_model::limits::{LEAST_BLOCKS, MOST_NUMBER};
 use vx_model::{Blocks, Line, Mark, No, OutOfMemory, SPhase, State, Units, Update, VolumeUnits};
 use vx_regions::{QAction, begin_replay, close_replay, settle_mark, store_region};
 use vx_rvg::Rvg;
@@ -136,10 +136,54 @@ fn take(site: &mut Secondary<MemShelf>, number: u64, block: u64, value: u8) -> R
     site.take(&update)
 }
 
-// What the log of the site keeps of a replay.
-fn kept(site: &Secondary<MemShelf>) -> (Mark, SPhase, u64, u64) {
+// Whether the site takes an update of one block of these bytes, and acknowledges it.
+fn is_taken(site: &mut Secondary<MemShelf>, number: u64, block: u64, value: u8) -> bool {
+    take(site, number, block, value) == Ok(RAction::Take { ack: number })
+}
+
+// Whether the site answers so to the begin of this replay.
+fn is_begun(site: &mut Secondary<MemShelf>, id: u64, start: u64, action: QAction) -> bool {
+    if MOST_NUMBER < id {
+        return false;
+    }
+    begin_replay(site, &line(), id, start) == Ok(action)
+}
+
+// Whether the site answers so to the end of this replay, from number 4 to number 5.
+fn is_closed(site: &mut Secondary<MemShelf>, id: u64, action: QAction) -> bool {
+    if MOST_NUMBER < id {
+        return false;
+    }
+    close_replay(site, &line(), id, 4, 5) == Ok(action)
+}
+
+// Whether the site's mark is brought up to what its log holds.
+fn is_settled(site: &mut Secondary<MemShelf>) -> bool {
+    settle_mark(site) == Ok(())
+}
+
+// Whether the update of this number, the next of those that wait, is applied.
+fn is_applied(site: &mut Secondary<MemShelf>, number: u64) -> bool {
+    site.apply(1) == Ok(RAction::DataAck { number })
+}
+
+// Whether the site answers so to region 1 of its volume, in this replay.
+fn is_handed(site: &mut Secondary<MemShelf>, id: u64, action: QAction) -> bool {
+    if site.rvg.volumes() != 1 || site.rvg.size(0) != 70 {
+        return false;
+    }
+    store_region(site, &line(), id, 0, 1, &[0x55; 3072]) == Ok(action)
+}
+
+// Whether a block begins with this byte.
+fn shows(site: &mut Secondary<MemShelf>, block: u64, value: u8) -> bool {
+    shown(site, block) == Ok(value)
+}
+
+// Whether the log of the site keeps this of a replay.
+fn keeps(site: &Secondary<MemShelf>, mark: Mark, phase: SPhase, replay: u64, end: u64) -> bool {
     let state = site.rvg.state();
-    (state.mark, state.phase, state.replay, state.end)
+    state.mark == mark && state.phase == phase && state.replay == replay && state.end == end
 }
 
 // What waits is logged before the replay begins. A start finds the site in it. An earlier replay, and one that begins below the site's last
@@ -148,18 +192,18 @@ fn kept(site: &Secondary<MemShelf>) -> (Mark, SPhase, u64, u64) {
 fn a_replay_begins_behind_what_waits(rt: HostRuntime) -> Result<(), Fail> {
     let alloc = rt.alloc();
     let mut site = made(alloc, SPhase::Quiet)?;
-    assert!(rt; take(&mut site, 1, 3, 0x11) == Ok(RAction::Take { ack: 1 }));
-    assert!(rt; begin_replay(&mut site, &line(), 1, 1) == Ok(QAction::Ignored));
-    assert!(rt; begin_replay(&mut site, &line(), 2, 0) == Ok(QAction::Ignored));
-    assert!(rt; begin_replay(&mut site, &line(), 2, 1) == Ok(QAction::Begin));
-    assert!(rt; begin_replay(&mut site, &line(), 2, 1) == Ok(QAction::Again));
+    assert!(rt; is_taken(&mut site, 1, 3, 0x11));
+    assert!(rt; is_begun(&mut site, 1, 1, QAction::Ignored));
+    assert!(rt; is_begun(&mut site, 2, 0, QAction::Ignored));
+    assert!(rt; is_begun(&mut site, 2, 1, QAction::Begin));
+    assert!(rt; is_begun(&mut site, 2, 1, QAction::Again));
     assert!(rt; site.waiting.len() == 0);
     let mut site = again(alloc, site)?;
-    assert!(rt; kept(&site) == (Mark::Inconsistent, SPhase::Regions, 2, 0));
+    assert!(rt; keeps(&site, Mark::Inconsistent, SPhase::Regions, 2, 0));
     assert!(rt; site.rvg.head() == 1);
-    assert!(rt; shown(&mut site, 3) == Ok(0x11));
-    assert!(rt; handed(&mut site, 1, 0)? == Ok(QAction::Ignored));
-    assert!(rt; handed(&mut site, 2, 0)? == Ok(QAction::Store));
+    assert!(rt; shows(&mut site, 3, 0x11));
+    assert!(rt; is_handed(&mut site, 1, QAction::Ignored));
+    assert!(rt; is_handed(&mut site, 2, QAction::Store));
     Ok(())
 }
 
@@ -169,20 +213,20 @@ fn a_replay_begins_behind_what_waits(rt: HostRuntime) -> Result<(), Fail> {
 fn a_replay_ends_at_its_end(rt: HostRuntime) -> Result<(), Fail> {
     let alloc = rt.alloc();
     let mut site = made(alloc, SPhase::Regions)?;
-    assert!(rt; close_replay(&mut site, &line(), 2, 4, 5) == Ok(QAction::Ignored));
-    assert!(rt; close_replay(&mut site, &line(), 1, 4, 5) == Ok(QAction::Close));
-    assert!(rt; close_replay(&mut site, &line(), 1, 4, 5) == Ok(QAction::Again));
-    assert!(rt; settle_mark(&mut site) == Ok(()));
-    assert!(rt; kept(&site) == (Mark::Inconsistent, SPhase::Log, 1, 5));
-    assert!(rt; handed(&mut site, 1, 0)? == Ok(QAction::Ignored));
-    assert!(rt; take(&mut site, 5, 3, 0x22) == Ok(RAction::Take { ack: 5 }));
-    assert!(rt; settle_mark(&mut site) == Ok(()));
-    assert!(rt; kept(&site).0 == Mark::Inconsistent);
-    assert!(rt; site.apply(1) == Ok(RAction::DataAck { number: 5 }));
-    assert!(rt; settle_mark(&mut site) == Ok(()));
+    assert!(rt; is_closed(&mut site, 2, QAction::Ignored));
+    assert!(rt; is_closed(&mut site, 1, QAction::Close));
+    assert!(rt; is_closed(&mut site, 1, QAction::Again));
+    assert!(rt; is_settled(&mut site));
+    assert!(rt; keeps(&site, Mark::Inconsistent, SPhase::Log, 1, 5));
+    assert!(rt; is_handed(&mut site, 1, QAction::Ignored));
+    assert!(rt; is_taken(&mut site, 5, 3, 0x22));
+    assert!(rt; is_settled(&mut site));
+    assert!(rt; keeps(&site, Mark::Inconsistent, SPhase::Log, 1, 5));
+    assert!(rt; is_applied(&mut site, 5));
+    assert!(rt; is_settled(&mut site));
     let mut site = again(alloc, site)?;
-    assert!(rt; kept(&site) == (Mark::Consistent, SPhase::Log, 1, 5));
+    assert!(rt; keeps(&site, Mark::Consistent, SPhase::Log, 1, 5));
     assert!(rt; (site.rvg.low(), site.rvg.head()) == (5, 5));
-    assert!(rt; shown(&mut site, 3) == Ok(0x22));
+    assert!(rt; shows(&mut site, 3, 0x22));
     Ok(())
 }

@@ -117,6 +117,6 @@ hands-none s u ack none net stored = record {
   goes = record { link = refl; line = refl; sizes = refl; faults = omega arith; net = omega arith; stored = omega arith };
   net = net;
   stored = stored;
-  handed = inl refl;
+  handed = inl (refl, refl);
   next = λ calm line number lies. absurd (cc (subst (λ (l : List ℕ). slice_get l u.vol ≡ Some lies.0) none lies.1));
 }
