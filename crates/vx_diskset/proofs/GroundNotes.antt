@@ -94,14 +94,12 @@ module _ {R : Type 0} {g : Ghosts R} (site : Node) (was base : GroupNode) (x : C
     holds = record { size = size; has = may };
   }
 
-  -- where imports agreed they do, or a call failed
+  -- where imports agreed they do, but where a call failed
   pub ground_agrees : IsFalse (laid_disks new).down → AgreesStill was next (laid_disks old) (laid_disks new)
-  ground_agrees is tight none = by (ground.sure (sure_by old.core.inner.committed old.core.held (up.at.lies.committed tight none) (up.at.lies.images.free tight none)))
-    where
-      by : (is_sure new.core ≡ true) ⊎ DeviceRose (laid_disks old) (laid_disks new) ⊎ IsTrue (laid_disks new).down → ((next.loose ≡ false) × (next.begun ≡ [])) ⊎ DeviceRose (laid_disks old) (laid_disks new)
-      by (inl sure) = inl (ap not sure, ap (λ (b : Bool). if b then [] else noted_config new.core.inner.config ∷ base.begun) sure)
-      by (inr (inl some)) = inr some
-      by (inr (inr down)) = let wrong : false ≡ true = sym is ∙ down in absurd (cc)
+  ground_agrees is tight none quiet =
+      let sure : is_sure new.core ≡ true =
+      ground.sure (sure_by old.core.inner.committed old.core.held (up.at.lies.committed tight none) (up.at.lies.images.free tight none)) quiet (λ down. let wrong : false ≡ true = sym is ∙ down in cc) in
+      (ap not sure, ap (λ (b : Bool). if b then [] else noted_config new.core.inner.config ∷ base.begun) sure)
 
   module _ (spells : HasSpelling (at_serial 0 new.core.inner.config)) where
     -- its disks are up

@@ -31,9 +31,9 @@ use Rattle.vx_diskset.specs.declared.disk_set.DiskSet.TheVariants.{OfGroup, Over
 abbrev pub below_rvg : Node → Node
 below_rvg n = record n { role = Primary; volumes = []; log = []; safe = 0; halted = None }
 
--- Where imports agreed, and nothing was begun, it is so behind these calls, or one of them failed.
+-- Where imports agreed, and nothing was begun, it is so behind calls in which none failed.
 abbrev pub AgreesStill : GroupNode → GroupNode → Meaning → Meaning → Type 0
-AgreesStill note next old new = note.loose ≡ false → note.begun ≡ [] → ((next.loose ≡ false) × (next.begun ≡ [])) ⊎ DeviceRose old new
+AgreesStill note next old new = note.loose ≡ false → note.begun ≡ [] → (DeviceRose old new → ⊥) → (next.loose ≡ false) × (next.begun ≡ [])
 
 module _ {R : Type 0} {g : Ghosts R} where
   -- the group, up or not, is as it is noted

@@ -65,7 +65,7 @@ ground_none a m = record {
   openly = λ clear. clear;
   newest = λ clear was is. was is;
   falls = λ is. is;
-  sure = λ is. inl is;
+  sure = λ is none up. is;
 }
 
 -- and one call more
@@ -89,10 +89,10 @@ module _ (a : GroundState) (c d : GroupCore) (m0 m m' : Meaning) (first : (u : �
 
   -- a call that answers Ok leaves the newest configuration committed
   sure_after : {T : Type 0} (unit : ℕ) (r : Result T ShelfError) → (c.held ≡ None → d.held ≡ None) → Cause (inner_meaning (wide c) m) (inner_meaning (wide d) m') unit r
-      → OnOk r (c.inner.committed ≡ true → d.inner.committed ≡ true) → is_sure c ≡ true → (is_sure d ≡ true) ⊎ DeviceRose m m' ⊎ IsTrue m'.down
-  sure_after unit (Ok done) free cause trust is = inl (sure_by d.inner.committed d.held (trust (sure_kept c.inner.committed c.held is)) (free (sure_free c.inner.committed c.held is)))
-  sure_after unit (Err (Fault disk)) free cause trust is = inr (inl (record { disk = disk; rose = cause.0.disk_count }))
-  sure_after unit (Err Down) free cause trust is = inr (inr cause)
+      → OnOk r (c.inner.committed ≡ true → d.inner.committed ≡ true) → is_sure c ≡ true → (DeviceRose m m' → ⊥) → (IsTrue m'.down → ⊥) → is_sure d ≡ true
+  sure_after unit (Ok done) free cause trust is none up = sure_by d.inner.committed d.held (trust (sure_kept c.inner.committed c.held is)) (free (sure_free c.inner.committed c.held is))
+  sure_after unit (Err (Fault disk)) free cause trust is none up = absurd (none (record { disk = disk; rose = cause.0.disk_count }))
+  sure_after unit (Err Down) free cause trust is none up = absurd (up cause)
 
   module _ (loses : LosesPlexes c.inner.config d.inner.config m m') where
     plexes_then : (v p : ℕ) → PlexQuiet a.config v p m0 m' → IsTrue (active a.config v p) → IsTrue (active d.inner.config v p)
@@ -113,17 +113,7 @@ module _ (a : GroundState) (c d : GroupCore) (m0 m m' : Meaning) (first : (u : �
     blamed_by u false is off on none = none (rose_back (m0.disk_faults u) (m.disk_faults u) (m'.disk_faults u) (since.counts u) (counted u (loses.disks.blamed u is on)))
 
     module _ (openly : MissesOpenly (wide c) → MissesOpenly (wide d)) (newest : MissesOpenly (wide c) → (c.inner.committed ≡ true → AllAtOnce (wide c).config m) → d.inner.committed ≡ true → AllAtOnce (wide d).config m')
-        (sure : is_sure c ≡ true → (is_sure d ≡ true) ⊎ DeviceRose m m' ⊎ IsTrue m'.down) where
-      sure_now : (is_sure d ≡ true) ⊎ DeviceRose m m' ⊎ IsTrue m'.down → (is_sure d ≡ true) ⊎ DeviceRose m0 m' ⊎ IsTrue m'.down
-      sure_now (inl is) = inl is
-      sure_now (inr (inl some)) = inr (inl (rose_now some))
-      sure_now (inr (inr down)) = inr (inr down)
-
-      sure_then : (is_sure c ≡ true) ⊎ DeviceRose m0 m ⊎ IsTrue m.down → (is_sure d ≡ true) ⊎ DeviceRose m0 m' ⊎ IsTrue m'.down
-      sure_then (inl was) = sure_now (sure was)
-      sure_then (inr (inl some)) = inr (inl (rose_before some))
-      sure_then (inr (inr down)) = inr (inr (falls down))
-
+        (sure : is_sure c ≡ true → (DeviceRose m m' → ⊥) → (IsTrue m'.down → ⊥) → is_sure d ≡ true) where
       pub since_goes : GroundSince a m0 (ground_state d) m'
       since_goes = record {
         parts = then_parts a.config c.inner.config d.inner.config since.parts loses.parts;
@@ -138,7 +128,7 @@ module _ (a : GroundState) (c d : GroupCore) (m0 m m' : Meaning) (first : (u : �
         openly = λ clear. openly (since.openly clear);
         newest = λ clear was is. newest (since.openly clear) (since.newest clear was) is;
         falls = λ is. falls (since.falls is);
-        sure = λ is. sure_then (since.sure is);
+        sure = λ is none up. sure (since.sure is (λ some. none (rose_before some)) (λ down. up (falls down))) (λ some. none (rose_now some)) up;
       }
 
     -- a write or a flush
@@ -154,7 +144,7 @@ module _ (a : GroundState) (c d : GroupCore) (m0 m m' : Meaning) (first : (u : �
       (λ clear was is.
       let seen : (wide d).config ≡ (wide c).config = ap (λ (x : Config). config_by d.held x) same ∙ ap (λ (o : Option Held). config_by o c.inner.config) held in
       subst (λ (y : Config). AllAtOnce y m') (sym seen) (less_newest (wide c).config m m' (was (sym committed ∙ is)) finds))
-      (λ is. inl (sure_by d.inner.committed d.held (committed ∙ sure_kept c.inner.committed c.held is) (held ∙ sure_free c.inner.committed c.held is)))
+      (λ is none up. sure_by d.inner.committed d.held (committed ∙ sure_kept c.inner.committed c.held is) (held ∙ sure_free c.inner.committed c.held is))
 
 -- accounts in a row
 module _ (a b c : GroundState) (m0 m1 m2 : Meaning) (one : GroundSince a m0 b m1) (two : GroundSince b m1 c m2) where
@@ -174,16 +164,6 @@ module _ (a b c : GroundState) (m0 m1 m2 : Meaning) (one : GroundSince a m0 b m1
   last_rose : DeviceRose m1 m2 → DeviceRose m0 m2
   last_rose some = record { disk = some.disk; rose = rose_back (m0.disk_faults some.disk) (m1.disk_faults some.disk) (m2.disk_faults some.disk) (one.counts some.disk) some.rose }
 
-  sure_last : (c.sure ≡ true) ⊎ DeviceRose m1 m2 ⊎ IsTrue m2.down → (c.sure ≡ true) ⊎ DeviceRose m0 m2 ⊎ IsTrue m2.down
-  sure_last (inl is) = inl is
-  sure_last (inr (inl some)) = inr (inl (last_rose some))
-  sure_last (inr (inr down)) = inr (inr down)
-
-  sure_both : (b.sure ≡ true) ⊎ DeviceRose m0 m1 ⊎ IsTrue m1.down → (c.sure ≡ true) ⊎ DeviceRose m0 m2 ⊎ IsTrue m2.down
-  sure_both (inl was) = sure_last (two.sure was)
-  sure_both (inr (inl some)) = inr (inl (first_rose some))
-  sure_both (inr (inr down)) = inr (inr (two.falls down))
-
   pub ground_both : GroundSince a m0 c m2
   ground_both = record {
     parts = then_parts a.config b.config c.config one.parts two.parts;
@@ -198,7 +178,7 @@ module _ (a b c : GroundState) (m0 m1 m2 : Meaning) (one : GroundSince a m0 b m1
     openly = λ clear. two.openly (one.openly clear);
     newest = λ clear was is. two.newest (one.openly clear) (one.newest clear was) is;
     falls = λ is. two.falls (one.falls is);
-    sure = λ is. sure_both (one.sure is);
+    sure = λ is none up. two.sure (one.sure is (λ some. none (first_rose some)) (λ down. up (two.falls down))) (λ some. none (last_rose some)) up;
   }
 
 -- ---- what the configuration has lost, of which it can be told whether a call failed

@@ -1,5 +1,5 @@
 -- What calls of a group make of its configuration and of its disks, in facts without a choice.
-use Rattle.std.specs.Prelude.{◌≡◌, ◌⊎◌, ℕ, ◌≤◌, Bool, true, false, [], IsTrue, None}
+use Rattle.std.specs.Prelude.{◌≡◌, ℕ, ◌≤◌, Bool, true, false, [], IsTrue, None}
 use Rattle.vx_config.specs.declared.config.Config.{Config}
 use Rattle.vx_copies.specs.Marks.{blocks_at, failed_at}
 use Rattle.vx_disk.specs.Counts.{Rose}
@@ -41,7 +41,7 @@ StateOpen a = a.unsettled ≡ true → a.committed ≡ false
 
 -- The same volumes but for the states of their plexes, which lie where they lay: one that was ACTIVE is so, where no call on one of its disks failed, and one that is was
 -- so, where none on a disk of its volume did; and the same disks, of which one is newly held as failed only where a call on it failed. No count fell. Where the newest
--- configuration is committed each image has it, if it was so before. And it is committed, with no plex held back, where it was so, or a call on a disk failed or the disks are down.
+-- configuration is committed each image has it, if it was so before. And it is committed, with no plex held back, where it was so, no call on a disk failed and the disks are up.
 pub record GroundSince (a : GroundState) (m : Meaning) (b : GroundState) (m' : Meaning) : Type 0 where
   pub parts : SameParts a.config b.config
   pub frames : (v : ℕ) → frame_at b.config v ≡ frame_at a.config v
@@ -55,4 +55,4 @@ pub record GroundSince (a : GroundState) (m : Meaning) (b : GroundState) (m' : M
   pub openly : StateOpen a → StateOpen b
   pub newest : StateOpen a → (a.committed ≡ true → AllAtOnce a.seen m) → b.committed ≡ true → AllAtOnce b.seen m'
   pub falls : IsTrue m.down → IsTrue m'.down
-  pub sure : a.sure ≡ true → (b.sure ≡ true) ⊎ DeviceRose m m' ⊎ IsTrue m'.down
+  pub sure : a.sure ≡ true → (DeviceRose m m' → ⊥) → (IsTrue m'.down → ⊥) → b.sure ≡ true

@@ -1,6 +1,6 @@
 -- What a line that makes a replicated volume group leads its yard to, where it is done.
-use Rattle.std.proofs.Common.{◌≡◌, ◌+◌, ℕ, false, List, length, ap, sym, subst, refl, arith}
-use Rattle.std.specs.Prelude.{Some, Ok, slice_set}
+use Rattle.std.proofs.Common.{◌≡◌, ◌⊎◌, ◌+◌, ℕ, false, List, length, ap, sym, subst, refl, arith}
+use Rattle.std.specs.Prelude.{Some, slice_set}
 use Rattle.vx_model.specs.declared.units.Units.{Units}
 use Rattle.vx_disk.specs.Shelf.{Meaning}
 use Rattle.vx_disk.specs.declared.shelf.Shelf.{Ghosts}
@@ -10,20 +10,22 @@ use Rattle.vx_history.specs.Groups.{GroupNode, NoteWorks}
 use Rattle.vx_history.specs.World.{Node}
 use Rattle.vx_rvg.specs.Views.{Core}
 use Rattle.vx_script.specs.declared.line.ScriptLine.TheVariants.{Rvg}
+use Rattle.vx_groupmaps.specs.Loading.{DeviceRose}
 use Rattle.vx_grouped.specs.ConfigMoves.{LosesSome}
 use Rattle.vx_grouped.specs.GroupSites.{site_config, site_disks}
 use Rattle.vx_grouped.specs.SiteEnds.{ConfigGoes}
 use Rattle.vx_grouped.specs.declared.group_site.GroupSite.{GroupSite}
 use Rattle.vx_diskset.specs.Asked.{SameFailing}
 use Rattle.vx_diskset.specs.GroupCalls.{AtSite, CalledOn, core_in}
-use Rattle.vx_diskset.specs.Makings.{MakesRvgIs, NarrowsNote, StandsUnlinked, below_in, rvg_made}
-use Rattle.vx_diskset.specs.Noted.{AgreesStill, SiteNoted}
+use Rattle.vx_diskset.specs.Makings.{NarrowsNote, StandsUnlinked, below_in, rvg_made}
+use Rattle.vx_diskset.specs.Noted.{SiteNoted}
 use Rattle.vx_diskset.specs.Stands.{faults_at}
 use Rattle.vx_diskset.specs.declared.disk_set.DiskSet.{DiskSet}
 use Rattle.vx_events.specs.Fails.{Fails}
 use Rattle.vx_events.specs.GroupNotes.{note_at}
 use Rattle.vx_events.specs.RvgMakes.{MakesRvg, RvgDone}
 use Rattle.vx_events.specs.RvgNotes.{HasOneValue, NotesRvg, as_replicated, note_gained, units_named}
+use Rattle.vx_events.specs.RvgWorks.{NoteAgrees}
 use Rattle.vx_events.specs.StepsOver.{fact_of_group}
 use Rattle.vx_events.specs.declared.said.Said.TheVariants.{Done}
 use Rattle.vx_yard.proofs.Carrying.{SameLoad}
@@ -37,7 +39,7 @@ use Rattle.vx_group_lines.proofs.Losing.{Names}
 use Rattle.vx_group_lines.proofs.RvgAt.{RvgAt, asks_config}
 use Rattle.vx_group_lines.proofs.RvgCalls.{below_faults, names_below, rose_below}
 use Rattle.vx_group_lines.proofs.RvgGained.{gained_carries, gained_stands, rvg_next, sits}
-use Rattle.vx_group_lines.proofs.RvgNotes.{notes_rvg, quiet_by, rose_disk, still_calm}
+use Rattle.vx_group_lines.proofs.RvgNotes.{notes_rvg, quiet_by, rose_disk}
 use Rattle.vx_group_lines.specs.Noting.{made_facts}
 
 module _ {R : Type 0} {g : Ghosts R} (d : Doubted) (old new : Yard R g) (name srl maps : List ℕ) (volumes : List (List ℕ)) (s : ℕ) (before after : DiskSet R g) (stands : StandsFull d old)
@@ -61,7 +63,7 @@ module _ {R : Type 0} {g : Ghosts R} (d : Doubted) (old new : Yard R g) (name sr
   now_site = below_in after at.group.set.site
 
   module _ (middle settled : GroupNode) (narrows : NarrowsNote (note.dark ≡ false) units note middle) (one : HasOneValue units middle) (works : NoteWorks middle settled)
-      (goes : ConfigGoes (λ x y. LosesSome (site_disks was_site) (site_disks now_site) (as_replicated units x) y) middle settled was_site now_site) (agrees : AgreesStill middle settled (site_disks was_site) (site_disks now_site))
+      (goes : ConfigGoes (λ x y. LosesSome (site_disks was_site) (site_disks now_site) (as_replicated units x) y) middle settled was_site now_site) (calm : (NoteAgrees middle → NoteAgrees settled) ⊎ DeviceRose (site_disks was_site) (site_disks now_site))
       (made : StandsUnlinked (rvg_made config units middle (note_gained units settled) (d.world.nodes s)) after)
       (noted : SiteNoted (rvg_made config units middle (note_gained units settled) (d.world.nodes s)) (note_gained units settled) after) where
     abbrev o : Meaning
@@ -71,7 +73,7 @@ module _ {R : Type 0} {g : Ghosts R} (d : Doubted) (old new : Yard R g) (name sr
     e = site_disks now_site
 
     abbrev many : ℕ
-    many = o.units + length goes.was.disks + rose_disk middle settled o e (still_calm middle settled o e agrees) + 1
+    many = o.units + length goes.was.disks + rose_disk middle settled o e calm + 1
 
     abbrev fails : Fails
     fails = calls s old new many
@@ -82,7 +84,7 @@ module _ {R : Type 0} {g : Ghosts R} (d : Doubted) (old new : Yard R g) (name sr
 
     notes : NotesRvg (IsTold new) s fails units note middle (note_gained units settled)
     notes = notes_rvg s many fails o e names (IsTold new) units note middle narrows goes.was goes.now goes.noted (omega arith) settled goes.noted_now goes.change one
-        (record { works = works; quiet = λ none off agreed. quiet_by s many fails o e names middle settled (still_calm middle settled o e agrees) (omega arith) none agreed })
+        (record { works = works; quiet = λ none off agreed. quiet_by s many fails o e names middle settled calm (omega arith) none agreed })
 
     abbrev next : Doubted
     next = rvg_next d old new name srl maps volumes s before after stands at changed failing since middle settled
@@ -103,9 +105,3 @@ module _ {R : Type 0} {g : Ghosts R} (d : Doubted) (old new : Yard R g) (name sr
           carries = gained_carries d old new name srl maps volumes s before after stands at changed failing since middle settled made noted load;
           rose = rose_below old new s before after changed many;
         }
-
-  -- by what the call says
-  pub done_leads : MakesRvgIs s (d.world.nodes s) note units config was_site after now_site (Ok tt)
-      → ((core : Core) (c : Config) → core_in after ≡ Some core → AtSite (λ x. site_config x ≡ Some c) after → new.facts.items ≡ slice_set old.facts.items s (made_facts core c (fact_of_group (d.world.nodes s) (note_at (d.world.nodes s)))))
-      → SameLoad old new → LeadsRvg d name srl maps volumes Done old new
-  done_leads (middle, settled, narrows, one, works, goes, agrees, made, noted) shown load = gained_leads middle settled narrows one works goes agrees made noted shown load

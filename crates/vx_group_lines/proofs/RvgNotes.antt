@@ -11,7 +11,6 @@ use Rattle.vx_grouped.proofs.ImageLemmas.{contains_next}
 use Rattle.vx_grouped.specs.ConfigMoves.{LosesSome, none_again}
 use Rattle.vx_grouped.specs.GroupNotes.{NotesConfig}
 use Rattle.vx_diskset.specs.Makings.{NarrowsNote, note_begun}
-use Rattle.vx_diskset.specs.Noted.{AgreesStill}
 use Rattle.vx_events.specs.Fails.{Fails}
 use Rattle.vx_events.specs.GroupConfigs.{ConfigLoses}
 use Rattle.vx_events.specs.RvgNotes.{HasOneValue, NotesLacking, NotesNarrowed, NotesNoRvg, NotesRvg, as_replicated, note_gained}
@@ -53,19 +52,7 @@ module _ (told : Type 0) (units : Units) (note middle : GroupNode) (it : Narrows
 
 -- ---- imports that agreed
 
--- they do, or a call failed
-pub still_calm : (begun next : GroupNode) (o e : Meaning) → AgreesStill begun next o e → (NoteAgrees begun → NoteAgrees next) ⊎ DeviceRose o e
-still_calm begun next o e still = by begun.loose begun.begun refl refl
-  where
-    so : ((next.loose ≡ false) × (next.begun ≡ [])) ⊎ DeviceRose o e → (NoteAgrees begun → NoteAgrees next) ⊎ DeviceRose o e
-    so (inl agrees) = inl (λ was. record { loose = agrees.0; begun = agrees.1 })
-    so (inr some) = inr some
-
-    by : (l : Bool) (b : List (List ℕ)) → begun.loose ≡ l → begun.begun ≡ b → (NoteAgrees begun → NoteAgrees next) ⊎ DeviceRose o e
-    by true b loose is = inl (λ agrees. let clash : true ≡ false = sym loose ∙ agrees.loose in absurd (cc))
-    by false [] loose is = so (still loose is)
-    by false (x ∷ b) loose is = inl (λ agrees. let clash : x ∷ b ≡ [] = sym is ∙ agrees.begun in absurd (cc))
-
+-- the disk of the call that failed, where they do not
 abbrev pub rose_disk : (begun next : GroupNode) (o e : Meaning) → (NoteAgrees begun → NoteAgrees next) ⊎ DeviceRose o e → ℕ
 rose_disk begun next o e (inl keeps) = 0
 rose_disk begun next o e (inr some) = some.disk

@@ -1,5 +1,5 @@
 -- What a line that makes no replicated volume group leads its yard to: a failed call, want of a serial or of memory ended it.
-use Rattle.std.proofs.Common.{◌≡◌, ◌∙◌, ◌+◌, ℕ, false, List, length, ap, sym, subst, refl, arith, inr}
+use Rattle.std.proofs.Common.{◌≡◌, ◌∙◌, ◌⊎◌, ◌+◌, ℕ, false, List, length, ap, sym, subst, refl, arith, inr}
 use Rattle.vx_model.specs.declared.limits.TheConstants.{MOST_NUMBER}
 use Rattle.vx_model.specs.declared.no.Counted.TheVariants.{Number}
 use Rattle.vx_model.specs.declared.no.No.TheVariants.{Device, Limit}
@@ -11,6 +11,7 @@ use Rattle.vx_history.specs.Doubts.{Doubted}
 use Rattle.vx_history.specs.Groups.{GroupNode, NoteWorks}
 use Rattle.vx_history.specs.World.{Node}
 use Rattle.vx_script.specs.declared.line.ScriptLine.TheVariants.{Rvg}
+use Rattle.vx_groupmaps.specs.Loading.{DeviceRose}
 use Rattle.vx_grouped.specs.ConfigMoves.{LosesSome, none_again}
 use Rattle.vx_grouped.specs.GroupNotes.{NotesConfig}
 use Rattle.vx_grouped.specs.GroupSites.{site_disks, with_note}
@@ -20,7 +21,7 @@ use Rattle.vx_grouped.specs.declared.group_site.GroupSite.{GroupSite}
 use Rattle.vx_diskset.specs.Asked.{SameFailing}
 use Rattle.vx_diskset.specs.GroupCalls.{CalledOn}
 use Rattle.vx_diskset.specs.Makings.{NarrowsNote, PlainNoted, below_in, note_begun}
-use Rattle.vx_diskset.specs.Noted.{AgreesStill, SiteNoted}
+use Rattle.vx_diskset.specs.Noted.{SiteNoted}
 use Rattle.vx_diskset.specs.Stands.{faults_at}
 use Rattle.vx_diskset.specs.declared.disk_set.DiskSet.{DiskSet}
 use Rattle.vx_diskset.specs.declared.disk_set.DiskSet.TheVariants.{Bare, Spoiled, Up, Receives, Down, OfGroup, Over, Gone}
@@ -31,7 +32,7 @@ use Rattle.vx_events.specs.GroupViews.{noted_table}
 use Rattle.vx_events.specs.RvgMakes.{MakesRvg, RvgFails, RvgLacks}
 use Rattle.vx_events.specs.RvgNotes.{units_named}
 use Rattle.vx_events.specs.RvgParts.{RvgShort, ShortMade}
-use Rattle.vx_events.specs.RvgWorks.{WorksAs}
+use Rattle.vx_events.specs.RvgWorks.{NoteAgrees, WorksAs}
 use Rattle.vx_events.specs.declared.said.Said.{Said}
 use Rattle.vx_events.specs.declared.said.Said.TheVariants.{Refused}
 use Rattle.vx_yard.proofs.Carrying.{SameLoad}
@@ -46,7 +47,7 @@ use Rattle.vx_group_lines.proofs.GroupCalls.{calls}
 use Rattle.vx_group_lines.proofs.Losing.{Names}
 use Rattle.vx_group_lines.proofs.RvgAt.{RvgAt}
 use Rattle.vx_group_lines.proofs.RvgCalls.{below_faults, names_below, rose_below}
-use Rattle.vx_group_lines.proofs.RvgNotes.{notes_lacking, notes_none, quiet_by, rose_disk, still_calm}
+use Rattle.vx_group_lines.proofs.RvgNotes.{notes_lacking, notes_none, quiet_by, rose_disk}
 use Rattle.vx_group_lines.proofs.RvgStays.{rvg_left, stays_carries, stays_none, stays_stands}
 
 module _ {R : Type 0} {g : Ghosts R} where
@@ -84,9 +85,9 @@ module _ {R : Type 0} {g : Ghosts R} where
     e = site_disks now_site
 
     module _ (middle next : GroupNode) (narrows : NarrowsNote (note.dark ≡ false) units note middle) (works : NoteWorks (note_begun units middle) next) (goes : ConfigGoes (LosesSome o e) middle next was_site now_site)
-        (maps_stand : StandMaps next now_site) (agrees : AgreesStill (note_begun units middle) next o e) (noted : PlainNoted (with_note next (d.world.nodes s)) next after) (disk : ℕ) where
+        (maps_stand : StandMaps next now_site) (calm : (NoteAgrees (note_begun units middle) → NoteAgrees next) ⊎ DeviceRose o e) (noted : PlainNoted (with_note next (d.world.nodes s)) next after) (disk : ℕ) where
       abbrev many : ℕ
-      many = o.units + length goes.was.disks + rose_disk (note_begun units middle) next o e (still_calm (note_begun units middle) next o e agrees) + disk + 1
+      many = o.units + length goes.was.disks + rose_disk (note_begun units middle) next o e calm + disk + 1
 
       abbrev fails : Fails
       fails = calls s old new many
@@ -96,7 +97,7 @@ module _ {R : Type 0} {g : Ghosts R} where
           (below_faults (with_note next n) next after was_site (plain_noted (with_note next n) next after noted)) many (omega arith)
 
       keeps : WorksAs ⊥ s fails (note_begun units middle) next
-      keeps = record { works = works; quiet = λ none off agreed. quiet_by s many fails o e names (note_begun units middle) next (still_calm (note_begun units middle) next o e agrees) (omega arith) none agreed }
+      keeps = record { works = works; quiet = λ none off agreed. quiet_by s many fails o e names (note_begun units middle) next calm (omega arith) none agreed }
 
       was_noted : NotesConfig note goes.was
       was_noted = record { is = ap (λ (k : GroupNode). k.config) (sym narrows.same) ∙ goes.noted.is; spells = goes.noted.spells }

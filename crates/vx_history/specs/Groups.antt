@@ -73,6 +73,7 @@ pub record NoteSettles (old new : GroupNode) : Type 0 where
 pub record NoteUnsettles (twice : Bool) (old new : GroupNode) : Type 0 where
   pub same : NoteSame old new
   pub begun : ((new.begun ≡ []) × (new.loose ≡ false)) ⊎ ((nexts : List (List ℕ)) × (new.begun ≡ nexts ++ old.begun) × (old.loose ≡ true → new.loose ≡ true))
+  pub tight : twice ≡ false → old.loose ≡ false → old.begun ≡ [] → new.loose ≡ false
 
 -- Behind any calls, one after another: these configurations are begun, the last first; and what was begun before them too, unless a commit was done since.
 pub record NoteWorks (old new : GroupNode) : Type 0 where
@@ -80,4 +81,3 @@ pub record NoteWorks (old new : GroupNode) : Type 0 where
   pub firsts : List (List ℕ)
   pub begun : (new.begun ≡ firsts) ⊎ ((new.begun ≡ firsts ++ old.begun) × (old.loose ≡ true → new.loose ≡ true))
   pub tight : old.loose ≡ false → old.begun ≡ [] → firsts ≡ [] → new.loose ≡ false
-  pub tight : twice ≡ false → old.loose ≡ false → old.begun ≡ [] → new.loose ≡ false
