@@ -49,7 +49,7 @@ use Rattle.vx_untold.specs.Shades.{shade_lawful, shade_rack}
 use Rattle.vx_diskset.specs.Aboves.{InsideOf, above_in, site_in}
 use Rattle.vx_diskset.specs.Fuses.{FuseOn}
 use Rattle.vx_diskset.specs.GroupSets.{cut_value}
-use Rattle.vx_diskset.specs.Holds.{site_alone}
+use Rattle.vx_diskset.specs.Holds.{KeptBeside}
 use Rattle.vx_diskset.specs.Layouts.{config_units, units_or}
 use Rattle.vx_diskset.specs.MakeSteps.{MadeOn}
 use Rattle.vx_diskset.specs.Makings.{IsFirstSite, MakesRvgIs, rvg_made}
@@ -205,7 +205,7 @@ module _ {R : Type 0} {g : Ghosts R} (rackful : (s : R) → IsRack (g.meaning s)
   core_here : core ≡ new_core u (first_state site) (ring_of (blocks_of l.core.inner.config.volumes u.srl)) core.maps
   core_here = made.core_is ∙ ap (λ (j : ℕ). new_core u (first_state site) (ring_of j) core.maps) ((wide_shape l.core).blocks u.srl)
 
-  stands : IsUpAt site_alone after core (laid_volumes k)
+  stands : (beside : KeptBeside) → beside.links ≡ [] → beside.doubt ≡ None → IsUpAt beside after core (laid_volumes k)
   stands = rvg_stands site n at_first up.noted.none up.at.state l.core.inner.config u middle gained core (laid_volumes k) law sound placed core_here may (λ v. made.alone.size v ∙ (wide_shape l.core).blocks v) made.up
       (fuse_over n.fuse (laid_disks k) (laid_volumes k) (λ off. off) (fuse_burned n.fuse (laid_disks l) (laid_disks k) made.went.since.unarmed up.fuse)) on made.stands
       (λ told v b low. narrowed_left (laid_volumes k) law u maps note told (unit_of u.vols v) b (is_among u.vols v low))
@@ -213,10 +213,10 @@ module _ {R : Type 0} {g : Ghosts R} (rackful : (s : R) → IsRack (g.meaning s)
   disks_many : length l.core.inner.config.disks ≡ n.disks
   disks_many = wanted_count (laid_disks l).units (laid_disks l).size (wide l.core).config l.stands.group.stands.wanted ∙ up.at.lies.units
 
-  over_site : IsOverSite site_alone after
-  over_site = (
+  over_site : (beside : KeptBeside) → beside.doubt ≡ None → IsOverSite beside after
+  over_site beside certain = (
     λ is. no_note is,
-    λ x is. no_doubt is,
+    λ x is. no_doubt (sym certain ∙ is),
     (let many = disks_many in let most = spelled_few l.core.inner.config up.spells in omega (arith, many, most)),
     (let many = disks_many in
         let some = l.stands.group.stands.disks in
@@ -247,10 +247,11 @@ module _ {R : Type 0} {g : Ghosts R} (rackful : (s : R) → IsRack (g.meaning s)
     note_works k.core middle (noted_config k.core.inner.config),
     subst (λ (e : GroupSite R g). ConfigGoes (λ x y. LosesSome (laid_disks l) (site_disks e) (as_replicated u x) y) middle settled (Up l) e) (sym is) goes,
     subst (λ (e : GroupSite R g). AgreesStill middle settled (laid_disks l) (site_disks e)) (sym is) agrees,
-    (
-      over_site,
-      over_from site_alone after o.site
-          (subst (λ (a : Above). OverUp site_alone after a (site_in o)) (sym above) (subst (λ (e : GroupSite R g). OverUp site_alone after (Origin core) e) (sym is) stands)),
+    λ beside unlinked certain. (
+      over_site beside certain,
+      over_from beside after o.site
+          (subst (λ (a : Above). OverUp beside after a (site_in o)) (sym above)
+          (subst (λ (e : GroupSite R g). OverUp beside after (Origin core) e) (sym is) (stands beside unlinked certain))),
     ),
     (
       subst (λ (e : GroupSite R g). NotedOn (below_rvg after) gained e) (sym is) group_up,

@@ -7,7 +7,6 @@ use Rattle.vx_config.specs.Configs.{HasSpelling}
 use Rattle.vx_config.specs.declared.config.Config.{Config}
 use Rattle.vx_disk.specs.Racks.{IsRack}
 use Rattle.vx_disk.specs.declared.shelf.Shelf.{Ghosts}
-use Rattle.vx_events.specs.RvgNotes.{inside_of, note_gained}
 use Rattle.vx_ground.specs.Accounts.{ground_state}
 use Rattle.vx_ground.specs.Lifted.{laid_volumes}
 use Rattle.vx_ground.proofs.AccountLemmas.{account_loses}
@@ -39,8 +38,7 @@ use Rattle.vx_model.specs.declared.units.Units.{Units}
 use Rattle.vx_untold.specs.Shades.{shade_rack}
 use Rattle.vx_diskset.specs.GroupSets.{cut_value}
 use Rattle.vx_diskset.specs.MakeSteps.{FellUnder, GroupWent, LogAlone, LineStops, RefusedOn}
-use Rattle.vx_diskset.specs.Makings.{MakesNone, MakesRvgIs, StaysNone, note_begun}
-use Rattle.vx_diskset.specs.Noted.{SiteNoted}
+use Rattle.vx_diskset.specs.Makings.{MakesNone, MakesRvgIs, PlainNoted, StaysNone, note_begun}
 use Rattle.vx_diskset.specs.declared.disk_set.DiskSet.TheVariants.{OfGroup}
 use Rattle.vx_diskset.specs.declared.group_set.CutWrite.{CutWrite}
 use Rattle.vx_diskset.proofs.CountMoves.{counts_lose}
@@ -142,7 +140,7 @@ module _ {R : Type 0} {g : Ghosts R} (rackful : (s : R) → IsRack (g.meaning s)
     module _ (x : Option CutWrite) (cut : cut_value x ≡ note.cut) (idle : Idle R g) (fell : FellUnder k idle) (maps : StandMaps next (Down idle)) where
       pub stops_down : (site : ℕ) (c : Config) → MakesRvgIs site n note u c (Up l) (OfGroup (record { site = Down idle; cut = x })) (Down idle) (Err (Refused IsOff))
       stops_down site c = (
-        made_none (λ (b m : GroupNode). SiteNoted (crashed (with_note m n) 0) m (OfGroup (record { site = Down idle; cut = x }))) (Down idle) (moved (Down idle) tt (counts_lose (laid_disks l) (laid_disks k) (idle_disks idle) fell.stopped.counts.disk_faults l.core.inner.config k.core.inner.config change)) maps (
+        made_none (λ (b m : GroupNode). PlainNoted (crashed (with_note m n) 0) m (OfGroup (record { site = Down idle; cut = x }))) (Down idle) (moved (Down idle) tt (counts_lose (laid_disks l) (laid_disks k) (idle_disks idle) fell.stopped.counts.disk_faults l.core.inner.config k.core.inner.config change)) maps (
           down_with n note next idle.agreed (idle_below idle).tells k.core.inner.config (idle_disks idle) up.noted
               (lit_since next next (laid_below k).tells (idle_below idle).tells (laid_disks k) (idle_disks idle) refl fell.stopped.tells fell.told
               (ground_lit n note begun l.core.inner.config l k up went.ground went.since went.told refl (sizes_then k alone) may))

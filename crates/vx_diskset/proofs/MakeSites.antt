@@ -33,7 +33,7 @@ use Rattle.vx_diskset.specs.Aboves.{AboveStays, above_in, site_in}
 use Rattle.vx_diskset.specs.GroupSets.{cut_value}
 use Rattle.vx_diskset.specs.MakeSteps.{MadeOn, RefusedOn}
 use Rattle.vx_diskset.specs.GroupCalls.{config_in}
-use Rattle.vx_diskset.specs.Makings.{IsFirstSite, MadeOver, MakesNone, MakesRvgIs, StaysNone, note_begun}
+use Rattle.vx_diskset.specs.Makings.{IsFirstSite, MadeOver, MakesNone, MakesRvgIs, PlainNoted, StaysNone, note_begun}
 use Rattle.vx_diskset.specs.Noted.{AgreesStill, NotedOn, SiteNoted}
 use Rattle.vx_diskset.specs.OverKeeps.{StaysAbove}
 use Rattle.vx_diskset.specs.declared.above.Above.TheVariants.{Origin}
@@ -79,7 +79,7 @@ module _ {R : Type 0} {g : Ghosts R} (o o' : GroupSite R g) (config : site_confi
   refused_as : (site : ℕ) (n : Node) (note : GroupNode) (u : Units) (c : Config) (new : DiskSet R g) (below : GroupSite R g) (why : No) → MakesRvgIs site n note u c o' new below (Err (Refused why)) → MakesRvgIs site n note u c o new below (Err (Refused why))
   refused_as site n note u c new below (Device disk) it = (up_as n note u new below it.0, carry (λ m. Rose (m.disk_faults disk) ((site_disks below).disk_faults disk)) it.1)
   refused_as site n note u c new below IsOff it = (
-    none_as (λ begun next. SiteNoted (crashed (with_note next n) 0) next new) (λ begun next. SiteNoted (crashed (with_note next n) 0) next new) (λ begun next still. still) n note u below it.0,
+    none_as (λ begun next. PlainNoted (crashed (with_note next n) 0) next new) (λ begun next. PlainNoted (crashed (with_note next n) 0) next new) (λ begun next still. still) n note u below it.0,
     it.1,
   )
   refused_as site n note u c new below (Limit what most) it = (it.0, it.1, up_as n note u new below it.2)

@@ -25,7 +25,7 @@ use Rattle.vx_watched.specs.Traces.{TellsLess}
 use Rattle.vx_diskset.specs.Aboves.{site_in}
 use Rattle.vx_diskset.specs.Asked.{FuseGoesOn, SameFailing, disks_told}
 use Rattle.vx_diskset.specs.DiskSets.{Later}
-use Rattle.vx_diskset.specs.GroupCalls.{AtSite}
+use Rattle.vx_diskset.specs.GroupCalls.{AtSite, CalledOn}
 use Rattle.vx_diskset.specs.Makings.{UpOrFell}
 use Rattle.vx_diskset.specs.Stands.{IsRackTold}
 use Rattle.vx_diskset.specs.declared.disk_set.DiskSet.{DiskSet}
@@ -109,6 +109,10 @@ module _ {R : Type 0} {g : Ghosts R} where
   pub told_in : (o : GroupSite R g) (l k : Laid R g) (e : GroupSite R g) → o ≡ UpSite l → k.shelf ≡ l.shelf → TellsLess (laid_below k) (site_below e) → TellsLess (site_below o) (site_below e)
   told_in o l k e is shelf it =
       subst (λ (x : GroupSite R g). TellsLess (site_below x) (site_below e)) (sym is) (subst (λ (x : Shade R). TellsLess (g.meaning (rack_of x)) (site_below e)) shelf it)
+
+  -- the account of the calls on the disks of a group
+  pub called_made : (e new : DiskSet R g) (o : GroupSet R g) → e ≡ OfGroup o → AtSite (λ x. CalledSince (site_disks o.site) (site_disks x)) new → CalledOn e new
+  called_made e new o is since = subst (λ (x : DiskSet R g). CalledOn x new) (sym is) since
 
   calm_settled : ((r : R) → IsRack (g.meaning r)) → (e : GroupSite R g) → UpOrFell e → IsSettled e
   calm_settled rackful (UpSite laid) it = record { rack = shade_rack g.meaning rackful laid.shelf; at = inl it }

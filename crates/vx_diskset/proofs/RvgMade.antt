@@ -25,7 +25,7 @@ use Rattle.vx_rvg.specs.Stands.{Stands}
 use Rattle.vx_rvg.specs.Views.{Core, IsSound, UnitsPlaced, last_of, unit_of}
 use Rattle.vx_srl.specs.Views.{widths}
 use Rattle.vx_diskset.specs.Fuses.{FuseOn, IsFirstLog}
-use Rattle.vx_diskset.specs.Holds.{site_alone, state_with}
+use Rattle.vx_diskset.specs.Holds.{KeptBeside, state_with}
 use Rattle.vx_diskset.specs.Lasts.{StandsHolding}
 use Rattle.vx_diskset.specs.Layouts.{IsLaid, config_units, units_of}
 use Rattle.vx_diskset.specs.Makings.{IsFirstSite, rvg_made}
@@ -37,6 +37,7 @@ use Rattle.vx_diskset.proofs.Narrowing.{data_here, inside_there, volumes_at, vol
 use Rattle.vx_diskset.proofs.NeedLemmas.{none_of, takes_none}
 use Rattle.vx_diskset.proofs.StaysUp.{told_now, writes_found}
 use Rattle.vx_diskset.proofs.UnitsLie.{units_few, units_large, units_some}
+use Rattle.vx_model.specs.declared.state.KeptLink.{KeptLink}
 
 module _ (site : ℕ) (n : Node) (first : IsFirstSite site n) (none : HasNoRvg n) (state : n.state ≡ IsUp) (c : Config) (u : Units) (middle next : GroupNode) (core : Core) (m : Meaning) (law : Lawful m) (sound : IsSound core m) (placed : UnitsPlaced u m)
     (core_is : core ≡ new_core u (first_state site) (ring_of (blocks_of c.volumes u.srl)) core.maps) (may : is_group c.volumes u ≡ true) (size : (v : ℕ) → m.size v ≡ blocks_of c.volumes v) (up : IsFalse m.down) (fuse : FuseOn (burned n.fuse) m)
@@ -108,8 +109,8 @@ module _ (site : ℕ) (n : Node) (first : IsFirstSite site n) (none : HasNoRvg n
   first_log = subst (λ (xs : List Write). IsFirstLog core.log xs) (sym none.log)
       (record { place = ap (λ (x : Core). x.log.header.place) core_is; widths_are = ap (λ (x : Core). widths x.log.held) core_is })
 
-  pub rvg_stands : IsUpAt site_alone k core m
-  rvg_stands = record {
+  pub rvg_stands : (beside : KeptBeside) → beside.links ≡ [] → beside.doubt ≡ None → IsUpAt beside k core m
+  rvg_stands beside unlinked certain = record {
     state = state;
     up = up;
     fuse = fuse;
@@ -122,7 +123,7 @@ module _ (site : ℕ) (n : Node) (first : IsFirstSite site n) (none : HasNoRvg n
     ring = ap (λ (x : Core). x.log.ring) core_is;
     found = [];
     kept = kept_here;
-    linked = λ told. refl;
+    linked = λ told. sym unlinked;
     session = session_here;
     begun = λ told. let one = first.session in omega (arith, one);
     stamp = λ told running. let one = first.session in let two = stamp_here in omega (arith, one, two);
@@ -136,8 +137,8 @@ module _ (site : ℕ) (n : Node) (first : IsFirstSite site n) (none : HasNoRvg n
     content = λ running told. holds_log told;
     left = λ i now.
         let told = told_now m i law now in
-        inl (writes_found k core i on_units (ap (λ (x : Core). x.log.ring) core_is) kept_here session_here (let one = first.session in let two = stamp_here in omega (arith, one, two))
+        inl (writes_found k core i on_units (ap (λ (x : Core). x.log.ring) core_is) (kept_here ∙ ap (λ (ls : List KeptLink). state_with k ls) (sym unlinked)) session_here (let one = first.session in let two = stamp_here in omega (arith, one, two))
         (none_logged ∙ sym none.safe) (stands_with core n.log content m i sound.log_unit law (holds_log told) now));
-    sure = λ running. refl;
-    may = never_besides None m refl;
+    sure = λ running. certain;
+    may = never_besides beside.doubt m certain;
   }

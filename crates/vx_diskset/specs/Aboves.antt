@@ -1,5 +1,5 @@
 -- What stands over the volumes of a group of disks.
-use Rattle.std.specs.Prelude.{◌≡◌, ℕ, ◌<◌, true, length}
+use Rattle.std.specs.Prelude.{◌≡◌, ℕ, ◌<◌, Option, Some, None, true, length}
 use Rattle.vx_disk.specs.Shelf.{Meaning}
 use Rattle.vx_disk.specs.declared.shelf.Shelf.{Ghosts}
 use Rattle.vx_ground.specs.Lifted.{laid_volumes}
@@ -7,7 +7,7 @@ use Rattle.vx_grouped.specs.declared.group_site.GroupSite.{GroupSite}
 use Rattle.vx_grouped.specs.declared.group_site.GroupSite.TheVariants.{Up, Deported as GroupAway, Down as GroupFell, Marked, Gone as NoGroup}
 use Rattle.vx_history.specs.Groups.{GroupNode}
 use Rattle.vx_model.specs.declared.units.Units.{Units}
-use Rattle.vx_rvg.specs.Views.{IsSound, unit_of}
+use Rattle.vx_rvg.specs.Views.{Core, IsSound, unit_of}
 use Rattle.vx_secondary.specs.Receivers.{Wait}
 use Rattle.vx_diskset.specs.Blames.{IsGroupDisk}
 use Rattle.vx_diskset.specs.declared.above.Above.{Above}
@@ -21,6 +21,12 @@ abbrev pub IsAboveOn : Above → Meaning → Type 0
 IsAboveOn Nothing m = ⊥
 IsAboveOn (Origin core) m = IsSound core m
 IsAboveOn (Receiver core waiting) m = IsSound core m × Wait core m.size waiting
+
+-- the replicated volume group but for its shelf
+abbrev pub core_of : Above → Option Core
+core_of Nothing = None
+core_of (Origin core) = Some core
+core_of (Receiver core waiting) = Some core
 
 -- no updates wait behind it: it takes none
 abbrev pub IsDeaf : Above → Type 0

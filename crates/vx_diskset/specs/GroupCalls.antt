@@ -6,12 +6,13 @@ use Rattle.vx_disk.specs.Shelf.{Meaning}
 use Rattle.vx_disk.specs.declared.shelf.Shelf.{Ghosts}
 use Rattle.vx_config.specs.declared.config.Config.{Config}
 use Rattle.vx_history.specs.World.{Node}
+use Rattle.vx_rvg.specs.Views.{Core}
 use Rattle.vx_watched.specs.Empty.{no_shelf}
 use Rattle.vx_watched.specs.Since.{CalledSince}
 use Rattle.vx_grouped.specs.Begins.{BeginsGroup}
 use Rattle.vx_grouped.specs.GroupSites.{site_config, site_disks}
 use Rattle.vx_grouped.specs.declared.group_site.GroupSite.{GroupSite}
-use Rattle.vx_diskset.specs.Aboves.{site_in}
+use Rattle.vx_diskset.specs.Aboves.{above_in, core_of, site_in}
 use Rattle.vx_diskset.specs.GroupSets.{cut_value}
 use Rattle.vx_diskset.specs.declared.disk_set.DiskSet.{DiskSet}
 use Rattle.vx_diskset.specs.declared.disk_set.DiskSet.TheVariants.{Bare, Spoiled, OfGroup, Over}
@@ -61,6 +62,11 @@ module _ {R : Type 0} {g : Ghosts R} where
   config_in (OfGroup s) = site_config s.site
   config_in (Over s) = site_config (site_in s)
   config_in other = None
+
+  -- the replicated volume group over a group that is up
+  abbrev pub core_in : DiskSet R g → Option Core
+  core_in (Over s) = core_of (above_in s)
+  core_in other = None
 
   -- whatever calls were made of them, those on the disks of a group are accounted for
   abbrev pub CalledOn : DiskSet R g → DiskSet R g → Type 0

@@ -1,5 +1,5 @@
 -- How a replicated volume group is made of volumes of the group of a site.
-use Rattle.std.specs.Prelude.{◌≡◌, ℕ, ◌<◌, ◌==◌, ◌||◌, false, IsFalse, List, [], Contains, Some, Result, Ok, Err}
+use Rattle.std.specs.Prelude.{◌≡◌, ℕ, ◌<◌, ◌==◌, ◌||◌, false, IsFalse, List, [], Contains, Some, None, Result, Ok, Err}
 use Rattle.vx_disk.specs.Counts.{Rose}
 use Rattle.vx_disk.specs.declared.shelf.Shelf.{Ghosts}
 use Rattle.vx_config.specs.Checks.{blocks_of}
@@ -25,9 +25,10 @@ use Rattle.vx_grouped.specs.SiteMaps.{StandMaps}
 use Rattle.vx_grouped.specs.declared.group_site.GroupSite.{GroupSite}
 use Rattle.vx_grouped.specs.declared.group_site.GroupSite.TheVariants.{Up, Down}
 use Rattle.vx_diskset.specs.Aboves.{site_in}
-use Rattle.vx_diskset.specs.Holds.{state_with}
-use Rattle.vx_diskset.specs.Noted.{AgreesStill, SiteNoted}
-use Rattle.vx_diskset.specs.Stands.{StandsAlone}
+use Rattle.vx_diskset.specs.Holds.{KeptBeside, state_with}
+use Rattle.vx_diskset.specs.GroupSets.{cut_value}
+use Rattle.vx_diskset.specs.Noted.{AgreesStill, NotedOn, SiteNoted}
+use Rattle.vx_diskset.specs.Stands.{SiteStands}
 use Rattle.vx_diskset.specs.declared.disk_set.DiskSet.{DiskSet}
 use Rattle.vx_diskset.specs.declared.disk_set.DiskSet.TheVariants.{OfGroup, Over}
 
@@ -67,9 +68,18 @@ module _ {R : Type 0} {g : Ghosts R} where
       (middle next : GroupNode) × NarrowsNote (note.dark ≡ false) units note middle × NoteWorks (note_begun units middle) next
       × ConfigGoes (LosesSome (site_disks old) (site_disks below)) middle next old below × StandMaps next below × Still (note_begun units middle) next
 
-  -- the site is up behind it, and where imports agreed they do, but where a call on a disk failed
+  -- the disks of a site that has no replicated volume group, as it is noted
+  abbrev pub PlainNoted : Node → GroupNode → DiskSet R g → Type 0
+  PlainNoted n note (OfGroup s) = NotedOn n note s.site × (cut_value s.cut ≡ note.cut)
+  PlainNoted n note other = ⊥
+
+  -- the site is up behind it, and where imports agreed they do, or a call on a disk failed
   abbrev pub StaysNone : Node → GroupSite R g → GroupSite R g → DiskSet R g → GroupNode → GroupNode → Type 0
-  StaysNone n old below new begun next = AgreesStill begun next (site_disks old) (site_disks below) × SiteNoted (with_note next n) next new
+  StaysNone n old below new begun next = AgreesStill begun next (site_disks old) (site_disks below) × PlainNoted (with_note next n) next new
+
+  -- such disks, of a site without links that is not in doubt, whatever headers were written for it
+  abbrev pub StandsUnlinked : Node → DiskSet R g → Type 0
+  StandsUnlinked n e = (beside : KeptBeside) → beside.links ≡ [] → beside.doubt ≡ None → SiteStands beside n e
 
   -- The site has it, and its data volumes hold what is noted of them, each block one value that it might have. Or a device failed, no serial was left or memory was
   -- wanted: then it has none; or its fuse ran out, and so it is behind the crash. No other refusal comes.
@@ -78,12 +88,12 @@ module _ {R : Type 0} {g : Ghosts R} where
       (middle settled : GroupNode) × NarrowsNote (note.dark ≡ false) units note middle × ((v b : ℕ) → Contains units.vols v → middle.others v b ≡ []) × NoteWorks middle settled
       × ConfigGoes (λ x y. LosesSome (site_disks old) (site_disks below) (as_replicated units x) y) middle settled old below
       × AgreesStill middle settled (site_disks old) (site_disks below)
-      × StandsAlone (rvg_made c units middle (note_gained units settled) n) new
+      × StandsUnlinked (rvg_made c units middle (note_gained units settled) n) new
       × SiteNoted (rvg_made c units middle (note_gained units settled) n) (note_gained units settled) new
   MakesRvgIs site n note units c old new below (Err (Refused (Device disk))) =
       MakesNone (StaysNone n old below new) n note units old below × Rose ((site_disks old).disk_faults disk) ((site_disks below).disk_faults disk)
   MakesRvgIs site n note units c old new below (Err (Refused IsOff)) =
-      MakesNone (λ begun next. SiteNoted (crashed (with_note next n) 0) next new) n note units old below × IsFused n.fuse
+      MakesNone (λ begun next. PlainNoted (crashed (with_note next n) 0) next new) n note units old below × IsFused n.fuse
   MakesRvgIs site n note units c old new below (Err (Refused (Limit what most))) =
       (what ≡ Numbers) × (most ≡ greatest) × MakesNone (StaysNone n old below new) n note units old below
   MakesRvgIs site n note units c old new below (Err OutOfMemory) = MakesNone (StaysNone n old below new) n note units old below

@@ -1,4 +1,7 @@
 // What is asked of the replicated volume group of a site over a disk group.
+ghost use Rattle.std.specs.Prelude.{◌≡◌, option_copied};
+ghost use Rattle.vx_diskset.specs.Aboves.{above_in, core_of, site_in};
+ghost use Rattle.vx_grouped.specs.GroupSites.{site_config};
 
 use crate::disk_set::last_in;
 use crate::room::used_in;
@@ -10,7 +13,9 @@ use vx_rvg::RvgCore;
 
 impl<R: Rack> OverSet<R> {
     /// The replicated volume group but for its shelf, where it is up.
-    pub fn core(&self) -> Option<&RvgCore> {
+    pub fn core(&self) -> Option<&RvgCore>
+        ensures { option_copied result ≡ core_of (above_in self.now) }
+    {
         match &self.site {
             OverSite::Origin(founded) => Some(&founded.core),
             OverSite::Receiver(founded) => Some(&founded.core),
@@ -19,7 +24,9 @@ impl<R: Rack> OverSet<R> {
     }
 
     /// The configuration of the group below, where it is up.
-    pub fn config(&self) -> Option<&Config> {
+    pub fn config(&self) -> Option<&Config>
+        ensures { option_copied result ≡ site_config (site_in self.now) }
+    {
         match &self.site {
             OverSite::Origin(founded) => Some(founded.laid.config()),
             OverSite::Receiver(founded) => Some(founded.laid.config()),

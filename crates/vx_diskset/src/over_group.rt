@@ -17,7 +17,7 @@ ghost use Rattle.vx_grouped.specs.SiteMaps.{DeportMapped};
 ghost use Rattle.vx_history.specs.Steps.{crashed};
 ghost use Rattle.vx_watched.specs.Since.{CalledSince};
 ghost use Rattle.vx_watched.specs.Traces.{TellsLess};
-ghost use Rattle.vx_diskset.specs.GroupCalls.{AtSite, config_in};
+ghost use Rattle.vx_diskset.specs.GroupCalls.{AtSite, CalledOn, config_in};
 ghost use Rattle.vx_diskset.specs.MakeSteps.{LoggedOn, MadeOn, NamedOn, RefusedOn, StaysWith};
 ghost use Rattle.vx_diskset.specs.Makings.{IsFirstSite, MadeOver, UpOrFell};
 ghost use Rattle.vx_diskset.specs.Works.{DoesMake, DoesRewrite};
@@ -273,6 +273,7 @@ impl<R: Rack> DiskSet<R> {
         ensures made { (n : Node) (note : GroupNode) (c : ConfigValue) → SiteNoted n note self → n.state ≡ UpState → IsFirstSite site n → config_in self ≡ Some c → c.rvg ≡ None → is_group_of c.volumes units.now ≡ true → MadeOver site n note units.now c self result.0 result.1 }
         ensures failing { SameFailing self result.0 }
         ensures fuse { FuseGoesOn self result.0 }
+        ensures since { CalledOn self result.0 }
         ensures later { Later self result.0 }
     {
         match self {

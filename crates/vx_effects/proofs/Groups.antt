@@ -1,5 +1,5 @@
 -- What the events of groups of disks change.
-use Rattle.std.proofs.Common.{◌≡◌, ◌∙◌, ℕ, ◌<◌, Bool, true, false, refl, ap}
+use Rattle.std.proofs.Common.{◌≡◌, ◌∙◌, ℕ, ◌<◌, List, Bool, true, false, refl, ap}
 use Rattle.std.specs.Prelude.{[], eqb, None, if◌then◌else◌}
 use Rattle.vx_model.specs.declared.site.SiteState.TheVariants.{Bare, Up}
 use Rattle.vx_history.proofs.Updates.{at_place}
@@ -8,9 +8,11 @@ use Rattle.vx_history.specs.Events.{crash_at, deport_at, kept_of, link_left, los
 use Rattle.vx_history.specs.Step.{done}
 use Rattle.vx_history.specs.Sound.{is_at_rest}
 use Rattle.vx_history.specs.Steps.{crashed, deported_site, group_back, group_made, group_set, group_up}
+use Rattle.vx_history.specs.Volumes.{volumes_made, volumes_set}
 use Rattle.vx_history.specs.World.{Node, World, with_node}
-use Rattle.vx_history.specs.declared.event.Event.TheVariants.{Group, Deport}
-use Rattle.vx_events.proofs.Steps.{again_step, deport_step, group_step}
+use Rattle.vx_history.specs.declared.event.Event.TheVariants.{Group, Deport, Volumes}
+use Rattle.vx_history.specs.declared.volumes.DataVolume.{DataVolume}
+use Rattle.vx_events.proofs.Steps.{again_step, data_step, deport_step, group_step}
 use Rattle.vx_model.specs.declared.site.Role.TheVariants.{Primary}
 use Rattle.vx_events.specs.Effects.{EffectAt}
 use Rattle.vx_events.specs.LinksFit.{RowFits}
@@ -35,6 +37,13 @@ module _ (d : Doubted) (s : ℕ) where
   again_effect taken below rest role volumes log =
       effect_plain d (Group s) (done (group_back w s)) s (again_step w s below rest role volumes log)
       (turns_like s w (with_node w s (group_up n)) (group_back w s) w.packets refl (λ i. refl) (λ i k. refl) (λ i. refl) refl (λ i. refl) (turns_node s w (group_up n))) (λ i. refl)
+
+  -- it gets data volumes
+  pub data_effect : (log : ℕ) (xs : List DataVolume) (taken : Bool) → s < w.sites → n.state ≡ Up → n.halted ≡ None → n.role ≡ Primary → n.volumes ≡ [] → n.log ≡ []
+      → EffectAt s d (happened d (Volumes s log xs) taken) (volumes_set log xs n) (w.links s) (w.headers s) (d.after s) w.packets (w.gathering s)
+  data_effect log xs taken below up running role volumes none =
+      effect_plain d (Volumes s log xs) (done (volumes_made w s log xs)) s (data_step w s log xs below up running role volumes none)
+      (turns_like s w (with_node w s (volumes_set log xs n)) (volumes_made w s log xs) w.packets refl (λ i. refl) (λ i k. refl) (λ i. refl) refl (λ i. refl) (turns_node s w (volumes_set log xs n))) (λ i. refl)
 
   abbrev k : ℕ
   k = kept_of n 0

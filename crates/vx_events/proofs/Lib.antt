@@ -15,6 +15,7 @@ pub mod RvgStays
 pub mod RvgAgain
 pub mod RvgRows
 pub mod RvgTests
+pub mod RvgUnits
 pub mod RvgShorts
 pub mod RvgQuiet
 pub mod Keeping

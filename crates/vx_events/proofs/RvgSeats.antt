@@ -48,7 +48,7 @@ seats_from w name j k (suc n) =
     ∙ ap (λ (o : Option ℕ). cond (bytes_eq (w.nodes k).name name) (Some j) o) (seats_from w name (j + 1) (k + 1) n)
 
 -- the number of the site of a name
-seats_full : (w : World) (name : List ℕ) → seat_of (facts_full w) name ≡ seat_of (facts_of w) name
+pub seats_full : (w : World) (name : List ℕ) → seat_of (facts_full w) name ≡ seat_of (facts_of w) name
 seats_full w name =
     position_from-zero (λ (site : SiteFacts). bytes_eq site.name name) (facts_full w) ∙ seats_from w name 0 0 w.sites
     ∙ sym (position_from-zero (λ (site : SiteFacts). bytes_eq site.name name) (facts_of w))

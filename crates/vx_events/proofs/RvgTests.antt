@@ -5,6 +5,7 @@ use Rattle.std.specs.Prelude.{◌&&◌, if◌then◌else◌, is_some, not, slice
 use Rattle.std.specs.Str.{bytes_eq}
 use Rattle.vx_model.specs.Sites.{is_up}
 use Rattle.vx_model.specs.declared.no.No.{No}
+use Rattle.vx_model.specs.declared.no.No.TheVariants.{Size}
 use Rattle.vx_model.specs.declared.site.SiteState.{SiteState}
 use Rattle.vx_model.specs.declared.site.SiteState.TheVariants.{Bare, Up, Deported, Down}
 use Rattle.vx_model.specs.declared.units.Units.{Units}
@@ -17,11 +18,11 @@ use Rattle.vx_config.specs.declared.config.Config.{Config}
 use Rattle.vx_config.specs.declared.entry.VolumeEntry.{VolumeEntry}
 use Rattle.vx_order.specs.Calls.{call_unknown}
 use Rattle.vx_order.specs.Grouping.{group_role}
-use Rattle.vx_order.specs.Replicating.{group_taken, group_unknown, names_unknown}
-use Rattle.vx_order.specs.Shapes.{line_role, line_unknown, taken}
+use Rattle.vx_order.specs.Replicating.{fits_group, group_taken, group_unknown, names_unknown}
+use Rattle.vx_order.specs.Shapes.{line_role, line_unknown, taken, wrong_size}
 use Rattle.vx_order.specs.Sites.{rvg_of, volume_of}
 use Rattle.vx_order.specs.Subject.{first_name}
-use Rattle.vx_order.specs.Tests.{before}
+use Rattle.vx_order.specs.Tests.{before, when}
 use Rattle.vx_order.specs.declared.facts.RvgFacts.{RvgFacts}
 use Rattle.vx_order.specs.declared.facts.SiteFacts.{SiteFacts}
 use Rattle.vx_order.specs.declared.facts.VolumeFacts.{VolumeFacts}
@@ -49,11 +50,11 @@ use Rattle.vx_events.specs.declared.said.Said.TheVariants.{Done}
 
 -- ---- names
 
-both_none : (t o : Option No) → before t o ≡ None → (t ≡ None) × (o ≡ None)
+pub both_none : (t o : Option No) → before t o ≡ None → (t ≡ None) × (o ≡ None)
 both_none None o e = (refl, e)
 both_none (Some why) o e = absurd (cc)
 
-known_name : (o : Option VolumeFacts) (name : List ℕ) → call_unknown o name ≡ None → (v : VolumeFacts) × (o ≡ Some v)
+pub known_name : (o : Option VolumeFacts) (name : List ℕ) → call_unknown o name ≡ None → (v : VolumeFacts) × (o ≡ Some v)
 known_name None name e = absurd (cc)
 known_name (Some v) name e = (v, refl)
 
@@ -95,6 +96,7 @@ record PassesRvg (f : SiteFacts) (srl maps : List ℕ) (volumes : List (List ℕ
   role : (is_up f.state && f.grouped) ≡ true
   free : is_some (rvg_of (Some f)) ≡ false
   known : group_unknown (Some f) srl maps volumes ≡ None
+  size : fits_group (Some f) srl maps volumes ≡ true
 
 -- a site that is up shows its replicated volume group
 shows : (t : SiteState) (n : Node) → is_up t ≡ true → is_some (let o : Option RvgFacts = (if is_up t then group_by t n else None) in o) ≡ true
@@ -109,22 +111,33 @@ never e = absurd (cc)
 -- what no refusal tells of the site and the volumes that it names
 pub record RvgMay (w : World) (s : ℕ) (srl maps : List ℕ) (volumes : List (List ℕ)) : Type 0 where
   pub over : is_over_group (w.nodes s) ≡ true
+  pub up : is_up (w.nodes s).state ≡ true
+  pub alone : is_over_rvg (w.nodes s) ≡ false
+  pub known : group_unknown (Some (fact_of_group (w.nodes s) (note_at (w.nodes s)))) srl maps volumes ≡ None
+  pub fits : fits_group (Some (fact_of_group (w.nodes s) (note_at (w.nodes s)))) srl maps volumes ≡ true
   pub has : HasUnits (entries_noted (note_at (w.nodes s))) (units_named (note_at (w.nodes s)) srl maps volumes)
 
 module _ (w : World) (s : ℕ) (srl maps : List ℕ) (volumes : List (List ℕ)) where
   abbrev n : Node
   n = w.nodes s
 
-  by_kind : (r g : Bool) → is_over_group (w.nodes s) ≡ g
+  by_kind : (r g : Bool) → is_over_rvg (w.nodes s) ≡ r → is_over_group (w.nodes s) ≡ g
       → PassesRvg (if r then over_facts (note_at (w.nodes s)) (linked_fact w s) else (if g then fact_of_group (w.nodes s) (note_at (w.nodes s)) else linked_fact w s)) srl maps volumes
       → RvgMay w s srl maps volumes
-  by_kind true g is p = absurd (never (sym (shows n.state n (and_left (is_up n.state) true p.role)) ∙ p.free))
-  by_kind false true is p = record { over = is; has = units_have n (and_left (is_up n.state) true p.role) srl maps volumes p.known }
-  by_kind false false is p = absurd (never (sym (and_right (is_up n.state) false p.role)))
+  by_kind true g alone is p = absurd (never (sym (shows n.state n (and_left (is_up n.state) true p.role)) ∙ p.free))
+  by_kind false true alone is p = record {
+    over = is;
+    up = and_left (is_up n.state) true p.role;
+    alone = alone;
+    known = p.known;
+    fits = p.size;
+    has = units_have n (and_left (is_up n.state) true p.role) srl maps volumes p.known;
+  }
+  by_kind false false alone is p = absurd (never (sym (and_right (is_up n.state) false p.role)))
 
 pub rvg_may : (w : World) (files : Bool) (site srl maps : List ℕ) (volumes : List (List ℕ)) → refused_full w files (Rvg site srl maps volumes) ≡ None
     → RvgMay w (site_number w site) srl maps volumes
-unfolding first_name line_role line_unknown taken
+unfolding first_name line_role line_unknown taken wrong_size
 rvg_may w files site srl maps volumes e =
     let s : ℕ = site_number w site in
     let p = passes (facts_full w) files (Rvg site srl maps volumes) e in
@@ -133,11 +146,13 @@ rvg_may w files site srl maps volumes e =
     let role : group_role (Some (fact_full w s)) ≡ None = subst (λ (o : Option SiteFacts). group_role o ≡ None) seat.found p.role in
     let known : group_unknown (Some (fact_full w s)) srl maps volumes ≡ None = subst (λ (o : Option SiteFacts). group_unknown o srl maps volumes ≡ None) seat.found p.other in
     let free : group_taken (rvg_of (Some (fact_full w s))) ≡ None = subst (λ (o : Option SiteFacts). group_taken (rvg_of o) ≡ None) seat.found p.free in
-    by_kind w s srl maps volumes (is_over_rvg (w.nodes s)) (is_over_group (w.nodes s)) refl
+    let size : when (not (fits_group (Some (fact_full w s)) srl maps volumes)) Size ≡ None = subst (λ (o : Option SiteFacts). when (not (fits_group o srl maps volumes)) Size ≡ None) seat.found p.size in
+    by_kind w s srl maps volumes (is_over_rvg (w.nodes s)) (is_over_group (w.nodes s)) refl refl
     (record {
       role = not_false (is_up (fact_full w s).state && (fact_full w s).grouped) (when_none (not (is_up (fact_full w s).state && (fact_full w s).grouped)) _ role);
       free = when_none (is_some (rvg_of (Some (fact_full w s)))) _ free;
       known = known;
+      size = not_false (fits_group (Some (fact_full w s)) srl maps volumes) (when_none (not (fits_group (Some (fact_full w s)) srl maps volumes)) Size size);
     })
 
 -- ---- the line that is done

@@ -100,7 +100,7 @@ module _ {R : Type 0} {g : Ghosts R} where
     still : SiteStands (beside_of d s) n after → new.facts.items ≡ old.facts.items → StandsFor d new
     still here facts =
         stands_still d d old new s before after stands site.below changed
-        (comes_same d s after stands.links here (fails_as n refl) (fused_none n after unfused) (role_off (beside_of d s) n n after here (λ up. absurd (never_up (sym site.bare ∙ up))))) refl facts
+        (comes_same d s after stands.links here (fails_as n refl) (fused_none n after unfused) (role_off (beside_of d s) n n after here (λ up. absurd (never_up (sym site.bare ∙ up))))) (λ was. was) refl facts
 
     -- nothing was done
     pub bare_stays : SiteStands (beside_of d s) n after → new.facts.items ≡ old.facts.items → StaysFor d old new
@@ -214,7 +214,7 @@ module _ {R : Type 0} {g : Ghosts R} where
           comes =
               arrives_noted d h s (group_set s n) note (d.world.gathering s)
               (arrives_made d d s n (d.world.gathering s)
-              (arrives_none d s stands.links (bare_sure d s site.bare stands.links) (blank_links d s (stands.links.bare s site.bare))) site.below site.bare)
+              (arrives_none d s stands.links (bare_sure d s site.bare stands.links) (blank_links d s (stands.links.bare s site.bare))) site.below site.bare site.is)
 
           follows : Follows d e old new
           follows =

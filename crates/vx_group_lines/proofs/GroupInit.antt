@@ -31,7 +31,7 @@ use Rattle.vx_grouped.specs.GroupSites.{UpNoted, site_disks}
 use Rattle.vx_grouped.specs.declared.group_site.GroupSite.{GroupSite}
 use Rattle.vx_grouped.specs.declared.group_site.GroupSite.TheVariants.{Up as SiteUp, Deported as SiteAway, Down as SiteDown, Marked, Gone as SiteGone}
 use Rattle.vx_diskset.specs.Asked.{FailsAs, SameFailing}
-use Rattle.vx_diskset.specs.GroupCalls.{AtSite, InitIs, bare_disks, cut_in}
+use Rattle.vx_diskset.specs.GroupCalls.{AtPlain, InitIs, bare_disks, cut_in}
 use Rattle.vx_diskset.specs.GroupSets.{cut_value}
 use Rattle.vx_diskset.specs.Holds.{beside_of}
 use Rattle.vx_diskset.specs.Stands.{RoleIs, SiteStands, faults_at}
@@ -204,18 +204,18 @@ module _ {R : Type 0} {g : Ghosts R} where
         (subst (λ (x : DiskSet R g). Changed old new s before x) to.is changed)
         (arrives_noted d h s (group_set s n) note (d.world.gathering s)
         (arrives_made d d s n (d.world.gathering s)
-        (arrives_none d s stands.links (bare_sure d s site.at.bare stands.links) (blank_links d s (stands.links.bare s site.at.bare))) site.at.below site.at.bare))
+        (arrives_none d s stands.links (bare_sure d s site.at.bare stands.links) (blank_links d s (stands.links.bare s site.at.bare))) site.at.below site.at.bare site.at.is))
         (up_notes m note to.set.site to.holds.2).0
         (up_set m note to.set (record { few = site.at.few; some = site.at.some }) to.holds.2 to.holds.5 cut to.holds.1.cut) fails (fused_none m (OfGroup to.set) unfused)
         (made_fact d.world s note site.at.bare first.1) facts load)
         rose_here
 
     -- it is bare as it was
-    still : (Q : GroupSite R g → Type 0) → AtSite Q after → SiteStands (beside_of d s) n after → new.facts ≡ old.facts → StandsFor d new
+    still : (Q : GroupSite R g → Type 0) → AtPlain Q after → SiteStands (beside_of d s) n after → new.facts ≡ old.facts → StandsFor d new
     still Q at here facts =
         let to : SetThen Q after = set_then Q after at in
         stands_still d d old new s before after stands site.at.below changed
-        (comes_same d s after stands.links here fails_as (fused_none n after unfused) (subst (λ (x : DiskSet R g). RoleIs n x) (sym to.is) tt)) refl (ap (λ fs. fs.items) facts)
+        (comes_same d s after stands.links here fails_as (fused_none n after unfused) (subst (λ (x : DiskSet R g). RoleIs n x) (sym to.is) tt)) (λ was. was) refl (ap (λ fs. fs.items) facts)
 
     pub init_stops : (stop : Stop) (said : Result Said MemoryError) → said ≡ reply_to stop → InitIs s n before after (Err stop) → SiteStands (beside_of d s) n after → new.facts ≡ old.facts → LeadsOverIs d (GroupInit name) old new said
     init_stops stop said says begun here facts = subst (λ (r : Result Said MemoryError). LeadsOverIs d (GroupInit name) old new r) (sym says) (by stop begun)

@@ -34,7 +34,7 @@ use Rattle.vx_yard.proofs.Carrying.{Feeds, LetsGo, SameLoad, carries_at, carries
 use Rattle.vx_yard.proofs.OneSite.{Changed, Comes, stands_at, told_by}
 use Rattle.vx_yard.proofs.OverGroup.{noted_over}
 use Rattle.vx_yard.specs.Carries.{Carries}
-use Rattle.vx_yard.specs.Standing.{LeadsOver, StandsFor}
+use Rattle.vx_yard.specs.Standing.{LeadsOver, StandsFor, BeginsFirst}
 use Rattle.vx_yard.specs.Stands.{RoseAll}
 use Rattle.vx_yard.specs.Yards.{IsTold, count_of}
 use Rattle.vx_yard.specs.declared.yard.Yard.{Yard}
@@ -60,7 +60,7 @@ fact_seen e s m next f node noted is =
     let over : is_over_group (e.world.nodes s) ≡ true = ap (λ (x : Node). is_over_group x) node ∙ noted_over m next noted in
     is ∙ ap (λ (k : GroupNode). fact_of_group m k) (note_is m next noted) ∙ ap (λ (x : Node). fact_of_group x (note_at x)) (sym node) ∙ sym (fact_grouped e.world s over)
 
-feeds_nobody : (n m : Node) → m.role ≡ Primary → Feeds n m
+pub feeds_nobody : (n m : Node) → m.role ≡ Primary → Feeds n m
 feeds_nobody n m role = feeds_none n m (λ up receives. let e : true ≡ false = sym (ap (λ (r : Role). is_origin r) role) ∙ receives in absurd (cc))
 
 -- how large the disks of a site are
@@ -184,6 +184,7 @@ module _ {R : Type 0} {g : Ghosts R} where
       → f ≡ fact_of_group m next → new.facts.items ≡ slice_set old.facts.items s f → SameLoad old new → Follows d e old new
   follows_on d e s m next f old new before set stands below changed arrives noted here failing fuse fact facts load = record {
     stands = stands_at d e old new s f before (OfGroup set) stands below changed (group_comes d e s m (d.world.gathering s) set arrives here failing fuse)
+        (λ was. subst (λ (x : Node). BeginsFirst s x) (sym arrives.node) (arrives.first was))
         (fact_seen e s m next f arrives.node noted fact) facts;
     carries = λ carries.
         carries_at s d e old new carries load (record { site = arrives.site; packets = arrives.packets; gathering = arrives.gathering })
@@ -197,6 +198,7 @@ module _ {R : Type 0} {g : Ghosts R} where
       → f ≡ fact_of_group m next → new.facts.items ≡ slice_set old.facts.items s f → LetsGo old new s → Follows d e old new
   follows_off d e s m next f old new before set stands below changed arrives off noted here failing fuse fact facts lets = record {
     stands = stands_at d e old new s f before (OfGroup set) stands below changed (group_comes d e s m None set arrives here failing fuse)
+        (λ was. subst (λ (x : Node). BeginsFirst s x) (sym arrives.node) (arrives.first was))
         (fact_seen e s m next f arrives.node noted fact) facts;
     carries = λ carries.
         carries_let s d e old new lets (omega (arith, below, stands.disk_sets.few)) arrives.site arrives.packets arrives.gathering

@@ -53,6 +53,7 @@ use Rattle.vx_group_lines.proofs.Arriving.{Arrives, IsStill, arrives_none, arriv
 use Rattle.vx_group_lines.proofs.GroupAt.{GroupAt, group_at, note_is}
 use Rattle.vx_group_lines.proofs.GroupLeads.{Sets, follows_on, leads_by}
 use Rattle.vx_yard.proofs.OverGroup.{set_notes}
+use Rattle.vx_yard.proofs.FirstSites.{begins_like}
 
 -- ---- a note that stays
 
@@ -167,7 +168,7 @@ module _ {R : Type 0} {g : Ghosts R} where
       (GroupDone (note_at n) tt (refl, refl, refl)
       (record { world = sym (ap (λ (v : World). made_fail v s disk on) (noting_same d.world s (note_at n) (group_noted_at d old name s before at))); after = λ i. refl }))
       (stands_failing (beside_of d s) n (updated n.failing disk on) after (keeps (beside_of d s) n (stands.disk_sets.sites s before at.below changed.there))) at.over
-      (record { state = refl; halted = refl; role = refl; rests = record { quiet = λ q. q; rests = λ q. q } }) refl
+      (record { state = refl; halted = refl; role = refl; rests = record { quiet = λ q. q; rests = λ q. q }; first = λ site was. begins_like site n m (λ bare. bare) refl refl refl refl was }) refl
       (none_as n m refl refl refl refl refl (none_at d old name s before at)) refl
       (record { told = λ x there u fails. set_on disk on (disks_told before) (disks_told after) n.failing (stands.failing s before at.below changed.there).told sets x there u fails })
       (fused_set n m before after disk on refl sets (stands.fuses s before at.below changed.there)) facts load
@@ -194,7 +195,7 @@ module _ {R : Type 0} {g : Ghosts R} where
       still_leads d old new name (Fuse name calls pick) s before after m stands at changed (place_at d old name s stands seat).number
       (GroupDone (note_at n) tt (refl, refl, refl)
       (record { world = sym (ap (λ (v : World). fused v s calls) (noting_same d.world s (note_at n) (group_noted_at d old name s before at))); after = λ i. refl }))
-      (fuses (beside_of d s) n there up) at.over (record { state = refl; halted = refl; role = refl; rests = record { quiet = λ q. q; rests = λ q. q } }) refl
+      (fuses (beside_of d s) n there up) at.over (record { state = refl; halted = refl; role = refl; rests = record { quiet = λ q. q; rests = λ q. q }; first = λ site was. begins_like site n m (λ bare. bare) refl refl refl refl was }) refl
       (none_as n m refl refl refl refl refl (none_at d old name s before at)) refl
       (fails_then n m before after refl (fuse_keeps calls pick before after sets) (stands.failing s before at.below changed.there))
       (fused_on (λ o x. SameBlocks o x × (x.fuse ≡ Some (calls, pick))) n m (FuseSet calls) before after refl

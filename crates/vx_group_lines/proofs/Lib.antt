@@ -9,6 +9,15 @@ pub mod Losing
 pub mod GroupStatus
 pub mod GroupCalls
 pub mod Changing
+pub mod RvgNotes
+pub mod RvgAt
+pub mod RvgCalls
+pub mod RvgFacts
+pub mod RvgStanding
+pub mod RvgGained
+pub mod RvgLeads
+pub mod RvgStays
+pub mod RvgRefused
 pub mod GroupPlain
 pub mod GroupWrite
 pub mod GroupRead

@@ -8,13 +8,21 @@ use Rattle.vx_model.specs.declared.no.No.{No as Refusal}
 use Rattle.vx_model.specs.declared.errors.Stop.TheVariants.{No as StopsBy, OutOfMemory as MemoryStop}
 use Rattle.vx_order.specs.declared.facts.SiteFacts.{SiteFacts}
 use Rattle.vx_grouped.specs.GroupSites.{site_config}
-use Rattle.vx_diskset.specs.GroupCalls.{AtSite}
+use Rattle.vx_diskset.specs.GroupCalls.{AtSite, core_in}
 use Rattle.vx_diskset.specs.declared.disk_set.DiskSet.{DiskSet}
 use Rattle.vx_events.specs.declared.said.Said.{Said}
 use Rattle.vx_events.specs.declared.said.Said.TheVariants.{Refused}
+use Rattle.vx_events.specs.RvgViews.{kinds_from}
+use Rattle.vx_rvg.specs.Views.{Core, last_of}
+use Rattle.vx_yard.specs.Changes.{up_facts}
+use Rattle.vx_yard.specs.GroupFacts.{group_up_facts}
 use Rattle.vx_yard.specs.Loads.{LetGoBy}
 use Rattle.vx_yard.specs.Writes.{noted_facts}
 use Rattle.vx_yard.specs.declared.yard.Yard.{Yard}
+
+-- what the tests see of a site that comes up as a group of this configuration, with this replicated volume group over it
+abbrev pub made_facts : Core → Config → SiteFacts → SiteFacts
+made_facts core c f = up_facts core.log.header.state (last_of core) core.log.ring (group_up_facts (kinds_from c.rvg 0 c.volumes) f)
 
 module _ {R : Type 0} {g : Ghosts R} where
   -- all but what the tests see of its sites, and what these put together
@@ -41,6 +49,18 @@ module _ {R : Type 0} {g : Ghosts R} where
     pub disk_set : DiskSet R g
     pub there : slice_get y.disk_sets.items s ≡ Some disk_set
     pub is : AtSite (λ site. site_config site ≡ Some c) disk_set
+
+  -- this replicated volume group stands over it
+  pub record HasCore (s : ℕ) (core : Core) (y : Yard R g) : Type 0 where
+    pub disk_set : DiskSet R g
+    pub there : slice_get y.disk_sets.items s ≡ Some disk_set
+    pub is : core_in disk_set ≡ Some core
+
+  -- and none does
+  pub record HasNoCore (s : ℕ) (y : Yard R g) : Type 0 where
+    pub disk_set : DiskSet R g
+    pub there : slice_get y.disk_sets.items s ≡ Some disk_set
+    pub is : core_in disk_set ≡ None
 
   -- and it is not up
   pub record HasNoConfig (s : ℕ) (y : Yard R g) : Type 0 where

@@ -1,13 +1,16 @@
 // What the tests see of a site behind a call on its group, and the reply.
-ghost use Rattle.std.specs.Prelude.{◌≡◌, ◌<◌, [], length, map, option_copied, slice_get, slice_set, Some};
+ghost use Rattle.std.specs.Prelude.{◌≡◌, ◌<◌, [], length, map, option_copied, slice_get, slice_set, None, Some};
 ghost use Rattle.vx_config.specs.declared.config.Config.{Config as ConfigValue};
-ghost use Rattle.vx_events.specs.GroupViews.{plain_fact, volumes_of};
+ghost use Rattle.vx_events.specs.GroupViews.{plain_fact};
+ghost use Rattle.vx_events.specs.RvgViews.{kinds_of};
 ghost use Rattle.vx_events.specs.declared.said.Said.TheVariants.{Refused};
 ghost use Rattle.vx_order.specs.declared.facts.SiteFacts.{SiteFacts as Facts};
+ghost use Rattle.vx_rvg.specs.Views.{Core, last_of};
+ghost use Rattle.vx_yard.specs.Changes.{up_facts};
 ghost use Rattle.vx_yard.specs.GroupFacts.{group_up_facts};
 ghost use Rattle.vx_yard.specs.Loads.{LetGoBy};
 ghost use Rattle.vx_yard.specs.Writes.{noted_facts};
-ghost use Rattle.vx_group_lines.specs.Noting.{HasConfig, KeepsRest, reply_noted};
+ghost use Rattle.vx_group_lines.specs.Noting.{HasConfig, HasCore, HasNoCore, KeepsRest, made_facts, reply_noted};
 
 use std::alloc::Global;
 use vx_config::Config;
@@ -51,10 +54,10 @@ pub(crate) fn group_stopped<R: Rack>(
     }
 }
 
-// The volumes of a configuration as the tests see them; none where there is no configuration.
+// The volumes of a configuration as the tests see them, by what each is to its replicated volume group; none where there is no configuration.
 fn table_of(config: Option<&Config>, room: VolumeRoom) -> VolumeTable
     requires empty { room ≡ [] }
-    ensures { result ≡ map plain_fact (volumes_of (option_copied config.entry)) }
+    ensures { result ≡ kinds_of (option_copied config.entry) }
 {
     match config {
         Some(config) => match &config.rvg {
@@ -65,13 +68,15 @@ fn table_of(config: Option<&Config>, room: VolumeRoom) -> VolumeTable
     }
 }
 
-/// The tests see the volumes of a group that is up.
+/// The tests see the volumes of a group that is up, and the replicated volume group over it, if it has one.
 pub(crate) fn note_up<R: Rack>(yard: &mut Yard<R>, site: usize, room: VolumeRoom)
     requires facts { site < length yard.old.facts.items }
     requires disk_set { site < length yard.old.disk_sets.items }
     requires empty { room ≡ [] }
-    ensures facts { (f : Facts) (c : ConfigValue) → slice_get yard.old.facts.items site ≡ Some f → HasConfig site c yard.old
+    ensures facts { (f : Facts) (c : ConfigValue) → slice_get yard.old.facts.items site ≡ Some f → HasConfig site c yard.old → c.rvg ≡ None → HasNoCore site yard.old
         → yard.new.facts.items ≡ slice_set yard.old.facts.items site (group_up_facts (map plain_fact c.volumes) f) }
+    ensures made { (f : Facts) (c : ConfigValue) (core : Core) → slice_get yard.old.facts.items site ≡ Some f → HasConfig site c yard.old → HasCore site core yard.old
+        → yard.new.facts.items ≡ slice_set yard.old.facts.items site (made_facts core c f) }
     ensures many { length yard.new.facts.items ≡ length yard.old.facts.items }
     ensures assemblies { yard.new.assemblies ≡ yard.old.assemblies }
     ensures same { KeepsRest yard.old yard.new }
@@ -82,7 +87,16 @@ pub(crate) fn note_up<R: Rack>(yard: &mut Yard<R>, site: usize, room: VolumeRoom
 }
 
 // The tests see the replicated volume group of a site that has one over its group.
-fn note_rvg<R: Rack>(yard: &mut Yard<R>, site: usize) {
+fn note_rvg<R: Rack>(yard: &mut Yard<R>, site: usize)
+    requires facts { site < length yard.old.facts.items }
+    requires disk_set { site < length yard.old.disk_sets.items }
+    ensures none { HasNoCore site yard.old → yard.new.facts.items ≡ yard.old.facts.items }
+    ensures some { (f : Facts) (core : Core) → slice_get yard.old.facts.items site ≡ Some f → HasCore site core yard.old
+        → yard.new.facts.items ≡ slice_set yard.old.facts.items site (up_facts core.log.header.state (last_of core) core.log.ring f) }
+    ensures many { length yard.new.facts.items ≡ length yard.old.facts.items }
+    ensures assemblies { yard.new.assemblies ≡ yard.old.assemblies }
+    ensures same { KeepsRest yard.old yard.new }
+{
     match &yard.disk_sets[site] {
         DiskSet::Over(over) => match over.core() {
             Some(core) => come_up(

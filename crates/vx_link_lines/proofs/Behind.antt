@@ -86,7 +86,7 @@ module _ {R : Type 0} {g : Ghosts R} where
       subst (λ (x : Result Said OutOfMemory). LeadsIs d line old new x) (sym is) (record {
         stands = stands_still d d old new t before after stands below changed
             (comes_same d t after stands.links (on (beside_of d t) n (stands.disk_sets.sites t before below changed.there)) (fails_then n n before after refl (alone_keeps before after alone) (stands.failing t before below changed.there))
-            (fused_on Untouched n n n.fuse before after refl (λ a b same left. subst (λ (z : Option (ℕ × ℕ)). LeftAs n.fuse z) (sym same.fuse) left) alone.told (stands.fuses t before below changed.there)) role) refl facts;
+            (fused_on Untouched n n n.fuse before after refl (λ a b same left. subst (λ (z : Option (ℕ × ℕ)). LeftAs n.fuse z) (sym same.fuse) left) alone.told (stands.fuses t before below changed.there)) role) (λ first. first) refl facts;
         carries = carries_same d old new load told;
         rose = rose_still old new t before after changed.there changed.later changed.disk_sets;
       })

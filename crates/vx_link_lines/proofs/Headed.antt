@@ -42,7 +42,7 @@ use Rattle.vx_model.specs.Sites.{is_origin}
 use Rattle.vx_yard.specs.Carries.{Carries}
 use Rattle.vx_yard.specs.Changes.{halted_facts}
 use Rattle.vx_link_lines.specs.Headed.{CutFor, FullFor, HeadedIs, NextFor, NotesAt, behind, noted_by}
-use Rattle.vx_yard.specs.Standing.{IsSameSite, StandsFor}
+use Rattle.vx_yard.specs.Standing.{IsSameSite, StandsFor, BeginsFirst}
 use Rattle.vx_yard.specs.Writes.{noted_facts}
 use Rattle.vx_yard.specs.Yards.{IsTold}
 use Rattle.vx_yard.specs.declared.yard.Yard.{Yard}
@@ -60,7 +60,7 @@ use Rattle.vx_link_lines.proofs.HeadedWorlds as worlds
 use Rattle.vx_link_lines.proofs.HeadedWorlds.{stopped_noted}
 use Rattle.vx_yard.proofs.Lists.{get-set_same, set_same}
 use Rattle.vx_yard.proofs.OneSite.{Changed, role_off, rose_at, told_by}
-use Rattle.vx_yard.proofs.OverGroup.{none_over}
+use Rattle.vx_yard.proofs.OverGroup.{none_over, begins_apart}
 use Rattle.vx_yard.proofs.RawSites.{raw_site, raw_told}
 use Rattle.vx_link_lines.proofs.Turned.{stands_turned}
 
@@ -139,6 +139,9 @@ module _ {R : Type 0} {g : Ghosts R} (note : (ℕ → Node) → ℕ → Node) (s
               fuse = subst (λ (k : Node). FusedAs k after) there (fuse_still (worked m) Done (ap burned h.like.fuse) (λ x y burns. burns) calls);
               role = subst (λ (k : Node). RoleIs k after) there (role_like m (worked m) after refl kind);
             })
+            (λ _. subst (λ (k : Node). BeginsFirst s k) there
+            (begins_apart s (record { links = ls; headers = d.world.headers s + 1; doubt = None }) (worked m) after
+            (subst (λ (k : Node). SiteStands (record { links = ls; headers = d.world.headers s + 1; doubt = None }) k after) (worked_twice m) is) (over_body n m h.like ∙ none_over n h.none)))
             (facts ∙ sym (notes.shows (behind d e).world))
             (λ a is. absurd (never_some (sym (w.is.after ∙ h.sure) ∙ is)));
         carries = carries;
@@ -176,6 +179,9 @@ module _ {R : Type 0} {g : Ghosts R} (note : (ℕ → Node) → ℕ → Node) (s
               fuse = subst (λ (k : Node). FusedAs k after) there (fuse_still (stopped n disk) (Refused (Device disk)) refl (λ x y burns. burns) calls);
               role = subst (λ (k : Node). RoleIs k after) there (role_like n (stopped n disk) after refl kind);
             })
+            (λ _. subst (λ (k : Node). BeginsFirst s k) there
+            (begins_apart s (in_doubt (beside_of d s) (worked m) ls disk) (stopped n disk) after
+            (subst (λ (k : Node). SiteStands (in_doubt (beside_of d s) (worked m) ls disk) k after) (stopped_noted n disk) is.0) (none_over n h.none)))
             (noted_there (Device disk) x x' at noted facts
             ∙ ap (λ (o : Option RvgFacts). slice_set (facts_over start.world) s (let y : SiteFacts = record (linked_fact start.world s) { rvg = o } in y)) (group_halted disk (linked_fact start.world s).rvg)
             ∙ ap (slice_set (facts_over start.world) s)
@@ -210,6 +216,7 @@ module _ {R : Type 0} {g : Ghosts R} (note : (ℕ → Node) → ℕ → Node) (s
                 fuse = subst (λ (k : Node). FusedAs k after) (sym here) (fuse_still (worked n) (Refused (Limit what most)) refl (λ x y burns. burns) calls);
                 role = role_like n (start.world.nodes s) after (ap (λ (k : Node). is_origin k.role) here) kind;
               })
+              (λ first. first)
               (facts ∙ ap (slice_set old.facts.items s) noted ∙ set_same old.facts.items s x at ∙ stands.facts)
               (λ a some. absurd (never_some (sym h.sure ∙ some)));
           carries = carries_same start old new load told_then;
@@ -248,6 +255,8 @@ module _ {R : Type 0} {g : Ghosts R} (note : (ℕ → Node) → ℕ → Node) (s
                     fuse = subst (λ (q : Node). FusedAs q after) there (fused_none (crashed k count) after refl);
                     role = role_off (record { links = ks; headers = d.world.headers s + 1; doubt = None }) (crashed k count) (to.world.nodes s) after stood_there (λ is_up. down_up is_up);
                   })
+                  (λ _. subst (λ (q : Node). BeginsFirst s q) there
+                  (begins_apart s (record { links = ks; headers = d.world.headers s + 1; doubt = None }) (crashed k count) after stood_there alone))
                   (noted_there Off x x' at noted facts
                   ∙ ap (λ (q : Node). slice_set (facts_over start.world) s (down_fact (fact_of q (d.world.links s) d.world.sites))) here
                   ∙ ap (slice_set (facts_over start.world) s) (sym shown)

@@ -60,7 +60,7 @@ use Rattle.vx_yard.specs.Carries.{Carries}
 use Rattle.vx_yard.specs.Happenings.{reply_of}
 use Rattle.vx_link_lines.specs.Headed.{NextFor, behind, noted_by}
 use Rattle.vx_yard.specs.Replies.{refusal_in}
-use Rattle.vx_yard.specs.Standing.{Leads, StandsFor, StaysFor}
+use Rattle.vx_yard.specs.Standing.{Leads, StandsFor, StaysFor, BeginsFirst}
 use Rattle.vx_yard.specs.Writes.{noted_facts}
 use Rattle.vx_yard.specs.Yards.{IsTold, count_of}
 use Rattle.vx_yard.specs.declared.yard.Yard.{Yard}
@@ -289,6 +289,7 @@ module _ {R : Type 0} {g : Ghosts R} where
                       (stands.fuses s before below changed.there));
                   role = role_like n (to.world.nodes s) after (ap (λ (k : Node). is_origin k.role) (sym there)) role;
                 })
+                (λ first. subst (λ (k : Node). BeginsFirst s k) ((notes_one s).here d.world.nodes ∙ there) first)
                 (h.facts ∙ sym ((notes_one s).shows (behind d event).world))
                 (λ b is. absurd (never_some (sym (w.is.after ∙ sure) ∙ is)));
             carries = carried f;

@@ -23,12 +23,13 @@ use Rattle.vx_diskset.proofs.Roles.{role_like}
 use Rattle.vx_model.specs.Sites.{is_origin}
 use Rattle.vx_yard.specs.Carries.{Carries}
 use Rattle.vx_link_lines.specs.Headed.{NotesAt, noted_by}
-use Rattle.vx_yard.specs.Standing.{IsSameSite, StandsFor}
+use Rattle.vx_yard.specs.Standing.{IsSameSite, StandsFor, BeginsFirst}
 use Rattle.vx_yard.specs.declared.yard.Yard.{Yard}
 use Rattle.vx_yard.proofs.Carrying.{Feeds, carries_on, feeds_like, feeds_same}
 use Rattle.vx_yard.proofs.Lists.{set_same}
 use Rattle.vx_yard.proofs.OneSite.{Changed}
 use Rattle.vx_link_lines.proofs.Turned.{stands_turned}
+use Rattle.vx_yard.proofs.FirstSites.{begins_like}
 
 -- the note of one site
 abbrev pub note_one : ℕ → (ℕ → Node) → ℕ → Node
@@ -84,6 +85,7 @@ module _ {R : Type 0} {g : Ghosts R} where
         fuse = subst (λ (n : Node). FusedAs n e) (sym here) (record { told = λ x at. left_burned (d.world.nodes s).fuse x.fuse (lit.told x at) });
         role = role_like (d.world.nodes s) (to.world.nodes s) e (ap (λ (n : Node). is_origin n.role) here) (stands.roles.each s e below there);
       })
+      (λ first. subst (λ (n : Node). BeginsFirst s n) (sym here) (begins_like s (d.world.nodes s) (worked (d.world.nodes s)) (λ bare. bare) refl refl refl refl first))
       (stands.facts ∙ sym (worked_shows d.world s))
       (λ a is. subst (λ (n : Node). IsSameSite n a.node) (sym here)
       (let same = stands.doubts s a is in record { name = same.name; disks = same.disks; blocks = same.blocks; volumes = same.volumes }))

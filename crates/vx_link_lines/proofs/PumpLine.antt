@@ -228,7 +228,7 @@ module _ {R : Type 0} {g : Ghosts R} where
         stands_still d d old (between old new) s before after stands below (record { there = changed.there; later = changed.later; disk_sets = changed.disk_sets; racks = changed.racks })
         (comes_same d s after stands.links (on (beside_of d s) n (stands.disk_sets.sites s before below changed.there))
         (fails_then n n before after refl (alone_keeps before after alone) (stands.failing s before below changed.there)) (fused_on Untouched n n n.fuse before after refl (λ x y same left. subst (λ (z : Option (ℕ × ℕ)). LeftAs n.fuse z) (sym same.fuse) left) alone.told (stands.fuses s before below changed.there))
-        (role_kept d old s before after stands below changed.there keeps)) refl refl
+        (role_kept d old s before after stands below changed.there keeps)) (λ first. first) refl refl
 
     middle_carries : Carries d (between old new)
     middle_carries = record {

@@ -14,7 +14,7 @@ use Rattle.vx_diskset.specs.declared.disk_set.DiskSet.{DiskSet}
 use Rattle.vx_events.specs.Effects.{ChangesNode}
 use Rattle.vx_events.specs.StepsOver.{facts_over}
 use Rattle.vx_events.specs.LinksFit.{LinksFit}
-use Rattle.vx_yard.specs.Standing.{IsSameSite, SitesAgree, StandsFor}
+use Rattle.vx_yard.specs.Standing.{IsSameSite, SitesAgree, StandsFor, BeginsFirst}
 use Rattle.vx_yard.specs.declared.yard.Yard.{Yard}
 use Rattle.vx_yard.proofs.Lists.{get-set_other, length-set}
 use Rattle.vx_yard.proofs.OneSite.{Changed, at_set, beside_same}
@@ -31,8 +31,8 @@ module _ {R : Type 0} {g : Ghosts R} where
 
   -- the yard stands for the world that this one comes to
   pub stands_turned : (d e : Doubted) (old new : Yard R g) (s : ℕ) (before after : DiskSet R g) → StandsFor d old → s < d.world.sites → Changed old new s before after → Turned d e s after
-      → new.facts.items ≡ facts_over e.world → ((a : After) → e.after s ≡ Some a → IsSameSite (e.world.nodes s) a.node) → StandsFor e new
-  stands_turned d e old new s before after stands below changed turned facts doubt = record {
+      → (BeginsFirst s (d.world.nodes s) → BeginsFirst s (e.world.nodes s)) → new.facts.items ≡ facts_over e.world → ((a : After) → e.after s ≡ Some a → IsSameSite (e.world.nodes s) a.node) → StandsFor e new
+  stands_turned d e old new s before after stands below changed turned first facts doubt = record {
     facts = facts;
     disk_sets = subst (λ es. SitesAgree e es) (sym changed.disk_sets) (record {
       eight = length-set old.disk_sets.items s after ∙ stands.disk_sets.eight;
@@ -51,6 +51,10 @@ module _ {R : Type 0} {g : Ghosts R} where
       each = λ i x inside is. at_set (λ j y. RoleIs (e.world.nodes j) y) old.disk_sets.items s after within turned.role i x (here i x is)
           (λ apart was. subst (λ (n : Node). RoleIs n x) (sym (turned.changes.nodes i apart)) (stands.roles.each i x (omega (arith, inside, turned.changes.sites)) was));
     };
+    first = λ i inside. ⊎_elim
+        (λ (same : i ≡ s). subst (λ (k : ℕ). BeginsFirst k (e.world.nodes k)) (sym same) (first (stands.first s below)))
+        (λ apart. subst (λ (n : Node). BeginsFirst i n) (sym (turned.changes.nodes i apart)) (stands.first i (omega (arith, inside, turned.changes.sites))))
+        (cases_eq i s);
     doubts = λ i a is. ⊎_elim
         (λ (same : i ≡ s). subst (λ (k : ℕ). IsSameSite (e.world.nodes k) a.node) (sym same) (doubt a (ap (λ (k : ℕ). e.after k) (sym same) ∙ is)))
         (λ apart. subst (λ (n : Node). IsSameSite n a.node) (sym (turned.changes.nodes i apart)) (stands.doubts i a (sym (turned.changes.after i apart) ∙ is)))

@@ -48,11 +48,11 @@ use Rattle.vx_script.specs.declared.line.ScriptLine.TheVariants.{Deliver}
 use Rattle.vx_diskset.proofs.Worked.{stands_worked}
 use Rattle.vx_diskset.specs.Asked.{LeavesAlone}
 use Rattle.vx_diskset.specs.Fuses.{LeftAs}
-use Rattle.vx_diskset.specs.Holds.{beside_of}
+use Rattle.vx_diskset.specs.Holds.{beside_of, state_with}
 use Rattle.vx_diskset.specs.Stands.{RoleIs, SiteStands}
 use Rattle.vx_diskset.specs.declared.disk_set.DiskSet.{DiskSet}
 use Rattle.vx_yard.specs.Carries.{Carries}
-use Rattle.vx_yard.specs.Standing.{Leads, StandsFor}
+use Rattle.vx_yard.specs.Standing.{Leads, StandsFor, BeginsFirst}
 use Rattle.vx_yard.specs.Yards.{IsTold}
 use Rattle.vx_yard.specs.declared.yard.Yard.{Yard}
 use Rattle.vx_yard.proofs.ApplySite.{comes_effect, worked_effect, worked_for}
@@ -63,6 +63,8 @@ use Rattle.vx_yard.proofs.FuseStays.{fused_on}
 use Rattle.vx_yard.proofs.Lists.{get-set_other, get-set_same, length-set}
 use Rattle.vx_yard.proofs.OneSite.{Changed, Comes, stands_at, stands_still}
 use Rattle.vx_link_lines.proofs.NotedYard.{left_burned}
+use Rattle.vx_yard.proofs.FirstSites.{begins_like}
+use Rattle.vx_yard.proofs.OverGroup.{begins_apart}
 
 -- ---- what is noted of the target
 
@@ -260,7 +262,9 @@ module _ {R : Type 0} {g : Ghosts R} where
       next = worked_for h s;
       fails = [];
       done = record { ends = ends; counts = tt; works = tt; calls = tt };
-      stands = stands_at d (worked_for h s) old new s f before after stands below changed (comes_by h m packets gathered eff fits same here) (fact ∙ sym (over_apart m (d.world.links s) d.world.sites (over_site n m same ∙ apart)) ∙ sym (shown h m packets gathered eff)) facts;
+      stands = stands_at d (worked_for h s) old new s f before after stands below changed (comes_by h m packets gathered eff fits same here)
+          (λ _. subst (λ (q : Node). BeginsFirst s q) (sym (worked_effect s d h m (d.world.links s) (d.world.headers s) (d.after s) packets gathered eff).is.node)
+          (begins_apart s (beside_of d s) (worked m) after (stands_worked (beside_of d s) m after here) (over_site n m same ∙ apart))) (fact ∙ sym (over_apart m (d.world.links s) d.world.sites (over_site n m same ∙ apart)) ∙ sym (shown h m packets gathered eff)) facts;
       carries = carries;
       rose = rose_still old new s before after changed.there changed.later changed.disk_sets;
     }
@@ -273,6 +277,9 @@ module _ {R : Type 0} {g : Ghosts R} where
       fails = [];
       done = record { ends = ends; counts = tt; works = tt; calls = tt };
       stands = stands_still d (worked_for h s) old new s before after stands below changed (comes_by h m packets gathered eff fits (same_site n m same) here)
+          (λ first. subst (λ (q : Node). BeginsFirst s q) (sym (worked_effect s d h m (d.world.links s) (d.world.headers s) (d.after s) packets gathered eff).is.node)
+          (begins_like s n (worked m) (λ bare. ap (λ (q : Node). q.state) same ∙ bare) (ap (λ (q : Node). q.volumes) same) (ap (λ (q : Node). state_with q []) same) (ap (λ (q : Node). q.session) same)
+          (ap (λ (q : Node). q.low) same) first))
           (shown h m packets gathered eff ∙ ap (λ (k : Node). over_of k (d.world.links s) d.world.sites) same) facts;
       carries = carries;
       rose = rose_still old new s before after changed.there changed.later changed.disk_sets;

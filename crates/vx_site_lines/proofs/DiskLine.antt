@@ -21,7 +21,7 @@ use Rattle.vx_diskset.specs.Holds.{KeptBeside, beside_of}
 use Rattle.vx_diskset.specs.Stands.{KeepsRole, SiteStands}
 use Rattle.vx_events.proofs.Refused.{disk_may}
 use Rattle.vx_yard.specs.OfSites.{OfSite}
-use Rattle.vx_yard.specs.Standing.{Leads, StandsFor}
+use Rattle.vx_yard.specs.Standing.{Leads, StandsFor, BeginsFirst}
 use Rattle.vx_yard.specs.Working.{IsFree}
 use Rattle.vx_yard.specs.Yards.{IsTold, in_files}
 use Rattle.vx_yard.proofs.FailsStay.{set_on}
@@ -40,6 +40,7 @@ use Rattle.vx_grouped.specs.declared.group_site.GroupSite.{GroupSite}
 use Rattle.vx_grouped.specs.declared.group_site.GroupSite.TheVariants.{Up as GroupUp, Deported as GroupDeported, Down as GroupDown, Marked, Gone as GroupGone}
 use Rattle.vx_site_lines.proofs.Apart.{fact_stays, over_is}
 use Rattle.vx_diskset.proofs.Laying.{raw_in}
+use Rattle.vx_yard.proofs.FirstSites.{begins_like}
 
 module _ {R : Type 0} {g : Ghosts R} where
   -- those of a group have as many
@@ -94,6 +95,7 @@ module _ {R : Type 0} {g : Ghosts R} where
             (comes_one d s n after refl stands.links (stands_failing (beside_of d s) m failing after (keeps (beside_of d s) m there))
             (record { told = λ x at u fails. set_on disk on (disks_told before) (disks_told after) m.failing (stands.failing s before seat.below changed.there).told sets x at u fails })
             (fused_set m n before after disk on refl sets (stands.fuses s before seat.below changed.there)) (role_kept d old s before after stands seat.below changed.there role))
+            (λ first. subst (λ (x : Node). BeginsFirst s x) (sym (at_place d.world.nodes s n)) (begins_like s m n (λ bare. bare) refl refl refl refl first))
             (fact_stays d.world (with_one d s n).world s over (over_is n ((with_one d s n).world.nodes s) (at_place d.world.nodes s n) over)
             (fact_same n ((with_one d s n).world.nodes s) (d.world.links s) (d.world.links s) d.world.sites d.world.sites (at_place d.world.nodes s n) (λ k. refl) refl
             ∙ fact_like m n (d.world.links s) d.world.sites (failing_fact m failing) (λ k l. refl)))

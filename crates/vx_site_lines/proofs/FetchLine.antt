@@ -206,11 +206,11 @@ module _ {R : Type 0} {g : Ghosts R} where
     }
 
     pub stays_for : StandsFor d new
-    stays_for = stands_still d d old new s before after stands below changed comes refl (ap (λ fs. fs.items) facts)
+    stays_for = stands_still d d old new s before after stands below changed comes (λ first. first) refl (ap (λ fs. fs.items) facts)
 
     pub read_for : (k volume start count : ℕ) → StandsFor (behind_read d k volume start count) new
     read_for k volume start count =
-        read_world d k volume start count (λ (e : Doubted). StandsFor e new) (stands_still d (recounted d d.world) old new s before after stands below changed comes_recounted refl (ap (λ fs. fs.items) facts))
+        read_world d k volume start count (λ (e : Doubted). StandsFor e new) (stands_still d (recounted d d.world) old new s before after stands below changed comes_recounted (λ first. first) refl (ap (λ fs. fs.items) facts))
 
   -- at a primary
   pub fetch_leads : (d : Doubted) (line : ScriptLine) (old new : Yard R g) (name volume : List ℕ) (start count s place : ℕ) (bytes : List ℕ) (before after : DiskSet R g) → IsReadLine line name volume start count → StandsFor d old

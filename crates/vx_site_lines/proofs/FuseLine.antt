@@ -25,7 +25,7 @@ use Rattle.vx_diskset.specs.Fuses.{HasLeft}
 use Rattle.vx_diskset.specs.Holds.{KeptBeside, beside_of}
 use Rattle.vx_diskset.specs.Stands.{KeepsRole, SiteStands}
 use Rattle.vx_yard.specs.OfSites.{OfSite}
-use Rattle.vx_yard.specs.Standing.{Leads, StandsFor}
+use Rattle.vx_yard.specs.Standing.{Leads, StandsFor, BeginsFirst}
 use Rattle.vx_yard.specs.Yards.{IsTold}
 use Rattle.vx_yard.proofs.FailsStay.{fails_then, fuse_keeps}
 use Rattle.vx_yard.proofs.FuseStays.{fused_on}
@@ -35,6 +35,7 @@ use Rattle.vx_yard.proofs.OneSite.{Changed, role_kept, stands_still, told_by}
 use Rattle.vx_yard.proofs.Rows.{fact_like, fact_same}
 use Rattle.vx_yard.proofs.Carrying.{SameLoad, carries_node}
 use Rattle.vx_site_lines.proofs.Apart.{fact_stays, over_is, state_placed}
+use Rattle.vx_yard.proofs.FirstSites.{begins_like}
 
 module _ {R : Type 0} {g : Ghosts R} where
   -- the site of such a line is up
@@ -71,6 +72,7 @@ module _ {R : Type 0} {g : Ghosts R} where
             (fused_on (λ o x. SameBlocks o x × (x.fuse ≡ Some (calls, pick))) m n (FuseSet calls) before after refl
             (λ x y set left. subst (λ (z : Option (ℕ × ℕ)). HasLeft calls z) (sym set.1) (omega arith)) sets (stands.fuses s before seat.below changed.there))
             (role_kept d old s before after stands seat.below changed.there keeps))
+            (λ first. subst (λ (x : Node). BeginsFirst s x) (sym (at_place d.world.nodes s n)) (begins_like s m n (λ bare. bare) refl refl refl refl first))
             (fact_stays d.world (with_one d s n).world s over (over_is n ((with_one d s n).world.nodes s) (at_place d.world.nodes s n) over)
             (fact_same n ((with_one d s n).world.nodes s) (d.world.links s) (d.world.links s) d.world.sites d.world.sites (at_place d.world.nodes s n) (λ k. refl) refl
             ∙ fact_like m n (d.world.links s) d.world.sites (fuse_fact m (FuseSet calls)) (λ k l. refl)))

@@ -126,7 +126,7 @@ module _ {R : Type 0} {g : Ghosts R} where
         next = d;
         fails = fails;
         done = recover_done (IsTold new) d d s name fails said number ends;
-        stands = stands_still d d old new s before after stands below changed still refl facts_still;
+        stands = stands_still d d old new s before after stands below changed still (λ first. first) refl facts_still;
         carries = carries_same d old new load told_was;
         rose = rose;
       }
@@ -139,7 +139,7 @@ module _ {R : Type 0} {g : Ghosts R} where
         done = recover_done (IsTold new) d (recounted d d.world) s name [] (Refused NoConfig) number
             (one_left (IsTold new) d (Recover name) s first_choice (RecoverAt s None) (refused d.world NoConfig) (Refused NoConfig) (recounted d d.world).world (bare_events d s name number bare) refl
             (bare_step d.world s None below bare) refl refl);
-        stands = stands_still d (recounted d d.world) old new s before after stands below changed (comes_counted d s after still) refl facts_still;
+        stands = stands_still d (recounted d d.world) old new s before after stands below changed (comes_counted d s after still) (λ first. first) refl facts_still;
         carries = λ carries. carries_on d (recounted d d.world) old new carries load refl (λ i. refl) (λ i. feeds_same (d.world.nodes i) (d.world.nodes i) refl) told_was;
         rose = rose_here;
       }

@@ -46,6 +46,7 @@ use Rattle.vx_yard.proofs.Lists.{get-set_other, get-set_same, length-set}
 use Rattle.vx_yard.proofs.OneSite.{Changed, Comes, stands_at, told_by}
 use Rattle.vx_yard.proofs.Rows.{fact_from, fact_same, row_links_same}
 use Rattle.vx_site_lines.proofs.Apart.{fact_at, over_is}
+use Rattle.vx_yard.proofs.OverGroup.{begins_apart}
 
 -- each of these links goes by the log, or by nothing yet
 abbrev pub AllPlain : (ℕ → Link) → Type 0
@@ -117,7 +118,7 @@ head_whole k whole = by_role (is_origin k.role)
 abbrev group_with : Node → (last low ring : ℕ) → Option ℕ → RvgFacts
 group_with k last low ring halted = record { role = k.role; line = k.line; parent = k.parent; mark = k.mark; low = low; last = last; ring = ring; halted = halted }
 
-group_seen : (k : Node) (ring : ℕ) (ls : List KeptLink) → IsWhole k ring → up_group (state_with k ls) k.safe ring ≡ group_fact k
+pub group_seen : (k : Node) (ring : ℕ) (ls : List KeptLink) → IsWhole k ring → up_group (state_with k ls) k.safe ring ≡ group_fact k
 group_seen k ring ls w =
     ap (λ (last : ℕ). group_with k last 1 ring None) (sym (head_whole k w.whole)) ∙ ap (λ (low : ℕ). group_with k (head_of k) low ring None) (sym w.low)
     ∙ ap (λ (r : ℕ). group_with k (head_of k) k.low r None) w.ring ∙ ap (λ (h : Option ℕ). group_with k (head_of k) k.low k.ring h) (sym w.running)
@@ -184,6 +185,7 @@ module _ {R : Type 0} {g : Ghosts R} where
     pub up_stands : new.facts.items ≡ slice_set old.facts.items s (risen_facts state k.safe ring used f) → StandsFor e new
     up_stands facts =
         stands_at mid e old new s (risen_facts state k.safe ring used f) before after stands below changed comes
+        (λ _. begins_apart s (beside_of e s) (e.world.nodes s) after comes.stands (over_is k (e.world.nodes s) up.effect.is.node up.apart))
         (fact_at e.world s (risen_facts state k.safe ring used f) (over_is k (e.world.nodes s) up.effect.is.node up.apart)
         (ap (λ (x : State). risen_facts x k.safe ring used f) is ∙ risen_fact_is k row mid.world.sites ring used f up.whole sees up.plain up.again needs
         ∙ sym (fact_same k (e.world.nodes s) row (e.world.links s) mid.world.sites e.world.sites up.effect.is.node up.effect.is.links up.effect.site.sites))) facts

@@ -52,7 +52,7 @@ use Rattle.vx_model.specs.Sites.{is_origin}
 use Rattle.vx_yard.specs.Changes.{bare_facts}
 use Rattle.vx_yard.specs.Replies.{reply_to}
 use Rattle.vx_model.specs.declared.site.SiteState.TheVariants.{Bare as IsBare, Up as IsUp}
-use Rattle.vx_yard.specs.Standing.{IsSameSite, Leads, LeadsIs, SitesAgree, StandsFor}
+use Rattle.vx_yard.specs.Standing.{IsSameSite, Leads, LeadsIs, SitesAgree, StandsFor, BeginsFirst}
 use Rattle.vx_yard.specs.Working.{IsFree}
 use Rattle.vx_yard.specs.Yards.{IsTold, in_files}
 use Rattle.vx_yard.specs.declared.yard.Yard.{Yard}
@@ -218,8 +218,8 @@ site_outcome w files name disks blocks free =
 module _ {R : Type 0} {g : Ghosts R} where
   -- the yard with another disk set of a number that no site had
   stands_more : (d e : Doubted) (old new : Yard R g) (n : Node) (f : SiteFacts) (before after : DiskSet R g) → StandsFor d old → d.world.sites < 8 → AddsSite d e n → LinksFit e → Changed old new d.world.sites before after
-      → SiteStands (beside_of e d.world.sites) n after → FailsAs n after → FusedAs n after → is_origin n.role ≡ true → f ≡ fact_over e.world d.world.sites → new.facts.items ≡ old.facts.items ++ f ∷ [] → StandsFor e new
-  stands_more d e old new n f before after stands few adds links changed here failing fuse role fact facts = record {
+      → SiteStands (beside_of e d.world.sites) n after → FailsAs n after → FusedAs n after → is_origin n.role ≡ true → n.state ≡ IsBare → f ≡ fact_over e.world d.world.sites → new.facts.items ≡ old.facts.items ++ f ∷ [] → StandsFor e new
+  stands_more d e old new n f before after stands few adds links changed here failing fuse role bare fact facts = record {
     facts = facts ∙ ap (λ (fs : List SiteFacts). fs ++ f ∷ []) stands.facts ∙ ap (λ (x : SiteFacts). facts_over d.world ++ x ∷ []) fact ∙ sym (facts_more d e n adds stands.links);
     disk_sets = subst (λ es. SitesAgree e es) (sym changed.disk_sets) (record {
       eight = length-set old.disk_sets.items s after ∙ stands.disk_sets.eight;
@@ -236,6 +236,10 @@ module _ {R : Type 0} {g : Ghosts R} where
       each = λ i x inside is. at_set (λ j y. RoleIs (e.world.nodes j) y) old.disk_sets.items s after within (subst (λ (m : Node). RoleIs m after) (sym adds.node) (role_origin n after role)) i x (there i x is)
           (λ apart was. subst (λ (m : Node). RoleIs m x) (sym (adds.nodes i apart)) (stands.roles.each i x (less i apart inside) was));
     };
+    first = λ i inside. ⊎_elim
+        (λ (same : i ≡ s). subst (λ (k : ℕ). BeginsFirst k (e.world.nodes k)) (sym same) (subst (λ (m : Node). BeginsFirst s m) (sym adds.node) (λ made none. absurd (made bare))))
+        (λ apart. subst (λ (m : Node). BeginsFirst i m) (sym (adds.nodes i apart)) (stands.first i (less i apart inside)))
+        (cases_eq i s);
     doubts = λ i a is. doubted i a is;
     failing = λ i x inside is. at_set (λ j y. FailsAs (e.world.nodes j) y) old.disk_sets.items s after within (subst (λ (m : Node). FailsAs m after) (sym adds.node) failing) i x (there i x is)
         (λ apart was. subst (λ (m : Node). FailsAs m x) (sym (adds.nodes i apart)) (stands.failing i x (less i apart inside) was));
@@ -289,7 +293,7 @@ module _ {R : Type 0} {g : Ghosts R} where
         };
         carries = carries_more d e n old new load adds (λ up. bare_up up) (told_by old new d.world.sites before after changed_there);
         stands = stands_more d e old new n (bare_facts name disks blocks) before after stands (omega (arith, may.few_sites, many)) adds (site_fits d name disks blocks at stands.links) changed_there
-            (fits (beside_of e d.world.sites) name) (record { told = λ x at u on. absurd (never_true on) }) (fused_none n after refl) refl
+            (fits (beside_of e d.world.sites) name) (record { told = λ x at u on. absurd (never_true on) }) (fused_none n after refl) refl refl
             (fact_at e.world d.world.sites (bare_facts name disks blocks) (over_is n (e.world.nodes d.world.sites) adds.node refl)
             (sym (fact_same n (e.world.nodes d.world.sites) (d.world.links d.world.sites) (e.world.links d.world.sites) e.world.sites e.world.sites adds.node (λ k. refl) refl))) facts;
         rose = rose_still old new d.world.sites before after changed_there.there changed_there.later changed_there.disk_sets;
@@ -327,6 +331,7 @@ module _ {R : Type 0} {g : Ghosts R} where
         });
         links = stands.links;
         roles = record { each = λ i x below at. stands.roles.each i x below (was i x below at) };
+        first = stands.first;
         doubts = λ i a is. stands.doubts i a is;
         failing = λ i x below at. stands.failing i x below (was i x below at);
         fuses = λ i x below at. stands.fuses i x below (was i x below at);

@@ -51,7 +51,7 @@ use Rattle.vx_effects.proofs.WriteLines.{line_cut, line_halted, line_written, wo
 use Rattle.vx_events.proofs.Places.{never_some, some_same}
 use Rattle.vx_linked.specs.Holds.{awaits, awaits_one, is_over, least_hold}
 use Rattle.vx_linked.proofs.LeastHolds.{awaits_same}
-use Rattle.vx_yard.specs.Standing.{Leads, StandsFor}
+use Rattle.vx_yard.specs.Standing.{Leads, StandsFor, BeginsFirst}
 use Rattle.vx_yard.specs.Carries.{Carries}
 use Rattle.vx_yard.specs.Stands.{RoseAll}
 use Rattle.vx_yard.specs.Writes.{IsWriteLine, answer_by, unwritten_facts}
@@ -76,6 +76,7 @@ use Rattle.vx_site_lines.proofs.WriteCalls.{calls_pass, fails_behind, fuse_burne
 use Rattle.vx_site_lines.proofs.WriteEnds.{cut_ends, done_ends, half_ends, let_in, none_ends}
 use Rattle.vx_site_lines.proofs.WriteSite.{cut_comes, cut_events, cut_for, half_comes, half_shown, written_comes, written_fact, written_for}
 use Rattle.vx_site_lines.proofs.WriteTests.{Writing, the_write}
+use Rattle.vx_yard.proofs.FirstSites.{begins_like, never_bare}
 
 -- the event of the line, by the number of its volume
 write_events : (w : World) (name volume : List ℕ) (start : ℕ) (bytes : List ℕ) (s v : ℕ) → site_number w name ≡ s → volume_number (w.nodes s) volume ≡ v → writing_events w name volume start bytes ≡ WriteAt s v start bytes None ∷ []
@@ -258,6 +259,7 @@ module _ {R : Type 0} {g : Ghosts R} where
         (stands_at d e old new s f' before after stands to.seat.below changed
         (written_comes d s x after stands.links can wrote.2 (fails_behind (beside_of d s) n before after stood (answer_by waited number) burns n refl fits)
         (fuse_spent (beside_of d s) n before after stood (answer_by waited number) burns x written lit) kind)
+        (λ first. subst (λ (q : Node). BeginsFirst s q) (sym eff.is.node) (begins_like s n (logged n x) (λ bare. bare) refl refl refl refl first))
         (fact_at e.world s f' (over_is (logged n x) (e.world.nodes s) eff.is.node to.apart) shown) facts)
         (carries_node s d e (logged n x) old new load eff.site eff.sent eff.gathering eff.is.node refl refl refl (told_by old new s before after changed))
         (rose_still old new s before after changed.there changed.later changed.disk_sets))
@@ -285,6 +287,7 @@ module _ {R : Type 0} {g : Ghosts R} where
         (stands_at d e old new s f' before after stands to.seat.below changed
         (half_comes d s x disk after stands.links can wrote.0 (fails_behind (beside_of d s) n before after stood (Refused (Device disk)) under.burns n refl fits)
         (fuse_burned (beside_of d s) n before after stood (Refused (Device disk)) under.burns (halted_with n x disk) refl (λ a b burnt. device_passes IsLogged (size_in before) disk a b burnt) lit) kind)
+        (λ first. subst (λ (q : Node). BeginsFirst s q) (sym eff.is.node) (begins_like s n (halted_with n x disk) (λ bare. bare) refl refl refl refl first))
         (fact_at e.world s f' (over_is (halted_with n x disk) (e.world.nodes s) eff.is.node to.apart) shown) facts)
         (carries_node s d e (halted_with n x disk) old new load eff.site eff.sent eff.gathering eff.is.node refl refl refl (told_by old new s before after changed))
         (rose_at old new s disk before after changed wrote.1)
@@ -311,6 +314,7 @@ module _ {R : Type 0} {g : Ghosts R} where
         (comes_one d s (worked n) after refl stands.links wrote.2
         (fails_behind (beside_of d s) n before after stood (Refused (Limit Number MOST_NUMBER)) burns (worked n) refl fits)
         (fuse_burned (beside_of d s) n before after stood (Refused (Limit Number MOST_NUMBER)) burns (worked n) refl (λ a b burnt. limit_passes IsLogged (size_in before) a b burnt) lit) kind)
+        (λ first. subst (λ (q : Node). BeginsFirst s q) (sym (at_place d.world.nodes s (worked n))) (begins_like s n (worked n) (λ bare. bare) refl refl refl refl first))
         (fact_at e.world s f' (over_is (worked n) (e.world.nodes s) (at_place d.world.nodes s (worked n)) to.apart) shown) facts)
         (carries_node s d e (worked n) old new load (changes_one d s (worked n)) refl refl (at_place d.world.nodes s (worked n)) refl refl refl (told_by old new s before after changed))
         (rose_still old new s before after changed.there changed.later changed.disk_sets))
@@ -342,6 +346,8 @@ module _ {R : Type 0} {g : Ghosts R} where
             })
             (stands_at d e old new s f' before after stands to.seat.below changed
             (cut_comes d s x count after stands.links can least most stays (fails_behind (beside_of d s) n before after stood (Refused Off) under.burns n refl fits))
+            (λ first. subst (λ (q : Node). BeginsFirst s q) (sym eff.is.node)
+            (begins_like s n (crashed (half_begun n x) count) (λ bare. never_bare n to.can.up bare) refl refl refl refl first))
             (fact_at e.world s f' (over_is (crashed (half_begun n x) count) (e.world.nodes s) eff.is.node to.apart)
             (noted ∙ ap down_fact (some_same (sym at ∙ to.seat.fact)) ∙ cut_fact d s x count stands.links can least most)) facts)
             (carries_let s d e old new gone (omega (arith, to.seat.below, stands.disk_sets.few)) eff.site eff.sent eff.gathering (λ up. down_up (sym (ap (λ (q : Node). q.state) eff.is.node) ∙ up))

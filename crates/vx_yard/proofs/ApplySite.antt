@@ -56,14 +56,14 @@ use Rattle.vx_events.specs.declared.said.Said.{Said}
 use Rattle.vx_events.specs.declared.said.Said.TheVariants.{DoneAt, Refused}
 use Rattle.vx_yard.specs.Changes.{halted_facts}
 use Rattle.vx_effects.specs.Facts.{down_fact}
-use Rattle.vx_yard.specs.Standing.{IsSameSite, Leads, StandsFor, crash_of}
+use Rattle.vx_yard.specs.Standing.{IsSameSite, Leads, StandsFor, crash_of, BeginsFirst}
 use Rattle.vx_yard.specs.Working.{IsFree}
 use Rattle.vx_yard.specs.Writes.{noted_facts}
 use Rattle.vx_yard.specs.Yards.{IsTold, in_files}
 use Rattle.vx_yard.specs.declared.yard.Yard.{Yard}
 use Rattle.vx_yard.proofs.Alike.{burnt}
 use Rattle.vx_yard.proofs.CrashLine.{fuse_fact, rose_still, stopped_fact}
-use Rattle.vx_yard.proofs.CrashSite.{crash_comes, crash_fact, crash_gathering, crash_node, crash_sent, crashed_node, down_up}
+use Rattle.vx_yard.proofs.CrashSite.{crash_comes, crash_fact, crash_gathering, crash_node, crash_sent, crashed_node, down_up, begins_fell}
 use Rattle.vx_yard.proofs.Carrying.{LetsGo, LetsGoBy, SameLoad, carries_let, carries_node}
 use Rattle.vx_yard.proofs.FailsStay.{fails_then}
 use Rattle.vx_yard.proofs.FuseStays.{device_by, done_by, fused_on, left_passed}
@@ -283,6 +283,7 @@ module _ {R : Type 0} {g : Ghosts R} where
                     role = subst (λ (q : Node). RoleIs q after) same before_noted.role;
                     doubt = λ was a there. subst (λ (q : Node). IsSameSite q a.node) same (before_noted.doubt was a there);
                   })
+                  (λ first. subst (λ (q : Node). BeginsFirst s q) (sym node) (begins_fell s n n count here.can.up first))
                   (noted ∙ ap down_fact (some_same (sym at ∙ fact_of d old s stands here.seat.below)) ∙ crash_fact d s count false n (d.world.links s) refl (λ j. refl) (λ _. refl) here.seat.below here.can.up least most refl refl refl refl
                   ∙ over_same (e.world.nodes s) (h.world.nodes s) (h.world.links s) (h.world.links s) h.world.sites h.world.sites same (λ j. refl) refl)
                   facts;

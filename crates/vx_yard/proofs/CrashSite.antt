@@ -54,7 +54,7 @@ use Rattle.vx_history.specs.declared.event.Said.{Said as EventSaid}
 use Rattle.vx_events.specs.LinksFit.{LinksFit}
 use Rattle.vx_events.specs.Lists.{crash_count, kept_while}
 use Rattle.vx_effects.specs.Facts.{down_fact}
-use Rattle.vx_yard.specs.Standing.{Falls, Leads, StandsFor, crash_of}
+use Rattle.vx_yard.specs.Standing.{Falls, Leads, StandsFor, crash_of, BeginsFirst}
 use Rattle.vx_yard.specs.declared.yard.Yard.{Yard}
 use Rattle.vx_yard.proofs.Alike.{apart_place}
 use Rattle.vx_yard.proofs.FailsStay.{fails_then}
@@ -63,10 +63,15 @@ use Rattle.vx_yard.proofs.OneSite.{Changed, Comes, role_off, stands_at, told_by}
 use Rattle.vx_yard.proofs.Carrying.{LetsGo, carries_let}
 use Rattle.vx_yard.proofs.OverGroup.{doubt_apart, over_none}
 use Rattle.vx_yard.proofs.Rows.{down_over, over_same, row_links_same}
+use Rattle.vx_yard.proofs.FirstSites.{begins_like, never_bare}
 
 -- the node that it leaves
 abbrev pub crashed_node : (n m : Node) → (count : ℕ) → Node
 crashed_node n m count = record (crashed m count) { failing = n.failing; group = n.group }
+
+-- it stays on its line, and in its session
+pub begins_fell : (site : ℕ) (n m : Node) (count : ℕ) → m.state ≡ Up → BeginsFirst site m → BeginsFirst site (crashed_node n m count)
+begins_fell site n m count up was = begins_like site m (crashed_node n m count) (λ is. never_bare m up is) refl refl refl refl was
 
 -- which of its disks are made to fail, and the group that they are
 abbrev pub disk_notes : Node → (ℕ → Bool) × Option GroupNode
@@ -242,6 +247,7 @@ module _ {R : Type 0} {g : Ghosts R} where
                 (crash_down d s count false n (d.world.links s) refl (λ j. refl) (λ _. refl) below up least most) (told_by old new s before after changed);
             stands = stands_at d (crash_of d s count false) old new s f' before after stands below changed
                 (crash_comes d s count false n (d.world.links s) refl (λ j. refl) (λ _. refl) below up least most before after stands.links (stands.failing s before below changed.there) same here)
+                (λ first. subst (λ (x : Node). BeginsFirst s x) (sym (crash_node d s count false n (d.world.links s) refl (λ j. refl) (λ _. refl) below up least most)) (begins_fell s n n count up first))
                 (is ∙ was ∙ crash_fact d s count false n (d.world.links s) refl (λ j. refl) (λ _. refl) below up least most refl refl refl refl) facts;
             rose = rose_still old new s before after changed.there changed.later changed.disk_sets;
           })
@@ -274,6 +280,9 @@ module _ {R : Type 0} {g : Ghosts R} where
                 (crash_down d s count true a.node a.row node_is row_is (λ e. absurd (never e)) below fits.up_too least most) (told_by old new s before after changed);
             stands = stands_at d (crash_of d s count true) old new s f' before after stands below changed
                 (crash_comes d s count true a.node a.row node_is row_is (λ e. absurd (never e)) below fits.up_too least most before after stands.links (stands.failing s before below changed.there) same here)
+                (λ _. subst (λ (x : Node). BeginsFirst s x) (sym (crash_node d s count true a.node a.row node_is row_is (λ e. absurd (never e)) below fits.up_too least most))
+                (begins_fell s n a.node count fits.up_too
+                (λ made none. absurd (doubt_apart (beside_of d s) n before k (stands.disk_sets.sites s before below changed.there) up other (sym same_site.volumes ∙ none)))))
                 (is ∙ was ∙ crash_fact d s count true a.node a.row node_is row_is (λ e. absurd (never e)) below fits.up_too least most same_site.name same_site.disks same_site.blocks same_site.volumes) facts;
             rose = rose_still old new s before after changed.there changed.later changed.disk_sets;
           })

@@ -6,6 +6,7 @@ pub mod ChangeSite
 pub mod CrashLine
 pub mod CrashSite
 pub mod FailsStay
+pub mod FirstSites
 pub mod FuseStays
 pub mod HeadNeeds
 pub mod MapsHold

@@ -46,7 +46,7 @@ use Rattle.vx_script.specs.declared.line.ScriptLine.{ScriptLine}
 use Rattle.vx_script.specs.declared.line.ScriptLine.TheVariants.{Connect, Cut, Pause, Resume, Tick, Wait}
 use Rattle.vx_yard.specs.Carries.{Carries}
 use Rattle.vx_yard.specs.Happenings.{reply_of}
-use Rattle.vx_yard.specs.Standing.{Leads, LeadsIs, SitesAgree, StandsFor, StaysFor}
+use Rattle.vx_yard.specs.Standing.{Leads, LeadsIs, SitesAgree, StandsFor, StaysFor, BeginsFirst}
 use Rattle.vx_yard.specs.Stands.{AreTold, RoseAll, site_faults}
 use Rattle.vx_yard.specs.Working.{IsFree}
 use Rattle.vx_yard.specs.Yards.{IsTold, count_of, in_files}
@@ -171,6 +171,7 @@ module _ {R : Type 0} {g : Ghosts R} where
       each = λ s e inside is.
           subst (λ (n : Node). RoleIs n e) (sym (left.nodes s)) (stands.roles.each s e (omega (arith, inside, left.sites)) (sym (ap (λ es. slice_get es s) same) ∙ is));
     };
+    first = λ s inside. subst (λ (n : Node). BeginsFirst s n) (sym (left.nodes s)) (stands.first s (omega (arith, inside, left.sites)));
     doubts = λ s a is.
         let was = stands.doubts s a is in
         record {

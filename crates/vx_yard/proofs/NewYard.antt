@@ -48,6 +48,7 @@ module _ {R : Type 0} {g : Ghosts R} where
     disk_sets = stood;
     links = fit_empty;
     roles = record { each = λ s e below is. absurd (omega (arith, below)) };
+    first = λ s below. absurd (omega (arith, below));
     doubts = λ s a is. absurd (never is);
     failing = λ s e below is. absurd (omega (arith, below));
     fuses = λ s e below is. absurd (omega (arith, below));

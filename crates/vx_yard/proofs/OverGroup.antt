@@ -28,6 +28,7 @@ use Rattle.vx_diskset.specs.declared.group_set.GroupSet.{GroupSet}
 use Rattle.vx_events.proofs.Places.{never_some}
 use Rattle.vx_events.specs.GroupLines.{is_over_group}
 use Rattle.vx_events.specs.RvgViews.{is_over_rvg}
+use Rattle.vx_yard.specs.Standing.{BeginsFirst}
 
 -- a site that notes a group is over it
 pub noted_over : (n : Node) (note : GroupNode) → NotesGroup n note → is_over_group n ≡ true
@@ -66,7 +67,7 @@ some_group : (o : Option GroupNode) → (o ≡ None → ⊥) → is_some o ≡ t
 some_group None some = absurd (some refl)
 some_group (Some note) some = refl
 
-with_data : (o : Option GroupNode) (k : ℕ) → is_some o ≡ true → 1 ≤ k → (is_some o && not (eqb k 0)) ≡ true
+pub with_data : (o : Option GroupNode) (k : ℕ) → is_some o ≡ true → 1 ≤ k → (is_some o && not (eqb k 0)) ≡ true
 with_data o k grouped some = ap (λ (b : Bool). b && not (eqb k 0)) grouped ∙ ap not (not_zero k some)
 
 no_group : (o : Option GroupNode) (b : Bool) → (is_some o && b) ≡ false → (is_some o && not b) ≡ false → o ≡ None
@@ -124,6 +125,20 @@ module _ {R : Type 0} {g : Ghosts R} where
   -- and notes the group
   pub over_rvg : (beside : KeptBeside) (n : Node) (s : OverSet R g) → SiteStands beside n (Over s) → is_over_rvg n ≡ true
   over_rvg beside n s it = with_data n.group (length n.volumes) (some_group n.group it.0.0) (over_many beside n s.site it.1)
+
+  -- a site over no group has a volume, where it is made
+  made_many : (beside : KeptBeside) (n : Node) (e : DiskSet R g) → SiteStands beside n e → is_over_group n ≡ false → (n.state ≡ IsBare → ⊥) → 1 ≤ length n.volumes
+  made_many beside n (Bare rack) it apart made = absurd (made (ap (λ (x : Node). x.state) it.bare.is))
+  made_many beside n (Spoiled rack) it apart made = absurd (made (ap (λ (x : Node). x.state) it.is))
+  made_many beside n (Up rvg) it apart made = laid_many n (g.meaning rvg.shelf) it.1.lies
+  made_many beside n (Receives s) it apart made = laid_many n (g.meaning s.rvg.shelf) it.1.lies
+  made_many beside n (Down rack) it apart made = it.lies.laid.some
+  made_many beside n (OfGroup s) it apart made = absurd (made (apart_bare beside n s it apart))
+  made_many beside n (Over s) it apart made = over_many beside n s.site it.1
+  made_many beside n Gone it apart made = absurd it
+
+  pub begins_apart : (site : ℕ) (beside : KeptBeside) (n : Node) (e : DiskSet R g) → SiteStands beside n e → is_over_group n ≡ false → BeginsFirst site n
+  begins_apart site beside n e it apart = λ made none. absurd (many_some n (made_many beside n e it apart made) none)
 
   -- other disks are those of a site over no group
   pub raw_apart : (beside : KeptBeside) (n : Node) (e : DiskSet R g) → SiteStands beside n e → ((s : GroupSet R g) → e ≡ OfGroup s → ⊥) → is_over_group n ≡ false

@@ -12,6 +12,7 @@ pub mod OfSites
 pub mod Racks
 pub mod Replies
 pub mod Standing
+pub mod Gaining
 pub mod Stands
 pub mod Steps
 pub mod Working

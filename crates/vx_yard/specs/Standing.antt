@@ -10,7 +10,7 @@ use Rattle.vx_history.specs.Step.{step}
 use Rattle.vx_history.specs.World.{Node}
 use Rattle.vx_history.specs.declared.event.Event.TheVariants.{Crash as CrashAt}
 use Rattle.vx_history.specs.declared.event.Said.TheVariants.{Done as IsDone}
-use Rattle.vx_model.specs.declared.site.SiteState.TheVariants.{Down as IsDown}
+use Rattle.vx_model.specs.declared.site.SiteState.TheVariants.{Bare as IsBare, Down as IsDown}
 use Rattle.vx_events.specs.Doubts.{doubt_chosen, with_disks}
 use Rattle.vx_events.specs.GroupLines.{is_over_group}
 use Rattle.vx_disk.specs.declared.shelf.Shelf.{Ghosts}
@@ -18,6 +18,7 @@ use Rattle.std.specs.Io.KnownBytes.{Appends}
 use Rattle.vx_script.specs.declared.line.ScriptLine.{ScriptLine}
 use Rattle.vx_diskset.specs.Asked.{FailsAs, FusedAs}
 use Rattle.vx_diskset.specs.Holds.{beside_of}
+use Rattle.vx_diskset.specs.Makings.{IsFirstSite}
 use Rattle.vx_diskset.specs.Stands.{IsUnused, RoleIs, SiteStands}
 use Rattle.vx_diskset.specs.declared.disk_set.DiskSet.{DiskSet}
 use Rattle.vx_events.specs.Fails.{Fails}
@@ -46,6 +47,10 @@ pub record IsSameSite (n k : Node) : Type 0 where
   pub blocks : k.blocks ≡ n.blocks
   pub volumes : k.volumes ≡ n.volumes
 
+-- a site that is made and has no volumes, as a group of disks, is on its first line and in its first session
+abbrev pub BeginsFirst : (site : ℕ) → Node → Type 0
+BeginsFirst site n = (n.state ≡ IsBare → ⊥) → n.volumes ≡ [] → IsFirstSite site n
+
 -- what a crash of a site leaves, which keeps so many writes of what it is or of what it may be, with the disks that are made to fail
 abbrev pub crash_of : Doubted → (s count : ℕ) → (taken : Bool) → Doubted
 crash_of d s count taken = let h = happened d (CrashAt s count) taken in record h { world = with_disks taken s d.world h.world }
@@ -62,14 +67,27 @@ module _ {R : Type 0} {g : Ghosts R} where
   pub record RolesAre (d : Doubted) (y : Yard R g) : Type 0 where
     pub each : (s : ℕ) (e : DiskSet R g) → s < d.world.sites → slice_get y.disk_sets.items s ≡ Some e → RoleIs (d.world.nodes s) e
 
-  -- The yard stands for this world, in which sites may be in doubt: it has what the tests of a line see of it, and disk sets that agree with it.
+  -- All but what the tests of a line see, of a yard that stands for this world, in which sites may be in doubt: disk sets that agree with it.
   -- Each site has the group that its role asks for, and one in doubt is the same site either way. The disks that the world makes fail are made
   -- to fail, and a fuse that it knows of has no more calls left than it knows.
+  pub record StandsBelow (d : Doubted) (y : Yard R g) : Type 0 where
+    pub disk_sets : SitesAgree d y.disk_sets.items
+    pub links : LinksFit d
+    pub roles : RolesAre d y
+    pub first : (s : ℕ) → s < d.world.sites → BeginsFirst s (d.world.nodes s)
+    pub doubts : (s : ℕ) (a : After) → d.after s ≡ Some a → IsSameSite (d.world.nodes s) a.node
+    pub failing : (s : ℕ) (e : DiskSet R g) → s < d.world.sites → slice_get y.disk_sets.items s ≡ Some e → FailsAs (d.world.nodes s) e
+    pub fuses : (s : ℕ) (e : DiskSet R g) → s < d.world.sites → slice_get y.disk_sets.items s ≡ Some e → FusedAs (d.world.nodes s) e
+    pub none : y.racks.items ≡ []
+    pub room : MOST_SITES ≤ vec_capacity y.racks
+
+  -- The yard stands for this world: it has what the tests of a line see of it, and all of that.
   pub record StandsFor (d : Doubted) (y : Yard R g) : Type 0 where
     pub facts : y.facts.items ≡ facts_over d.world
     pub disk_sets : SitesAgree d y.disk_sets.items
     pub links : LinksFit d
     pub roles : RolesAre d y
+    pub first : (s : ℕ) → s < d.world.sites → BeginsFirst s (d.world.nodes s)
     pub doubts : (s : ℕ) (a : After) → d.after s ≡ Some a → IsSameSite (d.world.nodes s) a.node
     pub failing : (s : ℕ) (e : DiskSet R g) → s < d.world.sites → slice_get y.disk_sets.items s ≡ Some e → FailsAs (d.world.nodes s) e
     pub fuses : (s : ℕ) (e : DiskSet R g) → s < d.world.sites → slice_get y.disk_sets.items s ≡ Some e → FusedAs (d.world.nodes s) e

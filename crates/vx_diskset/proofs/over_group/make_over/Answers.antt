@@ -6,7 +6,6 @@ use Rattle.vx_ground.specs.Lifted.{laid_volumes}
 use Rattle.vx_ground.specs.Rewrites.{OneRests}
 use Rattle.vx_grouped.specs.GroupSites.{laid_disks, site_disks}
 use Rattle.vx_model.specs.States.{first_state}
-use Rattle.vx_diskset.specs.Works.{DoesRewrite}
 use Rattle.vx_diskset.proofs.MakeStepping.{alone_as, made_after, may_then, refused_after, refused_rewritten}
 use Rattle.vx_diskset.proofs.OverMaking.{large_then, placed_then, since_both}
 use Rattle.vx_diskset.proofs.over_group.make_over.Goals as goal

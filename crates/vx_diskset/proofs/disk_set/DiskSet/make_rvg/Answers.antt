@@ -1,6 +1,7 @@
 -- What is left of the disks of a site on which a replicated volume group is made.
+use Rattle.vx_diskset.proofs.GroupCalling.{called_rest}
 use Rattle.vx_diskset.proofs.KeepsFailing.{failing_same}
-use Rattle.vx_diskset.proofs.OverMaking.{fuse_rest, made_failing, made_fuse, made_later}
+use Rattle.vx_diskset.proofs.OverMaking.{called_made, fuse_rest, made_failing, made_fuse, made_later}
 use Rattle.vx_diskset.proofs.MakeSites.{made_else, made_of}
 use Rattle.vx_diskset.proofs.disk_set.DiskSet.make_rvg.Goals as goal
 
@@ -26,3 +27,9 @@ returns-in_default-clause-failing g c = failing_same c.args.self
 
 pub returns-in_default-clause-fuse : goal.returns-in_default-clause-fuse
 returns-in_default-clause-fuse g c = fuse_rest c.args.self
+
+pub returns-in-OfGroup-clause-since : goal.returns-in-OfGroup-clause-since
+returns-in-OfGroup-clause-since g c = called_made c.args.self c.make_in.result.0 c.in-OfGroup.group c.in-OfGroup.is c.make_in.ensures.since
+
+pub returns-in_default-clause-since : goal.returns-in_default-clause-since
+returns-in_default-clause-since g c = called_rest c.args.self
