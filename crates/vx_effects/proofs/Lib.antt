@@ -1,4 +1,4 @@
-pub mod Answers
+pub mod TargetAnswers
 pub mod Tests
 pub mod Links
 pub mod Moves

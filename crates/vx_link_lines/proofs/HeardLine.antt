@@ -42,7 +42,7 @@ use Rattle.vx_diskset.specs.Holds.{KeptBeside, beside_of, doubt_of, header_links
 use Rattle.vx_diskset.specs.Keeps.{KeptAt}
 use Rattle.vx_diskset.specs.Stands.{KeepsRole, RoleIs, SiteStands}
 use Rattle.vx_diskset.specs.declared.disk_set.DiskSet.{DiskSet}
-use Rattle.vx_effects.proofs.Answers.{deaf_stays, source_stays, target_stays}
+use Rattle.vx_effects.proofs.TargetAnswers.{deaf_stays, source_stays, target_stays}
 use Rattle.vx_effects.proofs.Fitting.{fit_happened}
 use Rattle.vx_effects.proofs.Leaving.{fit_worked}
 use Rattle.vx_effects.proofs.Packets.{no_header}

@@ -32,7 +32,7 @@ use Rattle.vx_order.specs.declared.facts.LinkFacts.{LinkFacts}
 use Rattle.vx_peers.proofs.Hears.{event_for, link_there, outcome_is}
 use Rattle.vx_peers.specs.Answers.{Listens, is_answer}
 use Rattle.vx_diskset.specs.Holds.{header_links, row_links}
-use Rattle.vx_effects.proofs.Answers.{answer_effect}
+use Rattle.vx_effects.proofs.TargetAnswers.{answer_effect}
 use Rattle.vx_effects.proofs.Fitting.{fit_happened}
 use Rattle.vx_events.specs.Effects.{EffectAt}
 use Rattle.vx_events.specs.LinkedFacts.{link_fact, needed_by}
