@@ -23,10 +23,10 @@ use Rattle.vx_order.specs.declared.facts.RvgFacts.{RvgFacts}
 use Rattle.vx_order.specs.declared.facts.SiteFacts.{SiteFacts}
 use Rattle.vx_events.proofs.Values.{values_from-push}
 use Rattle.vx_events.specs.Effects.{AddsSite, ChangesNode}
-use Rattle.vx_events.specs.Facts.{group_by, group_fact, head_of, site_fact, values_from}
+use Rattle.vx_events.specs.Facts.{group_by, group_fact, head_of, values_from}
 use Rattle.vx_events.specs.GroupLines.{is_over_group}
 use Rattle.vx_events.specs.GroupNotes.{note_at}
-use Rattle.vx_events.specs.LinkedFacts.{link_fact, link_facts, links_by}
+use Rattle.vx_events.specs.LinkedFacts.{link_fact, link_facts, links_by, seen_fact}
 use Rattle.vx_events.specs.LinksFit.{LinksFit}
 use Rattle.vx_events.specs.StepsOver.{fact_of_group, fact_over, facts_over}
 use Rattle.vx_effects.specs.Facts.{down_fact, fact_of, grown_link, grown_links, half_fact, halted_fact, halted_group, last_group, logged_fact, marked_fact, marked_group, over_of, risen_fact}
@@ -57,9 +57,9 @@ values_set {A} f g k (suc n) (suc s) below same =
 
 pub fact_same : (n : Node) (row new : ℕ → Link) (sites : ℕ) → ((k : ℕ) → new k ≡ row k) → fact_of n new sites ≡ fact_of n row sites
 fact_same n row new sites same =
-    ap (λ (ss : List ℕ). let f : SiteFacts = record (site_fact n) { links = links_by n.state (link_facts n new ss) } in f)
+    ap (λ (ss : List ℕ). let f : SiteFacts = record (seen_fact n) { links = links_by n.state (link_facts n new ss) } in f)
     (sites_same row new (λ k. ap (λ (l : Link). l.made) (same k)) sites 0 sites)
-    ∙ ap (λ (fs : List LinkFacts). let f : SiteFacts = record (site_fact n) { links = links_by n.state fs } in f) (facts_same n row new same (linked_sites row sites 0 sites))
+    ∙ ap (λ (fs : List LinkFacts). let f : SiteFacts = record (seen_fact n) { links = links_by n.state fs } in f) (facts_same n row new same (linked_sites row sites 0 sites))
 
 -- and those of one that may be over a group
 pub over_same : (n : Node) (row new : ℕ → Link) (sites : ℕ) → ((k : ℕ) → new k ≡ row k) → over_of n new sites ≡ over_of n row sites
@@ -84,11 +84,11 @@ facts_at s d e c below =
 
 -- ---- a further site
 
-bare_fact : (n : Node) (row : ℕ → Link) (sites : ℕ) → n.state ≡ Bare → fact_of n row sites ≡ site_fact n
+bare_fact : (n : Node) (row : ℕ → Link) (sites : ℕ) → n.state ≡ Bare → fact_of n row sites ≡ seen_fact n
 bare_fact n row sites bare =
-    ap (λ (t : SiteState). let f : SiteFacts = record (site_fact n) { links = links_by t (link_facts n row (linked_sites row sites 0 sites)) } in f) bare
+    ap (λ (t : SiteState). let f : SiteFacts = record (seen_fact n) { links = links_by t (link_facts n row (linked_sites row sites 0 sites)) } in f) bare
 
-pub facts_added : (d e : Doubted) (n : Node) → AddsSite d e n → n.state ≡ Bare → is_over_group n ≡ false → LinksFit d → facts_over e.world ≡ facts_over d.world ++ site_fact n ∷ []
+pub facts_added : (d e : Doubted) (n : Node) → AddsSite d e n → n.state ≡ Bare → is_over_group n ≡ false → LinksFit d → facts_over e.world ≡ facts_over d.world ++ seen_fact n ∷ []
 facts_added d e n adds bare none fit =
     let sites : ℕ = d.world.sites in
     let more : e.world.sites ≡ suc sites = adds.sites ∙ (let one : sites + 1 ≡ suc sites = omega arith in one) in
@@ -107,7 +107,7 @@ facts_added d e n adds bare none fit =
         ap (λ (n : Node). over_of n (e.world.links i) e.world.sites) (adds.nodes i apart)
         ∙ ap (λ (sites : ℕ). over_of m (e.world.links i) sites) adds.sites
         ∙ over_same m row (e.world.links i) (d.world.sites + 1) (λ k. adds.links i k)
-        ∙ ap (λ (ss : List ℕ). if is_over_group m then fact_of_group m (note_at m) else (let f : SiteFacts = record (site_fact m) { links = links_by m.state (link_facts m row ss) } in f)) (sites_further d.world.sites row (fit.rows i).places)
+        ∙ ap (λ (ss : List ℕ). if is_over_group m then fact_of_group m (note_at m) else (let f : SiteFacts = record (seen_fact m) { links = links_by m.state (link_facts m row ss) } in f)) (sites_further d.world.sites row (fit.rows i).places)
 
 -- ---- the facts of a site as its node changes
 

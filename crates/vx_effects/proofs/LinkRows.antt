@@ -15,8 +15,8 @@ use Rattle.vx_history.specs.World.{Link, Node, updated}
 use Rattle.vx_order.specs.declared.facts.LinkFacts.{LinkFacts}
 use Rattle.vx_order.specs.declared.facts.RvgFacts.{RvgFacts}
 use Rattle.vx_order.specs.declared.facts.SiteFacts.{SiteFacts}
-use Rattle.vx_events.specs.Facts.{group_by, site_fact}
-use Rattle.vx_events.specs.LinkedFacts.{link_fact, link_facts, links_by}
+use Rattle.vx_events.specs.Facts.{group_by}
+use Rattle.vx_events.specs.LinkedFacts.{link_fact, link_facts, links_by, seen_fact}
 use Rattle.vx_events.proofs.Steps.{not_made}
 use Rattle.vx_effects.specs.Facts.{fact_of, marked_fact, marked_group}
 use Rattle.vx_effects.specs.LinkParts.{further_fact, joined_fact, joined_group, kept_over}
@@ -167,8 +167,8 @@ module _ (sites : ℕ) (row : ℕ → Link) (s : ℕ) (l : Link) (has : HasPlace
   further_fact_here n up =
       let ss : List ℕ = linked_sites row sites 0 sites in
       let all : link_facts n new (linked_sites new sites 0 sites) ≡ link_facts n row ss ++ link_fact n s l ∷ [] = ap (link_facts n new) sites_more ∙ facts_more n ss not_among in
-      ap (λ (fs : List LinkFacts). let f : SiteFacts = record (site_fact n) { links = links_by n.state fs } in f) all
-      ∙ ap (λ (fs : List LinkFacts). let f : SiteFacts = record (site_fact n) { links = fs } in f)
+      ap (λ (fs : List LinkFacts). let f : SiteFacts = record (seen_fact n) { links = links_by n.state fs } in f) all
+      ∙ ap (λ (fs : List LinkFacts). let f : SiteFacts = record (seen_fact n) { links = fs } in f)
       (ap (λ (t : SiteState). links_by t (link_facts n row ss ++ link_fact n s l ∷ [])) up
       ∙ ap (λ (t : SiteState). links_by t (link_facts n row ss) ++ link_fact n s l ∷ []) (sym up))
 
@@ -197,9 +197,9 @@ pub joined_is : (a n : Node) (p : ℕ) (row : ℕ → Link) (sites : ℕ) → ((
 joined_is a n p row sites free =
     let none : linked_sites row sites 0 sites ≡ [] = none_listed row sites 0 sites (λ j _. no_place row j sites free) in
     let group : Option RvgFacts = group_by n.state (joined a p n) in
-    ap (λ (ss : List ℕ). with_parts (site_fact n) group (links_by n.state (link_facts (joined a p n) row ss))) none
-    ∙ sym (ap (λ (ss : List ℕ). with_parts (site_fact n) group (links_by n.state (link_facts n row ss))) none)
-    ∙ ap (λ (rvg : Option RvgFacts). with_parts (site_fact n) rvg (links_by n.state (link_facts n row (linked_sites row sites 0 sites)))) (joins_group a n p n.state)
+    ap (λ (ss : List ℕ). with_parts (seen_fact n) group (links_by n.state (link_facts (joined a p n) row ss))) none
+    ∙ sym (ap (λ (ss : List ℕ). with_parts (seen_fact n) group (links_by n.state (link_facts n row ss))) none)
+    ∙ ap (λ (rvg : Option RvgFacts). with_parts (seen_fact n) rvg (links_by n.state (link_facts n row (linked_sites row sites 0 sites)))) (joins_group a n p n.state)
 
 -- ---- a site that is marked
 
@@ -216,5 +216,5 @@ marks_links n mark row (s ∷ ss) = ap (λ (fs : List LinkFacts). link_fact n s 
 pub marked_shows : (n : Node) (row : ℕ → Link) (sites : ℕ) (mark : Mark) → fact_of (record n { mark = mark }) row sites ≡ marked_fact mark (fact_of n row sites)
 marked_shows n row sites mark =
     let ss : List ℕ = linked_sites row sites 0 sites in
-    ap (λ (fs : List LinkFacts). with_parts (site_fact n) (group_by n.state (record n { mark = mark })) (links_by n.state fs)) (marks_links n mark row ss)
-    ∙ ap (λ (rvg : Option RvgFacts). with_parts (site_fact n) rvg (links_by n.state (link_facts n row ss))) (marks_group n mark n.state)
+    ap (λ (fs : List LinkFacts). with_parts (seen_fact n) (group_by n.state (record n { mark = mark })) (links_by n.state fs)) (marks_links n mark row ss)
+    ∙ ap (λ (rvg : Option RvgFacts). with_parts (seen_fact n) rvg (links_by n.state (link_facts n row ss))) (marks_group n mark n.state)

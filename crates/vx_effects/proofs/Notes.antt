@@ -14,10 +14,10 @@ use Rattle.vx_order.specs.declared.facts.SiteFacts.{SiteFacts}
 use Rattle.vx_model.specs.declared.site.SiteState.{SiteState}
 use Rattle.vx_model.specs.declared.site.SiteState.TheVariants.{Bare, Up, Deported, Down}
 use Rattle.vx_events.specs.Effects.{EffectAt}
-use Rattle.vx_events.specs.Facts.{group_by, site_fact, values_from}
+use Rattle.vx_events.specs.Facts.{group_by, values_from}
 use Rattle.vx_events.specs.GroupLines.{is_over_group}
 use Rattle.vx_events.specs.GroupNotes.{note_at}
-use Rattle.vx_events.specs.LinkedFacts.{link_fact, link_facts, links_by}
+use Rattle.vx_events.specs.LinkedFacts.{link_fact, link_facts, links_by, seen_fact}
 use Rattle.vx_events.specs.LinksFit.{LinksFit}
 use Rattle.vx_events.specs.StepsOver.{fact_of_group, fact_over, facts_over}
 use Rattle.vx_effects.specs.Facts.{fact_of, over_of}
@@ -41,8 +41,8 @@ group_burnt n Down = refl
 fact_burnt : (n : Node) (row : ℕ → Link) (sites : ℕ) → fact_of (worked n) row sites ≡ fact_of n row sites
 fact_burnt n row sites =
     let ss : List ℕ = linked_sites row sites 0 sites in
-    ap (λ (fs : List LinkFacts). with_parts (site_fact n) (group_by n.state (worked n)) (links_by n.state fs)) (links_burnt n row ss)
-    ∙ ap (λ (rvg : Option RvgFacts). with_parts (site_fact n) rvg (links_by n.state (link_facts n row ss))) (group_burnt n n.state)
+    ap (λ (fs : List LinkFacts). with_parts (seen_fact n) (group_by n.state (worked n)) (links_by n.state fs)) (links_burnt n row ss)
+    ∙ ap (λ (rvg : Option RvgFacts). with_parts (seen_fact n) rvg (links_by n.state (link_facts n row ss))) (group_burnt n n.state)
 
 values_alike : {A : Type 0} (f g : ℕ → A) (k n : ℕ) → ((i : ℕ) → g i ≡ f i) → values_from g k n ≡ values_from f k n
 values_alike f g k zero same = refl

@@ -25,8 +25,8 @@ use Rattle.vx_order.specs.declared.facts.LinkFacts.{LinkFacts}
 use Rattle.vx_order.specs.declared.facts.RvgFacts.{RvgFacts}
 use Rattle.vx_order.specs.declared.facts.SiteFacts.{SiteFacts}
 use Rattle.vx_events.specs.Effects.{EffectAt}
-use Rattle.vx_events.specs.Facts.{group_by, group_fact, head_of, site_fact}
-use Rattle.vx_events.specs.LinkedFacts.{link_fact, link_facts, links_by}
+use Rattle.vx_events.specs.Facts.{group_by, group_fact, head_of}
+use Rattle.vx_events.specs.LinkedFacts.{link_fact, link_facts, links_by, seen_fact}
 use Rattle.vx_effects.specs.Facts.{fact_of, last_group, received_fact}
 use Rattle.vx_effects.proofs.Fitting.{updated_other}
 
@@ -160,5 +160,5 @@ group_received n source x Down receives = refl
 pub received_is : (n : Node) (row : ℕ → Link) (sites source : ℕ) (x : Write) → is_origin n.role ≡ false → (fact_of n row sites).links ≡ [] → fact_of (with_write n source x) row sites ≡ received_fact (length n.log + 1) (fact_of n row sites)
 received_is n row sites source x receives none =
     let ss : List ℕ = linked_sites row sites 0 sites in
-    ap (λ (ls : List LinkFacts). let f : SiteFacts = record (site_fact (with_write n source x)) { links = ls } in f) (none_shown n (with_write n source x) row ss n.state none)
+    ap (λ (ls : List LinkFacts). let f : SiteFacts = record (seen_fact (with_write n source x)) { links = ls } in f) (none_shown n (with_write n source x) row ss n.state none)
     ∙ ap (λ (g : Option RvgFacts). let f : SiteFacts = record (fact_of n row sites) { rvg = g } in f) (group_received n source x n.state receives)

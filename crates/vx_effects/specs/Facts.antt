@@ -8,15 +8,15 @@ use Rattle.vx_model.specs.declared.site.SiteState.TheVariants.{Down, Up}
 use Rattle.vx_order.specs.declared.facts.LinkFacts.{LinkFacts}
 use Rattle.vx_order.specs.declared.facts.RvgFacts.{RvgFacts}
 use Rattle.vx_order.specs.declared.facts.SiteFacts.{SiteFacts}
-use Rattle.vx_events.specs.Facts.{group_fact, site_fact}
+use Rattle.vx_events.specs.Facts.{group_fact}
 use Rattle.vx_events.specs.GroupLines.{is_over_group}
 use Rattle.vx_events.specs.GroupNotes.{note_at}
-use Rattle.vx_events.specs.LinkedFacts.{link_facts, links_by}
+use Rattle.vx_events.specs.LinkedFacts.{link_facts, links_by, seen_fact}
 use Rattle.vx_events.specs.StepsOver.{fact_of_group}
 
 -- the facts of a site by its node, its links and how many sites there are
 abbrev pub fact_of : Node → (row : ℕ → Link) → (sites : ℕ) → SiteFacts
-fact_of n row sites = record (site_fact n) { links = links_by n.state (link_facts n row (linked_sites row sites 0 sites)) }
+fact_of n row sites = record (seen_fact n) { links = links_by n.state (link_facts n row (linked_sites row sites 0 sites)) }
 
 -- the same of a site that may be over a group
 abbrev pub over_of : Node → (row : ℕ → Link) → (sites : ℕ) → SiteFacts

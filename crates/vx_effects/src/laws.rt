@@ -34,11 +34,10 @@ ghost use Rattle.vx_events.specs.GroupEnds.{GroupEnds};
 ghost use Rattle.vx_events.specs.GroupLines.{MakesNoFailure, is_over_group};
 ghost use Rattle.vx_events.specs.declared.said.Said.{Said};
 ghost use Rattle.vx_events.specs.Ends.{IsLeft, found_linked};
-ghost use Rattle.vx_events.specs.Facts.{site_fact};
 ghost use Rattle.vx_events.specs.Found.{ComesUpAs};
 ghost use Rattle.vx_events.specs.LinkEnds.{AreLeft};
 ghost use Rattle.vx_events.specs.LinkFinds.{FindsOther};
-ghost use Rattle.vx_events.specs.LinkedFacts.{link_facts};
+ghost use Rattle.vx_events.specs.LinkedFacts.{link_facts, seen_fact};
 ghost use Rattle.vx_events.specs.StepsOver.{fact_over, facts_over};
 ghost use Rattle.vx_events.specs.LinksFit.{LinksFit, RowFits};
 ghost use Rattle.vx_events.specs.Stamps.{waiting_of};
@@ -143,7 +142,7 @@ pub fn writes_change_no_link()
 /// What the tests of a line see of a world that an event at one site left differs in the facts of that site alone, and those follow from the ones before.
 pub fn shows_one_site()
     ensures others { (s : ℕ) (d e : Doubted) → ChangesNode s d e → s < d.world.sites → facts_over e.world ≡ slice_set (facts_over d.world) s (fact_over e.world s) }
-    ensures added { (d e : Doubted) (n : Node) → AddsSite d e n → n.state ≡ Bare → is_over_group n ≡ false → LinksFit d → facts_over e.world ≡ facts_over d.world ++ site_fact n ∷ [] }
+    ensures added { (d e : Doubted) (n : Node) → AddsSite d e n → n.state ≡ Bare → is_over_group n ≡ false → LinksFit d → facts_over e.world ≡ facts_over d.world ++ seen_fact n ∷ [] }
     ensures logged { (n : Node) (row : ℕ → Link) (sites : ℕ) (x : LogWrite) → is_origin n.role ≡ true → length n.log ≡ n.safe
         → fact_of (logged n x) row sites ≡ logged_fact (n.safe + 1) (blocks_in x.bytes + 1) (fact_of n row sites) }
     ensures half { (n : Node) (row : ℕ → Link) (sites : ℕ) (x : LogWrite) (disk : ℕ) → is_origin n.role ≡ true → length n.log ≡ n.safe

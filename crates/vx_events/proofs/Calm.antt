@@ -10,20 +10,13 @@ use Rattle.vx_history.specs.Doubts.{After, Doubted, crashed_by, happened, resolv
 use Rattle.vx_history.specs.Step.{step, run}
 use Rattle.vx_history.specs.World.{World}
 use Rattle.vx_history.specs.declared.event.Event.{Event}
-use Rattle.vx_order.specs.Order.{line_refusal}
-use Rattle.vx_order.specs.declared.facts.SiteFacts.{SiteFacts}
 use Rattle.vx_report.specs.declared.view.LinkView.{LinkView}
 use Rattle.vx_report.specs.declared.view.SiteView.{SiteView}
 use Rattle.vx_script.specs.declared.line.ScriptLine.{ScriptLine}
-use Rattle.vx_script.specs.declared.line.ScriptLine.TheVariants.{Deliver}
-use Rattle.vx_events.proofs.LinkTesting.{no_links_seen}
 use Rattle.vx_events.proofs.Steps.{no_sites}
 use Rattle.vx_events.specs.Doubts.{sure, doubt_chosen, run_as}
 use Rattle.vx_events.specs.Ends.{IsLeft, noted}
-use Rattle.vx_events.specs.Facts.{facts_of}
 use Rattle.vx_events.specs.LinkViews.{link_views, linked_view, views_by}
-use Rattle.vx_events.specs.LinkedFacts.{refused_by}
-use Rattle.vx_events.specs.Lines.{is_of_links}
 use Rattle.vx_events.specs.Plain.{IsUnlinked}
 use Rattle.vx_events.specs.Sent.{sent_between}
 use Rattle.vx_events.specs.Stamps.{most_stamp, most_stamp_at}
@@ -83,13 +76,6 @@ none_sent w new same =
     let many : length new.packets ≡ length w.packets = ap (λ ps. length ps) same in
     ap (λ (n : ℕ). if nat_lt (length w.packets) n then Some (suc (length w.packets), n) else None) many
     ∙ ap (λ (b : Bool). if b then Some (suc (length w.packets), length w.packets) else None) (not_more (length w.packets))
-
--- ---- refusals
-
--- a line that is none of links is refused by what the tests see without links
-pub refused_same : (w : World) (files : Bool) (line : ScriptLine) → IsUnlinked w → is_of_links line ≡ false → refused_by w files line ≡ line_refusal (facts_of w) files line
-refused_same w files (Deliver number) none is = absurd (cc)
-refused_same w files other none is = ap (λ (fs : List SiteFacts). line_refusal fs files other) (no_links_seen w none)
 
 -- ---- numbers
 

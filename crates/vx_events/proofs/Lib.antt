@@ -2,11 +2,11 @@ pub mod Agreeing
 pub mod Bearing
 pub mod Blocks
 pub mod Calm
+pub mod DataNamed
 pub mod GroupStopping
 pub mod RvgStopping
 pub mod RvgEnding
 pub mod RvgEvents
-pub mod RvgSeats
 pub mod RvgFull
 pub mod RvgGains
 pub mod RvgKnown

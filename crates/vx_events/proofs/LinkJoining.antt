@@ -50,6 +50,16 @@ use Rattle.vx_events.proofs.OverSeats.{apart_shown, fact_apart}
 use Rattle.vx_events.proofs.Passing.{off, is_site, above}
 use Rattle.vx_events.proofs.Refused.{passes, when_none, not_false, running_by}
 use Rattle.vx_events.proofs.Testing.{none_under}
+use Rattle.vx_config.specs.declared.config.Config.{Config}
+use Rattle.vx_order.specs.declared.facts.VolumeKind.TheVariants.{Map, Plain, Srl}
+use Rattle.vx_model.specs.declared.units.Units.{Units}
+use Rattle.vx_config.specs.declared.entry.VolumeEntry.{VolumeEntry}
+use Rattle.vx_order.specs.declared.facts.VolumeFacts.{VolumeFacts}
+use Rattle.vx_events.specs.GroupViews.{config_of, plain_fact}
+use Rattle.vx_events.specs.RvgViews.{data_facts, data_units, is_data_unit, is_over_rvg, kind_at, kinded, others_by, others_from, others_of, over_table, table_at, unless_data}
+use Rattle.vx_events.specs.RvgFits.{entries_noted, rvg_noted}
+use Rattle.vx_order.specs.Calls.{is_data}
+use Rattle.vx_events.specs.GroupNotes.{note_at}
 
 none_of : (k : ℕ) → (k == 0) ≡ true → k ≡ 0
 none_of k e = grind (arith, nat_tests)
@@ -108,7 +118,57 @@ length-link_facts n row (s ∷ ss) = ap suc (length-link_facts n row ss)
 
 -- ---- volumes and rings
 
-sizes_same : (xs ys : List Volume) → same_sizes (data_sizes (map volume_fact xs)) (data_sizes (map volume_fact ys)) ≡ agree xs ys
+-- the blocks of volumes
+abbrev sizes_of : List Volume → List ℕ
+sizes_of [] = []
+sizes_of (x ∷ xs) = x.blocks ∷ sizes_of xs
+
+-- those of the data volumes that the tests see of a site
+raw_sizes : (xs : List Volume) → data_sizes (map volume_fact xs) ≡ sizes_of xs
+raw_sizes [] = refl
+raw_sizes (x ∷ xs) = ap (λ (ns : List ℕ). x.blocks ∷ ns) (raw_sizes xs)
+
+other_kind : (units : Units) (place : ℕ) → is_data (kind_at units place) ≡ false
+other_kind units place = by (place == units.srl) (place == units.maps)
+  where
+    by : (a b : Bool) → is_data (if a then Srl else if b then Map else Plain) ≡ false
+    by true b = refl
+    by false true = refl
+    by false false = refl
+
+others_none : (units : Units) (place : ℕ) (vs : List VolumeEntry) → data_sizes (others_from units place vs) ≡ []
+others_none units place [] = refl
+others_none units place (v ∷ vs) = by (is_data_unit units.vols place)
+  where
+    by : (b : Bool) → data_sizes (unless_data b (kinded units place v) (others_from units (place + 1) vs)) ≡ []
+    by true = others_none units (place + 1) vs
+    by false = ap (λ (c : Bool). if c then v.blocks ∷ data_sizes (others_from units (place + 1) vs) else data_sizes (others_from units (place + 1) vs)) (other_kind units place) ∙ others_none units (place + 1) vs
+
+plain_none : (vs : List VolumeEntry) → data_sizes (map plain_fact vs) ≡ []
+plain_none [] = refl
+plain_none (v ∷ vs) = plain_none vs
+
+no_data : (o : Option Config) → data_sizes (others_of o) ≡ []
+no_data None = refl
+no_data (Some c) = by c.rvg
+  where
+    by : (u : Option Units) → data_sizes (others_by u c.volumes) ≡ []
+    by None = plain_none c.volumes
+    by (Some units) = others_none units 0 c.volumes
+
+over_sizes : (vs : List VolumeEntry) (places : List ℕ) (xs : List Volume) (others : List VolumeFacts) → data_sizes others ≡ [] → data_sizes (data_facts vs places xs ++ others) ≡ sizes_of xs
+over_sizes vs places [] others none = none
+over_sizes vs [] (x ∷ xs) others none = ap (λ (ns : List ℕ). x.blocks ∷ ns) (over_sizes vs [] xs others none)
+over_sizes vs (p ∷ places) (x ∷ xs) others none = ap (λ (ns : List ℕ). x.blocks ∷ ns) (over_sizes vs places xs others none)
+
+table_sizes : (n : Node) → data_sizes (table_at n) ≡ sizes_of n.volumes
+table_sizes n = by (is_over_rvg n)
+  where
+    by : (b : Bool) → data_sizes (if b then over_table n (note_at n) else map volume_fact n.volumes) ≡ sizes_of n.volumes
+    by true = over_sizes (entries_noted (note_at n)) (data_units (rvg_noted (note_at n))) n.volumes (others_of (config_of (note_at n).config)) (no_data (config_of (note_at n).config))
+    by false = raw_sizes n.volumes
+
+sizes_same : (xs ys : List Volume) → same_sizes (sizes_of xs) (sizes_of ys) ≡ agree xs ys
 sizes_same [] [] = refl
 sizes_same [] (y ∷ ys) = refl
 sizes_same (x ∷ xs) [] = refl
@@ -118,7 +178,7 @@ more_than_none : (n : ℕ) → eqb (suc n) 0 ≡ false
 more_than_none n = grind (arith, nat_tests)
 
 sizes_meet_so : (xs ys : List Volume)
-    → (is_some (slice_get (data_sizes (map volume_fact xs)) 0) && same_sizes (data_sizes (map volume_fact xs)) (data_sizes (map volume_fact ys))) ≡ sizes_meet xs ys
+    → (is_some (slice_get (sizes_of xs) 0) && same_sizes (sizes_of xs) (sizes_of ys)) ≡ sizes_meet xs ys
 sizes_meet_so [] ys = refl
 sizes_meet_so (x ∷ xs) ys = sizes_same (x ∷ xs) ys ∙ sym (ap (λ (b : Bool). not b && agree (x ∷ xs) ys) (more_than_none (length xs)))
 
@@ -224,7 +284,10 @@ module _ (w : World) (whole : AreDurable w) (listed : AreListed w) (p s : List �
   fits_here : (volumes_agree (Some (linked_fact w a)) (Some (linked_fact w b)) && ring_fits (rvg_of (Some (linked_fact w a))) (rvg_of (Some (linked_fact w b)))) ≡ true
       → (sizes_meet (w.nodes a).volumes (w.nodes b).volumes && history.rings_fit (w.nodes a) (w.nodes b)) ≡ true
   fits_here e =
-      ap (λ (c : Bool). c && history.rings_fit (w.nodes a) (w.nodes b)) (sym (sizes_meet_so (w.nodes a).volumes (w.nodes b).volumes))
+      ap (λ (c : Bool). c && history.rings_fit (w.nodes a) (w.nodes b))
+      (sym (sizes_meet_so (w.nodes a).volumes (w.nodes b).volumes)
+      ∙ ap (λ (ns : List ℕ). is_some (slice_get ns 0) && same_sizes ns (sizes_of (w.nodes b).volumes)) (sym (table_sizes (w.nodes a)))
+      ∙ ap (λ (ns : List ℕ). is_some (slice_get (data_sizes (table_at (w.nodes a))) 0) && same_sizes (data_sizes (table_at (w.nodes a))) ns) (sym (table_sizes (w.nodes b))))
       ∙ subst (λ (o : Option RvgFacts). (volumes_agree (Some (linked_fact w a)) (Some (linked_fact w b)) && ring_fits o (Some (group_fact (w.nodes b)))) ≡ true) here.group
       (subst (λ (o : Option RvgFacts). (volumes_agree (Some (linked_fact w a)) (Some (linked_fact w b)) && ring_fits (rvg_of (Some (linked_fact w a))) o) ≡ true) there.group e)
 

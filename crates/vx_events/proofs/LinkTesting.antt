@@ -20,9 +20,9 @@ use Rattle.vx_order.specs.Links.{place_named, link_to, link_towards}
 use Rattle.vx_order.specs.Sending.{not_linked}
 use Rattle.vx_order.specs.Sites.{site_named, unknown_one, site_off, rvg_of, halted_one}
 use Rattle.vx_order.specs.Tests.{when}
-use Rattle.vx_events.specs.Facts.{site_fact, facts_of, values_from, site_number, group_fact, group_by}
+use Rattle.vx_events.specs.Facts.{values_from, site_number, group_fact, group_by}
 use Rattle.vx_events.specs.GroupLines.{is_over_group}
-use Rattle.vx_events.specs.LinkedFacts.{link_fact, link_facts, links_by, links_of_site, linked_fact, linked_facts}
+use Rattle.vx_events.specs.LinkedFacts.{link_fact, link_facts, links_by, links_of_site, linked_fact, linked_facts, seen_fact, seen_facts}
 use Rattle.vx_events.specs.Plain.{IsUnlinked}
 use Rattle.vx_events.specs.StepsOver.{fact_over, facts_over}
 use Rattle.vx_events.proofs.OverSeats.{apart_shown, fact_apart, seats_over}
@@ -169,16 +169,16 @@ nothing_shown Up = refl
 nothing_shown Deported = refl
 nothing_shown Down = refl
 
-fact_same : (w : World) → IsUnlinked w → (i : ℕ) → linked_fact w i ≡ site_fact (w.nodes i)
+fact_same : (w : World) → IsUnlinked w → (i : ℕ) → linked_fact w i ≡ seen_fact (w.nodes i)
 fact_same w none i =
-    ap (λ (ls : List LinkFacts). let f : SiteFacts = record (site_fact (w.nodes i)) { links = ls } in f)
+    ap (λ (ls : List LinkFacts). let f : SiteFacts = record (seen_fact (w.nodes i)) { links = ls } in f)
     (ap (λ (ss : List ℕ). links_by (w.nodes i).state (link_facts (w.nodes i) (w.links i) ss)) (no_sites (w.links i) w.sites 0 w.sites (none.none i)) ∙ nothing_shown (w.nodes i).state)
 
-facts_same : (w : World) → IsUnlinked w → (k n : ℕ) → values_from (λ i. linked_fact w i) k n ≡ values_from (λ i. site_fact (w.nodes i)) k n
+facts_same : (w : World) → IsUnlinked w → (k n : ℕ) → values_from (λ i. linked_fact w i) k n ≡ values_from (λ i. seen_fact (w.nodes i)) k n
 facts_same w none k zero = refl
 facts_same w none k (suc n) =
     ap (λ (f : SiteFacts). f ∷ values_from (λ i. linked_fact w i) (k + 1) n) (fact_same w none k)
-    ∙ ap (λ (fs : List SiteFacts). site_fact (w.nodes k) ∷ fs) (facts_same w none (k + 1) n)
+    ∙ ap (λ (fs : List SiteFacts). seen_fact (w.nodes k) ∷ fs) (facts_same w none (k + 1) n)
 
-pub no_links_seen : (w : World) → IsUnlinked w → linked_facts w ≡ facts_of w
+pub no_links_seen : (w : World) → IsUnlinked w → linked_facts w ≡ seen_facts w
 no_links_seen w none = facts_same w none 0 w.sites

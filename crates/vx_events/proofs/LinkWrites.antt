@@ -1,6 +1,6 @@
 -- A write that no test refuses is let in by the links of its site.
 use Rattle.std.proofs.Common.{◌≡◌, ◌∙◌, ◌+◌, ◌≤◌, ℕ, List, [], ◌∷◌, length, zip, Bool, true, false, ap, sym, subst, refl, arith}
-use Rattle.std.specs.Prelude.{Option, Some, None, ◌&&◌, ◌*◌, ltb, nat_le, replicate, if◌then◌else◌, bytes_eq}
+use Rattle.std.specs.Prelude.{Option, Some, None, ◌&&◌, ◌*◌, ltb, nat_le, replicate, if◌then◌else◌}
 use Rattle.std.proofs.lemmas.Bool.Decides.{nat_tests}
 use Rattle.vx_model.specs.Content.{blocks_in}
 use Rattle.vx_model.specs.Sites.{is_up}
@@ -20,7 +20,7 @@ use Rattle.vx_order.specs.declared.facts.VolumeKind.TheVariants.{Data}
 use Rattle.vx_order.specs.declared.span.Span.{Span}
 use Rattle.vx_order.specs.declared.span.Way.{Way}
 use Rattle.vx_order.specs.declared.span.Way.TheVariants.{Writes}
-use Rattle.vx_order.specs.Calls.{is_data, is_write, span_unknown, span_size}
+use Rattle.vx_order.specs.Calls.{call_role, is_data, is_write, span_role, span_unknown, span_size}
 use Rattle.vx_order.specs.Holding.{record_size, down_link, held_down, span_down, with_name, full_link, full_in, held_full, span_full}
 use Rattle.vx_order.specs.Links.{site_name}
 use Rattle.vx_order.specs.Sites.{site_named, volume_of, rvg_of}
@@ -37,7 +37,10 @@ use Rattle.vx_events.proofs.LinkTesting.{seat_at}
 use Rattle.vx_events.proofs.OverSeats.{fact_apart}
 use Rattle.vx_events.proofs.Refused.{passes}
 use Rattle.vx_events.proofs.RefusedCalls.{Calling, calling, sized}
-use Rattle.vx_events.proofs.Testing.{found_data, blocks_filled}
+use Rattle.vx_events.proofs.Testing.{blocks_filled}
+use Rattle.vx_events.proofs.DataNamed.{written_kind}
+use Rattle.vx_events.specs.RvgOver.{is_plain_kind, kind_named}
+use Rattle.vx_events.specs.RvgViews.{is_over_rvg}
 
 -- a link that needs nothing of the log is held by no room
 held_needed : (need room : ℕ) (l : PlainLink) (used : ℕ) → held_by_room need room l (if is_holding l then used else 0) ≡ held_by_room need room l used
@@ -81,8 +84,20 @@ record_is volume span way kind few =
     ∙ ap (λ (k : VolumeKind). if is_data k && nat_le span.count 16 then Some (span.count + 1) else None) kind
     ∙ ap (λ (b : Bool). if b then Some (span.count + 1) else None) short
 
+-- the volume of a write that none of the tests refuses
+data_in : (w : World) (name : List ℕ) (span : Span) → span.way ≡ Writes → site_named (facts_over w) name ≡ Some (linked_fact w (site_number w name)) → (c : Calling (linked_fact w (site_number w name)) span)
+    → (is_over_rvg (w.nodes (site_number w name)) ≡ true → is_plain_kind (kind_named (w.nodes (site_number w name)) span.volume) ≡ false)
+    → span_role (site_named (facts_over w) name) (Some span) ≡ None → c.volume.kind ≡ Data
+data_in w name span way found c plain role =
+    let f : SiteFacts = linked_fact w (site_number w name) in
+    let here : call_role (rvg_of (Some f)) (volume_of (Some f) span.volume) span.way ≡ None = subst (λ (o : Option SiteFacts). span_role o (Some span) ≡ None) found role in
+    let named : call_role (rvg_of (Some f)) (Some c.volume) span.way ≡ None = subst (λ (o : Option VolumeFacts). call_role (rvg_of (Some f)) o span.way ≡ None) c.volume_is here in
+    written_kind (w.nodes (site_number w name)) span.volume c.volume (rvg_of (Some f)) c.found
+    (subst (λ (y : Way). call_role (rvg_of (Some f)) (Some c.volume) y ≡ None) way named) plain
+
 -- a site that is up, and the run of blocks of a write that none of its tests refuses
-module _ (w : World) (name : List ℕ) (span : Span) (way : span.way ≡ Writes) (found : site_named (facts_over w) name ≡ Some (linked_fact w (site_number w name))) (c : Calling (linked_fact w (site_number w name)) span) (few : span.count ≤ 16)
+module _ (w : World) (name : List ℕ) (span : Span) (way : span.way ≡ Writes) (found : site_named (facts_over w) name ≡ Some (linked_fact w (site_number w name))) (c : Calling (linked_fact w (site_number w name)) span)
+    (kind : c.volume.kind ≡ Data) (few : span.count ≤ 16)
     (down : span_down (facts_over w) (site_named (facts_over w) name) (Some span) ≡ None) (full : span_full (facts_over w) (site_named (facts_over w) name) (Some span) ≡ None) where
   abbrev a : ℕ
   a = site_number w name
@@ -96,7 +111,7 @@ module _ (w : World) (name : List ℕ) (span : Span) (way : span.way ≡ Writes)
   record_there : record_size (volume_of (Some (linked_fact w a)) span.volume) span ≡ Some (span.count + 1)
   record_there =
       ap (λ (o : Option VolumeFacts). record_size o span) c.volume_is
-      ∙ record_is c.volume span way (found_data (λ (v : VolumeFacts). bytes_eq v.name span.volume) n.volumes c.volume c.found) few
+      ∙ record_is c.volume span way kind few
 
   none_down : first_down (plain_links (w.links a) ss) ≡ None
   none_down =
@@ -121,26 +136,28 @@ module _ (w : World) (name : List ℕ) (span : Span) (way : span.way ≡ Writes)
             ∙ ap (λ (o : Option Held). unless_held o (Goes all)) none_full,
       )
 
-pub write_let_in : (w : World) (files : Bool) (name volume : List ℕ) (start count fill : ℕ) → is_over_group (w.nodes (site_number w name)) ≡ false → refused_over w files (Write name volume start count fill) ≡ None
+pub write_let_in : (w : World) (files : Bool) (name volume : List ℕ) (start count fill : ℕ) → is_over_group (w.nodes (site_number w name)) ≡ false
+    → (is_over_rvg (w.nodes (site_number w name)) ≡ true → is_plain_kind (kind_named (w.nodes (site_number w name)) volume) ≡ false) → refused_over w files (Write name volume start count fill) ≡ None
     → (cs : List Change) × (admitted w (site_number w name) (write_in w name volume start (replicate (512 * count) fill)) ≡ Goes cs)
 unfolding first_name span_of halt_of
-write_let_in w files name volume start count fill apart free =
+write_let_in w files name volume start count fill apart plain free =
     let p = passes (facts_over w) files (Write name volume start count fill) free in
     let span : Span = record { volume = volume; start = start; count = count; way = Writes } in
     let found : site_named (facts_over w) name ≡ Some (linked_fact w (site_number w name)) =
     (seat_at w name p.known).found ∙ ap (λ (f : SiteFacts). Some f) (fact_apart w (site_number w name) apart) in
     let c = calling (linked_fact w (site_number w name)) span (subst (λ (o : Option SiteFacts). span_unknown o (Some span) ≡ None) found p.volume) in
-    let_in w name span refl found c (sized (rvg_of (Some (linked_fact w (site_number w name)))) (volume_of (Some (linked_fact w (site_number w name))) span.volume) span (subst (λ (o : Option SiteFacts). span_size o (Some span) ≡ None) found p.call_size)).few p.call_up p.call_room
+    let_in w name span refl found c (data_in w name span refl found c plain p.call_role) (sized (rvg_of (Some (linked_fact w (site_number w name)))) (volume_of (Some (linked_fact w (site_number w name))) span.volume) span (subst (λ (o : Option SiteFacts). span_size o (Some span) ≡ None) found p.call_size)).few p.call_up p.call_room
     (replicate (512 * count) fill) (blocks_filled count fill)
 
-pub put_let_in : (w : World) (files : Bool) (name volume : List ℕ) (start : ℕ) (bytes : List ℕ) → is_over_group (w.nodes (site_number w name)) ≡ false → refused_over w files (Put name volume start bytes) ≡ None → length bytes ≡ 512
+pub put_let_in : (w : World) (files : Bool) (name volume : List ℕ) (start : ℕ) (bytes : List ℕ) → is_over_group (w.nodes (site_number w name)) ≡ false
+    → (is_over_rvg (w.nodes (site_number w name)) ≡ true → is_plain_kind (kind_named (w.nodes (site_number w name)) volume) ≡ false) → refused_over w files (Put name volume start bytes) ≡ None → length bytes ≡ 512
     → (cs : List Change) × (admitted w (site_number w name) (write_in w name volume start bytes) ≡ Goes cs)
 unfolding first_name span_of halt_of
-put_let_in w files name volume start bytes apart free one =
+put_let_in w files name volume start bytes apart plain free one =
     let p = passes (facts_over w) files (Put name volume start bytes) free in
     let span : Span = record { volume = volume; start = start; count = 1; way = Writes } in
     let found : site_named (facts_over w) name ≡ Some (linked_fact w (site_number w name)) =
     (seat_at w name p.known).found ∙ ap (λ (f : SiteFacts). Some f) (fact_apart w (site_number w name) apart) in
     let c = calling (linked_fact w (site_number w name)) span (subst (λ (o : Option SiteFacts). span_unknown o (Some span) ≡ None) found p.volume) in
-    let_in w name span refl found c (sized (rvg_of (Some (linked_fact w (site_number w name)))) (volume_of (Some (linked_fact w (site_number w name))) span.volume) span (subst (λ (o : Option SiteFacts). span_size o (Some span) ≡ None) found p.call_size)).few p.call_up p.call_room
+    let_in w name span refl found c (data_in w name span refl found c plain p.call_role) (sized (rvg_of (Some (linked_fact w (site_number w name)))) (volume_of (Some (linked_fact w (site_number w name))) span.volume) span (subst (λ (o : Option SiteFacts). span_size o (Some span) ≡ None) found p.call_size)).few p.call_up p.call_room
     bytes (omega (arith, one))

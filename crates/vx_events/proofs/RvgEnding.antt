@@ -263,7 +263,7 @@ module _ (told : Type 0) (is_told : told) (d : Doubted) (s : ℕ) (bright : (not
   takes_or : (line : ScriptLine) → OpensFor d.world line → TakesOr told d line s fails said new → RvgStops d new ⊎ RvgFinds told d line s fails said new
   takes_or (GroupImport site) opens ends = back_or (GroupImport site) ends
   takes_or (Recover site) opens ends = back_or (Recover site) ends
-  takes_or other opens ends = inl (shows_or (is_inside (note_at (d.world.nodes s)) other) other opens ends)
+  takes_or other opens ends = inl (shows_or (is_inside (d.world.nodes s) other) other opens ends)
 
   by_place : (below : Bool) (line : ScriptLine) → OpensFor d.world line → OverRvgBy below told d line s fails said new
       → RvgStops d new ⊎ RvgFinds told d line s fails said new
@@ -275,7 +275,7 @@ module _ (told : Type 0) (is_told : told) (d : Doubted) (s : ℕ) (bright : (not
 
   -- the line ended as events do, or found something on disks of which nothing is known
   pub stops_or_finds : (line : ScriptLine) → OpensFor d.world line → OverRvg told d line s fails said new → RvgStops d new ⊎ RvgFinds told d line s fails said new
-  stops_or_finds line opens ends = by_place (is_below (note_at (d.world.nodes s)) line) line opens ends
+  stops_or_finds line opens ends = by_place (is_below (d.world.nodes s) line) line opens ends
 
   pub over_rvg_stops : (line : ScriptLine) → (BringsUp line → AgreesOr (note_at (d.world.nodes s)) (note_at (new.world.nodes s))) → OpensFor d.world line
       → OverRvg told d line s fails said new → RvgStops d new

@@ -12,7 +12,8 @@ use Rattle.vx_events.proofs.LinkStopping.{link_stops}
 use Rattle.vx_events.proofs.Noting.{same_like}
 use Rattle.vx_events.proofs.RvgEnding.{back_stops, finds_stops, links_over_stop, opens_at, over_rvg_stops}
 use Rattle.vx_events.proofs.RvgFull.{brings_found}
-use Rattle.vx_events.proofs.RvgSeats.{put_full, write_full}
+use Rattle.vx_events.proofs.RefusedCalls.{put_may, write_may}
+use Rattle.vx_events.proofs.Stopping.{writes_open}
 use Rattle.vx_events.proofs.RvgStopping.{rvg_stops, same_doubted}
 use Rattle.vx_events.proofs.Stopping.{ended}
 use Rattle.vx_events.specs.Facts.{site_number}
@@ -24,10 +25,10 @@ use Rattle.vx_events.specs.Lines.{EndsBy, IsRefusedLine, is_of_links}
 use Rattle.vx_events.specs.RvgLinks.{links_rvg}
 use Rattle.vx_events.specs.RvgMakes.{RvgStops}
 use Rattle.vx_events.specs.RvgOver.{OpensFor}
-use Rattle.vx_events.specs.RvgSteps.{AgreeFor, AsBefore, FoundOne, FullBy, Gained, StepFull, WorksAbove, WorksBeside, WorksFull, is_for_rvg, refused_full, rvg_place}
+use Rattle.vx_events.specs.RvgSteps.{AgreeFor, AsBefore, FoundOne, FullBy, Gained, StepFull, WorksAbove, WorksBeside, WorksFull, is_for_rvg, rvg_place}
 use Rattle.vx_events.specs.RvgViews.{is_over_rvg}
 use Rattle.vx_events.specs.RvgWorks.{AgreesOr}
-use Rattle.vx_events.specs.StepsOver.{WorksOver, group_place, is_for_group}
+use Rattle.vx_events.specs.StepsOver.{WorksOver, facts_over, group_place, is_for_group, refused_over}
 use Rattle.vx_events.specs.declared.said.Said.{Said}
 
 -- imports agree of the site of a line that brings a group up, or it is known what its disks hold
@@ -72,31 +73,31 @@ module _ (told : Type 0) (is_told : told) (files : Bool) (d : Doubted) (fails : 
 
   -- ---- where a line writes its site is open
 
-  opens_apart : (line : ScriptLine) → is_for_group d.world line ≡ false → refused_full d.world files line ≡ None → OpensFor d.world line
-  opens_apart (Write site volume start count fill) apart free = write_full d.world files site volume start count fill apart free
-  opens_apart (Put site volume start bytes) apart free = put_full d.world files site volume start bytes apart free
+  opens_apart : (line : ScriptLine) → is_for_group d.world line ≡ false → refused_over d.world files line ≡ None → OpensFor d.world line
+  opens_apart (Write site volume start count fill) apart free = writes_open d.world site volume start count apart (write_may (facts_over d.world) files site volume start count fill free)
+  opens_apart (Put site volume start bytes) apart free = writes_open d.world site volume start 1 apart (put_may (facts_over d.world) files site volume start bytes free)
   opens_apart other apart free = tt
 
-  opens_above : (line : ScriptLine) → is_for_rvg d.world line ≡ true → refused_full d.world files line ≡ None → OpensFor d.world line
-  opens_above (Write site volume start count fill) over free = write_full d.world files site volume start count fill (rvg_apart (d.world.nodes (site_number d.world site)) over) free
-  opens_above (Put site volume start bytes) over free = put_full d.world files site volume start bytes (rvg_apart (d.world.nodes (site_number d.world site)) over) free
+  opens_above : (line : ScriptLine) → is_for_rvg d.world line ≡ true → refused_over d.world files line ≡ None → OpensFor d.world line
+  opens_above (Write site volume start count fill) over free = writes_open d.world site volume start count (rvg_apart (d.world.nodes (site_number d.world site)) over) (write_may (facts_over d.world) files site volume start count fill free)
+  opens_above (Put site volume start bytes) over free = writes_open d.world site volume start 1 (rvg_apart (d.world.nodes (site_number d.world site)) over) (put_may (facts_over d.world) files site volume start bytes free)
   opens_above other over free = tt
 
   -- ---- the ways of a line
 
-  before_stops : (group : Bool) (line : ScriptLine) → is_for_group d.world line ≡ group → refused_full d.world files line ≡ None → WorksOver group told d line fails said new → RvgStops d new
+  before_stops : (group : Bool) (line : ScriptLine) → is_for_group d.world line ≡ group → refused_over d.world files line ≡ None → WorksOver group told d line fails said new → RvgStops d new
   before_stops true line is free ends = group_too line (group_place d.world line) ends
   before_stops false line is free (inl step) = done_by_kind (is_of_links line) line (opens_apart line is free) step.ends
   before_stops false line is free (inr kept) = absurd (kept.untold is_told)
 
-  beside_stops : (line : ScriptLine) → AgreeFor d.world line new.world → refused_full d.world files line ≡ None → WorksBeside told d line fails said new → RvgStops d new
+  beside_stops : (line : ScriptLine) → AgreeFor d.world line new.world → refused_over d.world files line ≡ None → WorksBeside told d line fails said new → RvgStops d new
   beside_stops line all free (AsBefore works found) = before_stops (is_for_group d.world line) line refl free works
   beside_stops line all free (Gained back) = back_stops told d line (group_place d.world line) fails said new back
   beside_stops line all free (FoundOne finds) =
       let s : ℕ = group_place d.world line in
       finds_stops told is_told d s (all.known s) fails said new line (all.agree (brings_found told d line s fails said new finds)) finds
 
-  above_stops : (links above : Bool) (line : ScriptLine) → AgreeFor d.world line new.world → is_for_rvg d.world line ≡ above → refused_full d.world files line ≡ None
+  above_stops : (links above : Bool) (line : ScriptLine) → AgreeFor d.world line new.world → is_for_rvg d.world line ≡ above → refused_over d.world files line ≡ None
       → WorksAbove links above told d line fails said new → RvgStops d new
   above_stops true above line all is free ends = links_over_stop told d line fails said new (is_told, λ i _. all.known i) ends
   above_stops false true line all is free ends =
@@ -104,13 +105,13 @@ module _ (told : Type 0) (is_told : told) (files : Bool) (d : Doubted) (fails : 
       over_rvg_stops told is_told d s (all.known s) fails said new line (agrees_at d.world line new.world all) (opens_above line is free) ends
   above_stops false false line all is free ends = beside_stops line all free ends
 
-  full_stops : (line : ScriptLine) → AgreeFor d.world line new.world → refused_full d.world files line ≡ None → WorksFull told d line fails said new → RvgStops d new
+  full_stops : (line : ScriptLine) → AgreeFor d.world line new.world → refused_over d.world files line ≡ None → WorksFull told d line fails said new → RvgStops d new
   full_stops (Rvg site srl maps volumes) all free ends = rvg_stops told d (Rvg site srl maps volumes) (site_number d.world site) fails said new ends
   full_stops other all free ends = above_stops (links_rvg d.world other) (is_for_rvg d.world other) other all refl free ends
 
-  by_refusal : (line : ScriptLine) (o : Option No) → AgreeFor d.world line new.world → refused_full d.world files line ≡ o → FullBy o told d line fails said new → RvgStops d new
+  by_refusal : (line : ScriptLine) (o : Option No) → AgreeFor d.world line new.world → refused_over d.world files line ≡ o → FullBy o told d line fails said new → RvgStops d new
   by_refusal line (Some why) all is step = refused_stops why step
   by_refusal line None all is step = full_stops line all is step
 
   pub step_stops : (line : ScriptLine) → AgreeFor d.world line new.world → StepFull told files d line fails said new → RvgStops d new
-  step_stops line all step = by_refusal line (refused_full d.world files line) all refl step
+  step_stops line all step = by_refusal line (refused_over d.world files line) all refl step

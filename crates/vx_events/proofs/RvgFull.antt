@@ -1,39 +1,24 @@
 -- In a world in which no site is over a group of disks with a replicated volume group, a line that makes none does what it does there, but where it brings a
 -- group up and finds one.
-use Rattle.std.proofs.Common.{◌≡◌, ◌∙◌, ℕ, Bool, false, List, refl, ap, sym, subst}
-use Rattle.std.specs.Prelude.{Option, Some, None, ◌||◌, if◌then◌else◌}
+use Rattle.std.proofs.Common.{◌≡◌, ◌∙◌, ℕ, Bool, false, refl, ap, sym, subst}
+use Rattle.std.specs.Prelude.{Option, Some, None, ◌||◌}
 use Rattle.vx_model.specs.declared.no.No.{No}
 use Rattle.vx_history.specs.Doubts.{Doubted}
 use Rattle.vx_history.specs.Events.{packet_at}
 use Rattle.vx_history.specs.World.{Packet, World}
-use Rattle.vx_order.specs.Order.{line_refusal}
-use Rattle.vx_order.specs.declared.facts.SiteFacts.{SiteFacts}
 use Rattle.vx_script.specs.declared.line.ScriptLine.{ScriptLine}
 use Rattle.vx_script.specs.declared.line.ScriptLine.TheVariants.{GroupDeport, GroupImport, Volume, PlexDetach, PlexAttach, Rvg, Disk, Crash, Fuse, Recover, Write, Put, Read, Show, Apply, Status, Deliver, Link, Pump, Set, Settle}
-use Rattle.vx_events.proofs.Over.{values_same}
 use Rattle.vx_events.specs.Facts.{site_number}
 use Rattle.vx_events.specs.Fails.{Fails}
 use Rattle.vx_events.specs.GroupEnds.{BringsUp}
-use Rattle.vx_events.specs.GroupNotes.{note_at}
-use Rattle.vx_events.specs.LinkedFacts.{linked_fact}
 use Rattle.vx_events.specs.RvgBack.{FindsNoRvg, FindsPlain, FindsRvg, GroupCutOff, GroupHeld, GroupUnfound, KeptLost, LogCut, LogFails, LogLacks, RvgBack, RvgFinds, RvgUp}
 use Rattle.vx_events.specs.RvgLinks.{links_rvg, rvg_target}
-use Rattle.vx_events.specs.RvgSteps.{AsBefore, FoundOne, FoundPlain, FullBy, Gained, HasNoRvgs, MakesNoRvg, StepFull, WorksAbove, WorksBeside, WorksFull, fact_full, facts_full, is_for_rvg, refused_full}
-use Rattle.vx_events.specs.RvgViews.{is_over_rvg, over_facts}
-use Rattle.vx_events.specs.StepsOver.{OverBy, StepOver, WorksOver, fact_over, facts_over, group_place, is_for_group, refused_over}
+use Rattle.vx_events.specs.RvgSteps.{AsBefore, FoundOne, FoundPlain, FullBy, Gained, HasNoRvgs, MakesNoRvg, StepFull, WorksAbove, WorksBeside, WorksFull, is_for_rvg}
+use Rattle.vx_events.specs.RvgViews.{is_over_rvg}
+use Rattle.vx_events.specs.StepsOver.{OverBy, StepOver, WorksOver, group_place, is_for_group, refused_over}
 use Rattle.vx_events.specs.declared.said.Said.{Said}
 
 module _ (w : World) (none : HasNoRvgs w) where
-  fact_same : (i : ℕ) → fact_full w i ≡ fact_over w i
-  fact_same i = ap (λ (b : Bool). if b then over_facts (note_at (w.nodes i)) (linked_fact w i) else fact_over w i) (none i)
-
-  facts_same : facts_full w ≡ facts_over w
-  facts_same = values_same (λ i. fact_full w i) (λ i. fact_over w i) fact_same 0 w.sites
-
-  refused_same : (files : Bool) (line : ScriptLine) → refused_full w files line ≡ refused_over w files line
-  refused_same files (Deliver number) = refl
-  refused_same files other = ap (λ (fs : List SiteFacts). line_refusal fs files other) facts_same
-
   either_none : (a b : Bool) → a ≡ false → b ≡ false → (a || b) ≡ false
   either_none a b e f = ap (λ (x : Bool). x || b) e ∙ f
 
@@ -119,11 +104,7 @@ module _ (told : Type 0) (files : Bool) (d : Doubted) (none : HasNoRvgs d.world)
 
   pub full_over : (line : ScriptLine) → MakesNoRvg line → FoundPlain line (group_place d.world line) new → StepOver told files d line fails said new
       → StepFull told files d line fails said new
-  full_over line makes found step =
-      over_by line makes found (refused_full d.world files line)
-      (subst (λ (o : Option No). OverBy o (is_for_group d.world line) told d line fails said new) (sym (refused_same d.world none files line)) step)
+  full_over line makes found step = over_by line makes found (refused_over d.world files line) step
 
   pub over_full : (line : ScriptLine) → MakesNoRvg line → (BringsUp line → ⊥) → StepFull told files d line fails said new → StepOver told files d line fails said new
-  over_full line makes quiet step =
-      subst (λ (o : Option No). OverBy o (is_for_group d.world line) told d line fails said new) (refused_same d.world none files line)
-      (plain_by line makes quiet (refused_full d.world files line) step)
+  over_full line makes quiet step = plain_by line makes quiet (refused_over d.world files line) step

@@ -140,13 +140,13 @@ module _ (told : Type 0) (tells : told) (d : Doubted) (s : ℕ) (known : (note_a
   takes_known : (line : ScriptLine) → (MayDarken here line said → ⊥) → TakesOr told d line s fails said new → (note_at (new.world.nodes s)).dark ≡ false
   takes_known (GroupImport site) free ends = back_or_known (GroupImport site) free ends
   takes_known (Recover site) free ends = back_or_known (Recover site) free ends
-  takes_known other free ends = shows_known (is_inside here other) other ends
+  takes_known other free ends = shows_known (is_inside (d.world.nodes s) other) other ends
 
-  by_known : (below : Bool) (line : ScriptLine) → is_below here line ≡ below → (MayDarken here line said → ⊥) → OverRvgBy below told d line s fails said new
+  by_known : (below : Bool) (line : ScriptLine) → is_below (d.world.nodes s) line ≡ below → (MayDarken here line said → ⊥) → OverRvgBy below told d line s fails said new
       → (note_at (new.world.nodes s)).dark ≡ false
   by_known true line is free (inl ends) = group_known told tells d line s fails said new ends known free
   by_known true line is free (inr cut) = back_note s line cut.taken cut.next d _ new cut.left (cuts_known s here line fails cut.next known (no_rise here line said _ cut.says free) cut.cuts)
   by_known false line is free ends = takes_known line free ends
 
   pub over_known : (line : ScriptLine) → (MayDarken here line said → ⊥) → OverRvg told d line s fails said new → (note_at (new.world.nodes s)).dark ≡ false
-  over_known line free ends = by_known (is_below here line) line refl free ends
+  over_known line free ends = by_known (is_below (d.world.nodes s) line) line refl free ends

@@ -58,7 +58,7 @@ module _ (told : Type 0) (s : ℕ) (n : Node) (note : GroupNode) (fails : Fails)
   written x w =
       agrees_same w.middle next (ap (λ (g : GroupNode). g.loose) w.is) (ap (λ (g : GroupNode). g.begun) w.is) (settled_maps note w.middle w.moves a)
 
-  does_agree : (line : ScriptLine) → is_below note line ≡ true → GroupDoes told s n note line fails said next → NoteAgrees next
+  does_agree : (line : ScriptLine) → is_below n line ≡ true → GroupDoes told s n note line fails said next → NoteAgrees next
   does_agree (GroupInit site) below does = absurd (never below)
   does_agree (GroupDeport site) below does = settled_maps note next does.0 a
   does_agree (GroupImport site) below does = absurd (never below)
@@ -89,18 +89,18 @@ module _ (told : Type 0) (tells : told) (d : Doubted) (s : ℕ) (fails : Fails) 
   unchanged : IsAs d d.world new → NoteAgrees (note_at (new.world.nodes s))
   unchanged left = subst (λ (w : World). NoteAgrees (note_at (w.nodes s))) (sym left.world) a
 
-  group_agrees : (line : ScriptLine) → is_below here line ≡ true → GroupEnds told d line s fails said new → NoteAgrees (note_at (new.world.nodes s))
+  group_agrees : (line : ScriptLine) → is_below (d.world.nodes s) line ≡ true → GroupEnds told d line s fails said new → NoteAgrees (note_at (new.world.nodes s))
   group_agrees line below (GroupDone next are does left) =
       agrees_at (new.world.nodes s) next (left_note s line next _ new left) (does_agree told s (d.world.nodes s) here fails said next a line below does)
   group_agrees line below (GroupLacks why wants without says left) = agrees_at (new.world.nodes s) here (left_note s line here d new left) a
   group_agrees line below (GroupFails disk next are has spoils says left) = absurd (none disk has)
   group_agrees line below (InitFails disk site is are has says left) = absurd (none disk has)
-  group_agrees line below (ImportFails why next site is are refuses begun says left) = absurd (not_below here line (subst BringsUp (sym is) tt) below)
+  group_agrees line below (ImportFails why next site is are refuses begun says left) = absurd (not_below (d.world.nodes s) line (subst BringsUp (sym is) tt) below)
   group_agrees line below (KeptUnread disk next site is are has back says left) = absurd (none disk has)
   group_agrees line below (GroupCut next are fused cuts says left) = absurd (dry (fused, says))
-  group_agrees line below (GroupNotFound why next are brings not leaves says left) = absurd (not_below here line brings below)
-  group_agrees line below (FindsGroup next are brings unknown dark says left) = absurd (not_below here line brings below)
-  group_agrees line below (FindsNoGroup next why are brings unknown device refused says left) = absurd (not_below here line brings below)
+  group_agrees line below (GroupNotFound why next are brings not leaves says left) = absurd (not_below (d.world.nodes s) line brings below)
+  group_agrees line below (FindsGroup next are brings unknown dark says left) = absurd (not_below (d.world.nodes s) line brings below)
+  group_agrees line below (FindsNoGroup next why are brings unknown device refused says left) = absurd (not_below (d.world.nodes s) line brings below)
 
   -- a group that came up
   came_agrees : (line : ScriptLine) (kept : ℕ) (middle found : GroupNode) (from : Doubted) (rest : List Event) → NotesBack told s (d.world.nodes s) fails here middle
@@ -148,15 +148,15 @@ module _ (told : Type 0) (tells : told) (d : Doubted) (s : ℕ) (fails : Fails) 
   takes_agree : (line : ScriptLine) → TakesOr told d line s fails said new → NoteAgrees (note_at (new.world.nodes s))
   takes_agree (GroupImport site) ends = back_or (GroupImport site) ends
   takes_agree (Recover site) ends = back_or (Recover site) ends
-  takes_agree other ends = shows_agree (is_inside here other) other ends
+  takes_agree other ends = shows_agree (is_inside (d.world.nodes s) other) other ends
 
-  by_place : (below : Bool) (line : ScriptLine) → is_below here line ≡ below → OverRvgBy below told d line s fails said new → NoteAgrees (note_at (new.world.nodes s))
+  by_place : (below : Bool) (line : ScriptLine) → is_below (d.world.nodes s) line ≡ below → OverRvgBy below told d line s fails said new → NoteAgrees (note_at (new.world.nodes s))
   by_place true line is (inl ends) = group_agrees line is ends
   by_place true line is (inr cut) = absurd (dry (cut.fused, cut.says))
   by_place false line is ends = takes_agree line ends
 
   pub over_agrees : (line : ScriptLine) → OverRvg told d line s fails said new → NoteAgrees (note_at (new.world.nodes s))
-  over_agrees line ends = by_place (is_below here line) line refl ends
+  over_agrees line ends = by_place (is_below (d.world.nodes s) line) line refl ends
 
 -- ---- lines of links
 

@@ -70,7 +70,7 @@ c = record {
 abbrev seen : List ℕ → ℕ → VolumeKind → VolumeFacts
 seen name blocks kind = record { name = name; blocks = blocks; kind = kind; plexes = 2 }
 
-kinds_row : kinds_of (Some c) ≡ seen log_name 64 Srl ∷ seen maps_name 8 Map ∷ seen data_name 256 Data ∷ []
+kinds_row : kinds_of (Some c) ≡ seen data_name 256 Data ∷ seen log_name 64 Srl ∷ seen maps_name 8 Map ∷ []
 kinds_row = refl
 
 abbrev data_volume : DataVolume

@@ -110,12 +110,12 @@ by_note m note next is keeps = subst (λ (g : GroupNode). NoteKeepsRvg note g) (
 -- ---- lines on the group alone
 
 -- none of them brings the group up
-pub not_below : (note : GroupNode) (line : ScriptLine) → BringsUp line → is_below note line ≡ true → ⊥
-not_below note (GroupImport site) brings below = never below
-not_below note (Recover site) brings below = never below
-not_below note other brings below = absurd brings
+pub not_below : (n : Node) (line : ScriptLine) → BringsUp line → is_below n line ≡ true → ⊥
+not_below n (GroupImport site) brings below = never below
+not_below n (Recover site) brings below = never below
+not_below n other brings below = absurd brings
 
-does_keeps : (told : Type 0) (s : ℕ) (n : Node) (note : GroupNode) (line : ScriptLine) (fails : Fails) (said : Said) (next : GroupNode) → is_below note line ≡ true
+does_keeps : (told : Type 0) (s : ℕ) (n : Node) (note : GroupNode) (line : ScriptLine) (fails : Fails) (said : Said) (next : GroupNode) → is_below n line ≡ true
     → GroupDoes told s n note line fails said next → NoteKeepsRvg note next
 does_keeps told s n note (GroupInit site) fails said next below does = absurd (never below)
 does_keeps told s n note (GroupDeport site) fails said next below does =
@@ -173,7 +173,7 @@ module _ (told : Type 0) (d : Doubted) (line : ScriptLine) (s : ℕ) (fails : Fa
   unchanged : IsAs d d.world new → NoteKeepsRvg (note_at (d.world.nodes s)) (note_at (new.world.nodes s))
   unchanged left = subst (λ (w : World). NoteKeepsRvg (note_at (d.world.nodes s)) (note_at (w.nodes s))) (sym left.world) (same_config noted noted refl)
 
-  group_keeps : is_below (note_at (d.world.nodes s)) line ≡ true → GroupEnds told d line s fails said new
+  group_keeps : is_below (d.world.nodes s) line ≡ true → GroupEnds told d line s fails said new
       → NoteKeepsRvg (note_at (d.world.nodes s)) (note_at (new.world.nodes s))
   group_keeps below (GroupDone next are does left) =
       by_note (new.world.nodes s) noted next (left_note s line next _ new left) (does_keeps told s (d.world.nodes s) noted line fails said next below does)
@@ -181,13 +181,13 @@ module _ (told : Type 0) (d : Doubted) (line : ScriptLine) (s : ℕ) (fails : Fa
   group_keeps below (GroupFails disk next are has spoils says left) =
       by_note (new.world.nodes s) noted next (left_note s line next _ new left) (spoils_keeps s noted line fails next spoils)
   group_keeps below (InitFails disk site is are has says left) = unchanged left
-  group_keeps below (ImportFails why next site is are refuses begun says left) = absurd (not_below noted line (subst BringsUp (sym is) tt) below)
-  group_keeps below (KeptUnread disk next site is are has back says left) = absurd (not_below noted line (subst BringsUp (sym is) tt) below)
+  group_keeps below (ImportFails why next site is are refuses begun says left) = absurd (not_below (d.world.nodes s) line (subst BringsUp (sym is) tt) below)
+  group_keeps below (KeptUnread disk next site is are has back says left) = absurd (not_below (d.world.nodes s) line (subst BringsUp (sym is) tt) below)
   group_keeps below (GroupCut next are fused cuts says left) =
       by_note (new.world.nodes s) noted next (left_note s line next _ new left) (cuts_keeps s noted line fails next cuts)
-  group_keeps below (GroupNotFound why next are brings not leaves says left) = absurd (not_below noted line brings below)
-  group_keeps below (FindsGroup next are brings unknown dark says left) = absurd (not_below noted line brings below)
-  group_keeps below (FindsNoGroup next why are brings unknown device refused says left) = absurd (not_below noted line brings below)
+  group_keeps below (GroupNotFound why next are brings not leaves says left) = absurd (not_below (d.world.nodes s) line brings below)
+  group_keeps below (FindsGroup next are brings unknown dark says left) = absurd (not_below (d.world.nodes s) line brings below)
+  group_keeps below (FindsNoGroup next why are brings unknown device refused says left) = absurd (not_below (d.world.nodes s) line brings below)
 
 -- ---- recoveries and imports
 
@@ -306,9 +306,9 @@ module _ (told : Type 0) (d : Doubted) (s : ℕ) (fails : Fails) (said : Said) (
   takes_stays : (line : ScriptLine) → TakesOr told d line s fails said new → Stays ⊎ RvgFinds told d line s fails said new
   takes_stays (GroupImport site) ends = back_or (GroupImport site) ends
   takes_stays (Recover site) ends = back_or (Recover site) ends
-  takes_stays other ends = inl (shows_keeps told d other s fails said new over (is_inside (note_at (d.world.nodes s)) other) ends)
+  takes_stays other ends = inl (shows_keeps told d other s fails said new over (is_inside (d.world.nodes s) other) ends)
 
-  by_place : (below : Bool) (line : ScriptLine) → is_below (note_at (d.world.nodes s)) line ≡ below → OverRvgBy below told d line s fails said new
+  by_place : (below : Bool) (line : ScriptLine) → is_below (d.world.nodes s) line ≡ below → OverRvgBy below told d line s fails said new
       → Stays ⊎ RvgFinds told d line s fails said new
   by_place true line is (inl ends) = inl (group_keeps told d line s fails said new is ends)
   by_place true line is (inr cut) =
@@ -319,7 +319,7 @@ module _ (told : Type 0) (d : Doubted) (s : ℕ) (fails : Fails) (said : Said) (
 
   -- the line left it noted so, or found something on disks of which nothing is known
   pub stays_or_finds : (line : ScriptLine) → OverRvg told d line s fails said new → Stays ⊎ RvgFinds told d line s fails said new
-  stays_or_finds line ends = by_place (is_below (note_at (d.world.nodes s)) line) line refl ends
+  stays_or_finds line ends = by_place (is_below (d.world.nodes s) line) line refl ends
 
   pub over_stays : told → (line : ScriptLine) → OverRvg told d line s fails said new → (note_at (new.world.nodes s)).dark ≡ false → Stays
   over_stays tells line ends known = by (stays_or_finds line ends)

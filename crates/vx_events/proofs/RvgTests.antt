@@ -1,7 +1,7 @@
 -- A line that makes a replicated volume group, and that no test refuses, names volumes of a group of disks without one. Where it is done its site has that one.
 use Rattle.std.proofs.Common.{◌≡◌, ◌∙◌, ℕ, zero, suc, Bool, true, false, List, [], ◌∷◌, Option, Some, None, ap, map, refl, sym, subst}
 use Rattle.std.specs.List.{AllByRecursion, find}
-use Rattle.std.specs.Prelude.{◌&&◌, if◌then◌else◌, is_some, not, slice_get, unwrap_or}
+use Rattle.std.specs.Prelude.{◌&&◌, if◌then◌else◌, is_some, not, slice_get, unwrap_or, eqb}
 use Rattle.std.specs.Str.{bytes_eq}
 use Rattle.vx_model.specs.Sites.{is_up}
 use Rattle.vx_model.specs.declared.no.No.{No}
@@ -9,7 +9,7 @@ use Rattle.vx_model.specs.declared.no.No.TheVariants.{Size}
 use Rattle.vx_model.specs.declared.site.SiteState.{SiteState}
 use Rattle.vx_model.specs.declared.site.SiteState.TheVariants.{Bare, Up, Deported, Down}
 use Rattle.vx_model.specs.declared.units.Units.{Units}
-use Rattle.vx_history.proofs.Updates.{and_left, and_right, at_place}
+use Rattle.vx_history.proofs.Updates.{and_left, at_place}
 use Rattle.vx_history.specs.Doubts.{Doubted}
 use Rattle.vx_history.specs.Groups.{GroupNode}
 use Rattle.vx_history.specs.Steps.{burned}
@@ -28,11 +28,11 @@ use Rattle.vx_order.specs.declared.facts.SiteFacts.{SiteFacts}
 use Rattle.vx_order.specs.declared.facts.VolumeFacts.{VolumeFacts}
 use Rattle.vx_script.specs.declared.line.ScriptLine.TheVariants.{Rvg}
 use Rattle.vx_events.proofs.Places.{some_same}
-use Rattle.vx_events.proofs.Refused.{FoundAt, Named, found_at, named, not_false, passes, when_none}
+use Rattle.vx_events.proofs.Refused.{FoundAt, found_at, not_false, passes, when_none}
 use Rattle.vx_events.proofs.RvgAgain.{all_kept, has_kept}
 use Rattle.vx_events.proofs.RvgConfigs.{loses_keeps}
 use Rattle.vx_events.proofs.RvgGains.{made_fits, refused_done}
-use Rattle.vx_events.proofs.RvgSeats.{SeatFull, seat_full}
+use Rattle.vx_events.proofs.LinkTesting.{Seat, seat_at}
 use Rattle.vx_events.specs.Facts.{group_by, site_number}
 use Rattle.vx_events.specs.Fails.{Fails}
 use Rattle.vx_events.specs.GroupLines.{is_over_group, noting, plain_number}
@@ -42,9 +42,8 @@ use Rattle.vx_events.specs.LinkedFacts.{linked_fact}
 use Rattle.vx_events.specs.RvgFits.{FitsNoted, FitsSome, HasUnits, HasVolume, KeepsRvg, MayGetRvg, entries_noted}
 use Rattle.vx_events.specs.RvgMakes.{IsLeftRvg, MakesRvg, RvgCut, RvgDone, RvgFails, RvgLacks, units_at}
 use Rattle.vx_events.specs.RvgNotes.{NotesRvg, as_replicated, units_named}
-use Rattle.vx_events.specs.RvgSteps.{fact_full, facts_full, refused_full}
-use Rattle.vx_events.specs.RvgViews.{is_over_rvg, over_facts}
-use Rattle.vx_events.specs.StepsOver.{fact_of_group}
+use Rattle.vx_events.specs.RvgViews.{is_over_rvg}
+use Rattle.vx_events.specs.StepsOver.{fact_of_group, fact_over, facts_over, refused_over}
 use Rattle.vx_events.specs.declared.said.Said.{Said}
 use Rattle.vx_events.specs.declared.said.Said.TheVariants.{Done}
 
@@ -108,6 +107,15 @@ shows Down n up = absurd (cc)
 never : true ≡ false → ⊥
 never e = absurd (cc)
 
+either_kind : (a b : Bool) → (a && b) ≡ true → (a && not b) ≡ false
+either_kind true true e = refl
+either_kind true false e = absurd (cc)
+either_kind false b e = refl
+
+-- a site over a group without a replicated volume group
+group_alone : (n : Node) → is_over_group n ≡ true → is_over_rvg n ≡ false
+group_alone n over = either_kind (is_some n.group) (eqb (length n.volumes) 0) over
+
 -- what no refusal tells of the site and the volumes that it names
 pub record RvgMay (w : World) (s : ℕ) (srl maps : List ℕ) (volumes : List (List ℕ)) : Type 0 where
   pub over : is_over_group (w.nodes s) ≡ true
@@ -121,38 +129,36 @@ module _ (w : World) (s : ℕ) (srl maps : List ℕ) (volumes : List (List ℕ))
   abbrev n : Node
   n = w.nodes s
 
-  by_kind : (r g : Bool) → is_over_rvg (w.nodes s) ≡ r → is_over_group (w.nodes s) ≡ g
-      → PassesRvg (if r then over_facts (note_at (w.nodes s)) (linked_fact w s) else (if g then fact_of_group (w.nodes s) (note_at (w.nodes s)) else linked_fact w s)) srl maps volumes
+  by_kind : (g : Bool) → is_over_group (w.nodes s) ≡ g
+      → PassesRvg (if g then fact_of_group (w.nodes s) (note_at (w.nodes s)) else linked_fact w s) srl maps volumes
       → RvgMay w s srl maps volumes
-  by_kind true g alone is p = absurd (never (sym (shows n.state n (and_left (is_up n.state) true p.role)) ∙ p.free))
-  by_kind false true alone is p = record {
+  by_kind true is p = record {
     over = is;
     up = and_left (is_up n.state) true p.role;
-    alone = alone;
+    alone = group_alone n is;
     known = p.known;
     fits = p.size;
     has = units_have n (and_left (is_up n.state) true p.role) srl maps volumes p.known;
   }
-  by_kind false false alone is p = absurd (never (sym (and_right (is_up n.state) false p.role)))
+  by_kind false is p = absurd (never (sym (shows n.state n (and_left (is_up n.state) (is_over_rvg n) p.role)) ∙ p.free))
 
-pub rvg_may : (w : World) (files : Bool) (site srl maps : List ℕ) (volumes : List (List ℕ)) → refused_full w files (Rvg site srl maps volumes) ≡ None
+pub rvg_may : (w : World) (files : Bool) (site srl maps : List ℕ) (volumes : List (List ℕ)) → refused_over w files (Rvg site srl maps volumes) ≡ None
     → RvgMay w (site_number w site) srl maps volumes
 unfolding first_name line_role line_unknown taken wrong_size
 rvg_may w files site srl maps volumes e =
     let s : ℕ = site_number w site in
-    let p = passes (facts_full w) files (Rvg site srl maps volumes) e in
-    let at : Named (facts_full w) site = named (facts_full w) site p.known in
-    let seat : SeatFull w site = seat_full w site at in
-    let role : group_role (Some (fact_full w s)) ≡ None = subst (λ (o : Option SiteFacts). group_role o ≡ None) seat.found p.role in
-    let known : group_unknown (Some (fact_full w s)) srl maps volumes ≡ None = subst (λ (o : Option SiteFacts). group_unknown o srl maps volumes ≡ None) seat.found p.other in
-    let free : group_taken (rvg_of (Some (fact_full w s))) ≡ None = subst (λ (o : Option SiteFacts). group_taken (rvg_of o) ≡ None) seat.found p.free in
-    let size : when (not (fits_group (Some (fact_full w s)) srl maps volumes)) Size ≡ None = subst (λ (o : Option SiteFacts). when (not (fits_group o srl maps volumes)) Size ≡ None) seat.found p.size in
-    by_kind w s srl maps volumes (is_over_rvg (w.nodes s)) (is_over_group (w.nodes s)) refl refl
+    let p = passes (facts_over w) files (Rvg site srl maps volumes) e in
+    let seat : Seat w site = seat_at w site p.known in
+    let role : group_role (Some (fact_over w s)) ≡ None = subst (λ (o : Option SiteFacts). group_role o ≡ None) seat.found p.role in
+    let known : group_unknown (Some (fact_over w s)) srl maps volumes ≡ None = subst (λ (o : Option SiteFacts). group_unknown o srl maps volumes ≡ None) seat.found p.other in
+    let free : group_taken (rvg_of (Some (fact_over w s))) ≡ None = subst (λ (o : Option SiteFacts). group_taken (rvg_of o) ≡ None) seat.found p.free in
+    let size : when (not (fits_group (Some (fact_over w s)) srl maps volumes)) Size ≡ None = subst (λ (o : Option SiteFacts). when (not (fits_group o srl maps volumes)) Size ≡ None) seat.found p.size in
+    by_kind w s srl maps volumes (is_over_group (w.nodes s)) refl
     (record {
-      role = not_false (is_up (fact_full w s).state && (fact_full w s).grouped) (when_none (not (is_up (fact_full w s).state && (fact_full w s).grouped)) _ role);
-      free = when_none (is_some (rvg_of (Some (fact_full w s)))) _ free;
+      role = not_false (is_up (fact_over w s).state && (fact_over w s).grouped) (when_none (not (is_up (fact_over w s).state && (fact_over w s).grouped)) _ role);
+      free = when_none (is_some (rvg_of (Some (fact_over w s)))) _ free;
       known = known;
-      size = not_false (fits_group (Some (fact_full w s)) srl maps volumes) (when_none (not (fits_group (Some (fact_full w s)) srl maps volumes)) Size size);
+      size = not_false (fits_group (Some (fact_over w s)) srl maps volumes) (when_none (not (fits_group (Some (fact_over w s)) srl maps volumes)) Size size);
     })
 
 -- ---- the line that is done
@@ -176,7 +182,7 @@ gained_units told s fails units note middle next x has =
     record { srl = has_kept c x.moves.now keeps units.srl first.srl; vols = all_kept c x.moves.now keeps units.vols first.vols }
 
 pub made_noted : (told : Type 0) (files : Bool) (d : Doubted) (site srl maps : List ℕ) (volumes : List (List ℕ)) (fails : Fails) (said : Said) (new : Doubted)
-    → MayGetRvg d.world (site_number d.world site) → refused_full d.world files (Rvg site srl maps volumes) ≡ None
+    → MayGetRvg d.world (site_number d.world site) → refused_over d.world files (Rvg site srl maps volumes) ≡ None
     → MakesRvg told d (Rvg site srl maps volumes) (site_number d.world site) fails said new → said ≡ Done → FitsNoted (new.world.nodes (site_number d.world site))
 made_noted told files d site srl maps volumes fails said new may free (RvgDone site' srl' maps' volumes' middle next is are x says left) done =
     let s : ℕ = site_number d.world site in

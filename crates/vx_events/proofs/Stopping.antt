@@ -168,7 +168,7 @@ seen_open w name n apart up running =
       seat.below,
     )
 
-writes_open : (w : World) (name volume : List ℕ) (start count : ℕ) → is_over_group (w.nodes (site_number w name)) ≡ false → WriteMay (facts_over w) name volume start count → IsOpen (w.nodes (site_number w name)) × (site_number w name < w.sites)
+pub writes_open : (w : World) (name volume : List ℕ) (start count : ℕ) → is_over_group (w.nodes (site_number w name)) ≡ false → WriteMay (facts_over w) name volume start count → IsOpen (w.nodes (site_number w name)) × (site_number w name < w.sites)
 writes_open w name volume start count apart may = seen_open w name may.call.site apart may.call.up may.call.running
 
 open_of : (w : World) (files : Bool) (line : ScriptLine) (c : Choice) → is_for_group w line ≡ false → refused_over w files line ≡ None → BeginsWrite (events_of w line c)

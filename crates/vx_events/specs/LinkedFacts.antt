@@ -1,4 +1,4 @@
--- What the tests of a line see of the world with its links and its packets.
+-- What the tests of a line see of the world with its links and its packets, and of the volumes of groups over which sites have their replicated volume groups.
 use Rattle.std.specs.Prelude.{ℕ, Bool, List, [], ◌∷◌, length, Option, if◌then◌else◌}
 use Rattle.vx_history.specs.Admission.{is_holding}
 use Rattle.vx_history.specs.Events.{linked_sites, used_above}
@@ -14,6 +14,7 @@ use Rattle.vx_order.specs.Packets.{packet_unknown}
 use Rattle.vx_script.specs.declared.line.ScriptLine.{ScriptLine}
 use Rattle.vx_script.specs.declared.line.ScriptLine.TheVariants.{Deliver}
 use Rattle.vx_events.specs.Facts.{site_fact, values_from}
+use Rattle.vx_events.specs.RvgViews.{is_over_rvg, table_at}
 
 -- the blocks of its site's log that a link needs: those of the numbers above its hold, where it needs any
 abbrev pub needed_by : Node → (s : ℕ) → Link → ℕ
@@ -38,8 +39,16 @@ links_by Down links = []
 abbrev pub links_of_site : World → ℕ → List LinkFacts
 links_of_site w i = link_facts (w.nodes i) (w.links i) (linked_sites (w.links i) w.sites 0 w.sites)
 
+-- a site that is over no group without a replicated volume group
+abbrev pub seen_fact : Node → SiteFacts
+seen_fact n = record (site_fact n) { grouped = is_over_rvg n; volumes = table_at n }
+
+-- such sites in the order of their numbers, without their links
+abbrev pub seen_facts : World → List SiteFacts
+seen_facts w = values_from (λ i. seen_fact (w.nodes i)) 0 w.sites
+
 abbrev pub linked_fact : World → ℕ → SiteFacts
-linked_fact w i = record (site_fact (w.nodes i)) { links = links_by (w.nodes i).state (links_of_site w i) }
+linked_fact w i = record (seen_fact (w.nodes i)) { links = links_by (w.nodes i).state (links_of_site w i) }
 
 -- the sites in the order of their numbers, with their links
 abbrev pub linked_facts : World → List SiteFacts

@@ -20,7 +20,7 @@ use Rattle.vx_events.specs.GroupEnds.{AreOf, GroupCuts, GroupEnds}
 use Rattle.vx_events.specs.GroupLines.{group_noted, noting}
 use Rattle.vx_events.specs.GroupNotes.{IsKnown, note_at}
 use Rattle.vx_events.specs.RvgBack.{RvgBack, RvgFinds}
-use Rattle.vx_events.specs.RvgViews.{kinds_noted, over_disks}
+use Rattle.vx_events.specs.RvgViews.{over_disks, table_at}
 use Rattle.vx_events.specs.RvgWorks.{NotesWork, FuseRanOut}
 use Rattle.vx_events.specs.declared.said.Said.{Said}
 use Rattle.vx_events.specs.declared.said.Said.TheVariants.{Got, Refused, Shown}
@@ -31,9 +31,9 @@ abbrev pub fact_kind : Option VolumeFacts → VolumeKind
 fact_kind None = Plain
 fact_kind (Some volume) = volume.kind
 
--- what the volume of this name is to the replicated volume group
-abbrev pub kind_named : GroupNode → List ℕ → VolumeKind
-kind_named note name = fact_kind (slice_get (kinds_noted note) (unwrap_or (place_of (kinds_noted note) name) 0))
+-- what the volume of this name is to the replicated volume group of the site
+abbrev pub kind_named : Node → List ℕ → VolumeKind
+kind_named n name = fact_kind (slice_get (table_at n) (unwrap_or (place_of (table_at n) name) 0))
 
 abbrev pub is_plain_kind : VolumeKind → Bool
 is_plain_kind Data = false
@@ -50,21 +50,21 @@ is_inner_kind Plain = false
 
 -- Whether the line works on the group alone: on its volumes and plexes, or on the blocks of a volume outside the replicated volume group. To the replicated
 -- volume group a deport is a crash that keeps what is safe.
-abbrev pub is_below : GroupNode → ScriptLine → Bool
-is_below note (GroupDeport site) = true
-is_below note (Volume site volume blocks mirrors layout log map policy) = true
-is_below note (PlexDetach site volume plex) = true
-is_below note (PlexAttach site volume plex) = true
-is_below note (Write site volume start count fill) = is_plain_kind (kind_named note volume)
-is_below note (Put site volume start bytes) = is_plain_kind (kind_named note volume)
-is_below note (Read site volume start count) = is_plain_kind (kind_named note volume)
-is_below note (Show site volume start count) = is_plain_kind (kind_named note volume)
-is_below note other = false
+abbrev pub is_below : Node → ScriptLine → Bool
+is_below n (GroupDeport site) = true
+is_below n (Volume site volume blocks mirrors layout log map policy) = true
+is_below n (PlexDetach site volume plex) = true
+is_below n (PlexAttach site volume plex) = true
+is_below n (Write site volume start count fill) = is_plain_kind (kind_named n volume)
+is_below n (Put site volume start bytes) = is_plain_kind (kind_named n volume)
+is_below n (Read site volume start count) = is_plain_kind (kind_named n volume)
+is_below n (Show site volume start count) = is_plain_kind (kind_named n volume)
+is_below n other = false
 
 -- whether the line shows blocks of the log or of the maps
-abbrev pub is_inside : GroupNode → ScriptLine → Bool
-is_inside note (Show site volume start count) = is_inner_kind (kind_named note volume)
-is_inside note other = false
+abbrev pub is_inside : Node → ScriptLine → Bool
+is_inside n (Show site volume start count) = is_inner_kind (kind_named n volume)
+is_inside n other = false
 
 -- ---- notes
 
@@ -124,7 +124,7 @@ EndsOrShows false told d line s fails said new = EndsOver told d line s fails sa
 abbrev pub TakesOr : Type 0 → Doubted → ScriptLine → ℕ → Fails → Said → Doubted → Type 0
 TakesOr told d (GroupImport site) s fails said new = RvgBack told d (GroupImport site) s fails said new ⊎ RvgFinds told d (GroupImport site) s fails said new
 TakesOr told d (Recover site) s fails said new = RvgBack told d (Recover site) s fails said new ⊎ RvgFinds told d (Recover site) s fails said new
-TakesOr told d other s fails said new = EndsOrShows (is_inside (note_at (d.world.nodes s)) other) told d other s fails said new
+TakesOr told d other s fails said new = EndsOrShows (is_inside (d.world.nodes s) other) told d other s fails said new
 
 -- a line on the group alone, or another one
 abbrev pub OverRvgBy : (below : Bool) → Type 0 → Doubted → ScriptLine → ℕ → Fails → Said → Doubted → Type 0
@@ -133,7 +133,7 @@ OverRvgBy false told d line s fails said new = TakesOr told d line s fails said 
 
 -- a line at site s over a group with a replicated volume group, but for those on links
 abbrev pub OverRvg : Type 0 → Doubted → ScriptLine → ℕ → Fails → Said → Doubted → Type 0
-OverRvg told d line s fails said new = OverRvgBy (is_below (note_at (d.world.nodes s)) line) told d line s fails said new
+OverRvg told d line s fails said new = OverRvgBy (is_below (d.world.nodes s) line) told d line s fails said new
 
 -- where the line writes to the replicated volume group, its site is up and runs
 abbrev pub OpensFor : World → ScriptLine → Type 0

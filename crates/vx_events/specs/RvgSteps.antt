@@ -1,43 +1,26 @@
 -- What a line does to a world in which some sites are over groups of disks, with replicated volume groups or without: its first refusal, or its events and
 -- the way in which they end.
-use Rattle.std.specs.Prelude.{◌≡◌, ℕ, Bool, true, false, List, length, Option, Some, None, if◌then◌else◌}
+use Rattle.std.specs.Prelude.{◌≡◌, ℕ, Bool, true, false, List, Option, Some, None}
 use Rattle.vx_model.specs.declared.no.No.{No}
 use Rattle.vx_history.specs.Doubts.{Doubted}
 use Rattle.vx_history.specs.World.{World}
-use Rattle.vx_order.specs.Order.{line_refusal}
-use Rattle.vx_order.specs.Packets.{packet_unknown}
-use Rattle.vx_order.specs.declared.facts.SiteFacts.{SiteFacts}
 use Rattle.vx_script.specs.declared.line.ScriptLine.{ScriptLine}
-use Rattle.vx_script.specs.declared.line.ScriptLine.TheVariants.{GroupDeport, GroupImport, Volume, PlexDetach, PlexAttach, Rvg, Disk, Crash, Fuse, Recover, Write, Put, Read, Show, Apply, Status, Deliver}
+use Rattle.vx_script.specs.declared.line.ScriptLine.TheVariants.{GroupDeport, GroupImport, Volume, PlexDetach, PlexAttach, Rvg, Disk, Crash, Fuse, Recover, Write, Put, Read, Show, Apply, Status}
 use Rattle.vx_events.specs.Ends.{place_of}
-use Rattle.vx_events.specs.Facts.{site_number, values_from}
+use Rattle.vx_events.specs.Facts.{site_number}
 use Rattle.vx_events.specs.Fails.{Fails}
 use Rattle.vx_events.specs.GroupEnds.{BringsUp}
 use Rattle.vx_events.specs.GroupNotes.{note_at}
-use Rattle.vx_events.specs.LinkedFacts.{linked_fact}
 use Rattle.vx_events.specs.Lines.{IsRefusedLine}
 use Rattle.vx_events.specs.RvgBack.{RvgBack, RvgFinds}
 use Rattle.vx_events.specs.RvgFits.{rvg_noted}
 use Rattle.vx_events.specs.RvgLinks.{LinksOver, links_rvg}
 use Rattle.vx_events.specs.RvgMakes.{MakesRvg}
 use Rattle.vx_events.specs.RvgOver.{OverRvg}
-use Rattle.vx_events.specs.RvgViews.{is_over_rvg, over_facts}
+use Rattle.vx_events.specs.RvgViews.{is_over_rvg}
 use Rattle.vx_events.specs.RvgWorks.{AgreesOr}
-use Rattle.vx_events.specs.StepsOver.{WorksOver, fact_over, group_place, is_for_group}
+use Rattle.vx_events.specs.StepsOver.{WorksOver, group_place, is_for_group, refused_over}
 use Rattle.vx_events.specs.declared.said.Said.{Said}
-
--- ---- what the tests of a line see
-
-abbrev pub fact_full : World → ℕ → SiteFacts
-fact_full w i = if is_over_rvg (w.nodes i) then over_facts (note_at (w.nodes i)) (linked_fact w i) else fact_over w i
-
-abbrev pub facts_full : World → List SiteFacts
-facts_full w = values_from (λ i. fact_full w i) 0 w.sites
-
--- the first refusal of a line before it works
-abbrev pub refused_full : World → Bool → ScriptLine → Option No
-refused_full w files (Deliver number) = packet_unknown (length w.packets) number
-refused_full w files other = line_refusal (facts_full w) files other
 
 -- ---- lines
 
@@ -98,7 +81,7 @@ FullBy None told d line fails said new = WorksFull told d line fails said new
 
 -- The first refusal that holds in the one order is the reply, and nothing changes. Where there is none, the line works.
 abbrev pub StepFull : Type 0 → Bool → Doubted → ScriptLine → Fails → Said → Doubted → Type 0
-StepFull told files d line fails said new = FullBy (refused_full d.world files line) told d line fails said new
+StepFull told files d line fails said new = FullBy (refused_over d.world files line) told d line fails said new
 
 -- ---- worlds in which nothing changes
 

@@ -29,14 +29,14 @@ ghost use Rattle.vx_events.specs.RvgLinks.{AllKnown, LinksOver};
 ghost use Rattle.vx_events.specs.RvgMakes.{MakesRvg, RvgStops};
 ghost use Rattle.vx_events.specs.RvgOver.{OpensFor, OverRvg};
 ghost use Rattle.vx_events.specs.RvgParts.{RvgShort};
-ghost use Rattle.vx_events.specs.RvgSteps.{AgreeFor, FoundPlain, HasNoRvgs, MakesNoRvg, StepFull, refused_full};
+ghost use Rattle.vx_events.specs.RvgSteps.{AgreeFor, FoundPlain, HasNoRvgs, MakesNoRvg, StepFull};
 ghost use Rattle.vx_events.specs.RvgViews.{is_over_rvg};
 ghost use Rattle.vx_events.specs.Fails.{AreBorne, Fails};
 ghost use Rattle.vx_events.specs.Lines.{LineStep, is_of_links};
 ghost use Rattle.vx_events.specs.Lists.{Choice};
 ghost use Rattle.vx_events.specs.Parts.{DonePart, FellFirst, ReadFirst, StopsShort, first_part, goes_in_parts, may_stop};
 ghost use Rattle.vx_events.specs.Plain.{HasNoGroups, IsUnlinked, IsSizedAs};
-ghost use Rattle.vx_events.specs.StepsOver.{MakesNoGroup, StepOver, group_place, is_for_group};
+ghost use Rattle.vx_events.specs.StepsOver.{MakesNoGroup, StepOver, group_place, is_for_group, refused_over};
 ghost use Rattle.vx_events.specs.Stopping.{StopsBy};
 ghost use Rattle.vx_events.specs.declared.said.Said.{Said};
 
@@ -118,7 +118,7 @@ pub fn made_rvgs_fit()
     ensures fits { (tells : Bool) (d : Doubted) (line : ScriptLine) (s : ℕ) (fails : Fails) (said : Said) (new : Doubted) (c : Config) → MayGetRvg d.world s
         → MakesRvg (IsTrue tells) d line s fails said new → said ≡ SaysDone → config_of (note_at (new.world.nodes s)).config ≡ Some c → FitsSome (new.world.nodes s) c }
     ensures noted { (tells files : Bool) (d : Doubted) (site srl maps : List ℕ) (volumes : List (List ℕ)) (fails : Fails) (said : Said) (new : Doubted)
-        → MayGetRvg d.world (site_number d.world site) → refused_full d.world files (Rvg site srl maps volumes) ≡ None
+        → MayGetRvg d.world (site_number d.world site) → refused_over d.world files (Rvg site srl maps volumes) ≡ None
         → MakesRvg (IsTrue tells) d (Rvg site srl maps volumes) (site_number d.world site) fails said new → said ≡ SaysDone
         → FitsNoted (new.world.nodes (site_number d.world site)) }
 {}

@@ -14,9 +14,9 @@ use Rattle.vx_model.specs.declared.site.SiteState.{SiteState}
 use Rattle.vx_model.specs.declared.site.SiteState.TheVariants.{Bare, Up, Deported, Down}
 use Rattle.vx_order.specs.declared.facts.LinkFacts.{LinkFacts}
 use Rattle.vx_order.specs.declared.facts.SiteFacts.{SiteFacts}
-use Rattle.vx_events.specs.Facts.{seat_of, site_fact, site_number, values_from}
+use Rattle.vx_events.specs.Facts.{seat_of, site_number, values_from}
 use Rattle.vx_events.specs.GroupLines.{is_over_group}
-use Rattle.vx_events.specs.LinkedFacts.{link_fact, link_facts, links_by, links_of_site, linked_fact}
+use Rattle.vx_events.specs.LinkedFacts.{link_fact, link_facts, links_by, links_of_site, linked_fact, seen_fact}
 use Rattle.vx_events.specs.StepsOver.{fact_over, facts_over}
 use Rattle.vx_events.proofs.LinkTesting.{all_linked, found_link}
 use Rattle.vx_events.proofs.OverSeats.{apart_linked, fact_apart, seats_over}
@@ -69,8 +69,8 @@ facts_with_link w p s l apart_group up same =
     let links : link_facts n next (linked_sites next w.sites 0 w.sites) ≡ slice_set (links_of_site w p) place (link_fact n s l)
     = ap (link_facts n next) (sites_same row next (made_same row s l same) w.sites 0 w.sites) ∙ link_facts_set n row s l ss (apart row w.sites 0 w.sites) in
     let here : fact_of n next w.sites ≡ site_relinked (linked_fact w p) place (link_fact n s l)
-    = ap (λ (ls : List LinkFacts). let f : SiteFacts = record (site_fact n) { links = links_by n.state ls } in f) links
-    ∙ ap (λ (ls : List LinkFacts). let f : SiteFacts = record (site_fact n) { links = ls } in f)
+    = ap (λ (ls : List LinkFacts). let f : SiteFacts = record (seen_fact n) { links = links_by n.state ls } in f) links
+    ∙ ap (λ (ls : List LinkFacts). let f : SiteFacts = record (seen_fact n) { links = ls } in f)
     (ap (λ (t : SiteState). links_by t (slice_set (links_of_site w p) place (link_fact n s l))) up
     ∙ ap (λ (t : SiteState). slice_set (links_by t (links_of_site w p)) place (link_fact n s l)) (sym up)) in
     values_from-set (λ i. fact_over w i) (λ i. fact_over (with_link w p s l) i) 0 w.sites p (site_relinked (linked_fact w p) place (link_fact n s l))

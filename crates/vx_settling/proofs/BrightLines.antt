@@ -33,10 +33,10 @@ use Rattle.vx_events.specs.RvgLinks.{AllKnown, LinksOver, NotesThere, links_rvg,
 use Rattle.vx_events.specs.RvgMakes.{IsLeftRvg, MakesRvg, RvgCut, RvgDone, RvgFails, RvgLacks, noting_in, units_at}
 use Rattle.vx_events.specs.RvgNotes.{volume_events}
 use Rattle.vx_events.specs.RvgOver.{EndsOrShows, OverRvg, OverRvgBy, ShowFails, ShowsAny, TakesOr, is_below, is_inside}
-use Rattle.vx_events.specs.RvgSteps.{AsBefore, FoundOne, FullBy, Gained, StepFull, WorksAbove, WorksBeside, WorksFull, is_for_rvg, refused_full, rvg_place}
+use Rattle.vx_events.specs.RvgSteps.{AsBefore, FoundOne, FullBy, Gained, StepFull, WorksAbove, WorksBeside, WorksFull, is_for_rvg, rvg_place}
 use Rattle.vx_events.specs.RvgViews.{is_over_rvg}
 use Rattle.vx_events.specs.RvgWorks.{FuseRanOut}
-use Rattle.vx_events.specs.StepsOver.{WorksOver, group_place, is_for_group}
+use Rattle.vx_events.specs.StepsOver.{WorksOver, group_place, is_for_group, refused_over}
 use Rattle.vx_events.specs.declared.said.Said.{Said}
 use Rattle.vx_events.specs.declared.said.Said.TheVariants.{Refused}
 use Rattle.vx_settling.specs.Brights.{AllBright, IsBright, IsHeldDown}
@@ -204,7 +204,7 @@ module _ (told : Type 0) (tells : told) (d : Doubted) (b : AllBright d) (fails :
   takes_bright (GroupImport site) s held agree here (inr finds) = absurd (never_found told tells d s (b.sites s) fails said new (GroupImport site) (agree tt) finds)
   takes_bright (Recover site) s held agree here (inl back) = rises_bright (Recover site) s held here back
   takes_bright (Recover site) s held agree here (inr finds) = absurd (never_found told tells d s (b.sites s) fails said new (Recover site) (agree tt) finds)
-  takes_bright other s held agree here ends = shows_bright (is_inside (note_at (d.world.nodes s)) other) other s here ends
+  takes_bright other s held agree here ends = shows_bright (is_inside (d.world.nodes s) other) other s here ends
 
   place_bright : (below : Bool) (line : ScriptLine) (s : ℕ) → (IsHeldDown line said → ⊥) → (BringsUp line → (note_at (d.world.nodes s)).loose ≡ false)
       → IsBright (new.world.nodes s) → OverRvgBy below told d line s fails said new → AllBright new
@@ -217,7 +217,7 @@ module _ (told : Type 0) (tells : told) (d : Doubted) (b : AllBright d) (fails :
       → OverRvg told d line s fails said new → AllBright new
   over_rvg_bright line s held agree ends =
       let here : IsBright (new.world.nodes s) = over_known told tells d s (b.sites s) fails said new line (dim line s agree held) ends in
-      place_bright (is_below (note_at (d.world.nodes s)) line) line s held agree here ends
+      place_bright (is_below (d.world.nodes s) line) line s held agree here ends
 
   -- ---- a line that makes one, and lines of links
 
@@ -287,4 +287,4 @@ module _ (told : Type 0) (tells : told) (d : Doubted) (b : AllBright d) (fails :
 
   pub step_bright : (files : Bool) (line : ScriptLine) → (IsHeldDown line said → ⊥)
       → (BringsUp line → (note_at (d.world.nodes (group_place d.world line))).loose ≡ false) → StepFull told files d line fails said new → AllBright new
-  step_bright files line held agree step = refusal_bright (refused_full d.world files line) line held agree step
+  step_bright files line held agree step = refusal_bright (refused_over d.world files line) line held agree step

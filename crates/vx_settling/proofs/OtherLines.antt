@@ -33,10 +33,10 @@ use Rattle.vx_events.specs.RvgLinks.{AllKnown, LinksOver, NotesThere, links_rvg,
 use Rattle.vx_events.specs.RvgMakes.{IsLeftRvg, MakesRvg, RvgCut, RvgDone, RvgFails, RvgLacks, noting_in, units_at}
 use Rattle.vx_events.specs.RvgNotes.{volume_events}
 use Rattle.vx_events.specs.RvgOver.{EndsOrShows, OverRvgBy, ShowFails, ShowsAny, TakesOr, is_below, is_inside}
-use Rattle.vx_events.specs.RvgSteps.{AsBefore, FoundOne, FullBy, Gained, StepFull, WorksAbove, WorksBeside, WorksFull, is_for_rvg, refused_full, rvg_place}
+use Rattle.vx_events.specs.RvgSteps.{AsBefore, FoundOne, FullBy, Gained, StepFull, WorksAbove, WorksBeside, WorksFull, is_for_rvg, rvg_place}
 use Rattle.vx_events.specs.RvgViews.{is_over_rvg}
 use Rattle.vx_events.specs.RvgWorks.{FuseRanOut}
-use Rattle.vx_events.specs.StepsOver.{WorksOver, group_place, is_for_group}
+use Rattle.vx_events.specs.StepsOver.{WorksOver, group_place, is_for_group, refused_over}
 use Rattle.vx_events.specs.declared.said.Said.{Said}
 use Rattle.vx_settling.specs.OtherNotes.{HasNote, may_note}
 use Rattle.vx_settling.proofs.OtherNotes
@@ -366,7 +366,7 @@ module _ (i : ℕ) (o : Option GroupNode) where
       takes_notes (GroupImport site) s off apart (inr finds) = finds_notes (GroupImport site) s apart finds
       takes_notes (Recover site) s off apart (inl back) = rises_notes (Recover site) s apart back
       takes_notes (Recover site) s off apart (inr finds) = finds_notes (Recover site) s apart finds
-      takes_notes other s off apart ends = shows_notes (is_inside (note_at (d.world.nodes s)) other) other s off apart ends
+      takes_notes other s off apart ends = shows_notes (is_inside (d.world.nodes s) other) other s off apart ends
 
       place_notes : (below : Bool) (line : ScriptLine) (s : ℕ) → may_note d.world line i ≡ false → eqb i s ≡ false → OverRvgBy below told d line s fails said new → HasNote i o new
       place_notes true line s off apart (inl ends) = group_notes line s apart ends
@@ -423,7 +423,7 @@ module _ (i : ℕ) (o : Option GroupNode) where
       above_notes true above line links_is is off ends = each_notes line off (links_apart d.world line i off links_is) ends
       above_notes false true line links_is is off ends =
           let s : ℕ = rvg_place d.world line in
-          place_notes (is_below (note_at (d.world.nodes s)) line) line s off (rvg_apart d.world line i off is) ends
+          place_notes (is_below (d.world.nodes s) line) line s off (rvg_apart d.world line i off is) ends
       above_notes false false line links_is is off ends = beside_notes line off ends
 
       full_notes : (line : ScriptLine) → may_note d.world line i ≡ false → WorksFull told d line fails said new → HasNote i o new
@@ -435,4 +435,4 @@ module _ (i : ℕ) (o : Option GroupNode) where
       refusal_notes None line off step = full_notes line off step
 
       pub step_notes : (files : Bool) (line : ScriptLine) → may_note d.world line i ≡ false → StepFull told files d line fails said new → HasNote i o new
-      step_notes files line off step = refusal_notes (refused_full d.world files line) line off step
+      step_notes files line off step = refusal_notes (refused_over d.world files line) line off step

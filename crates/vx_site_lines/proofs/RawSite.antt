@@ -40,9 +40,9 @@ use Rattle.vx_events.proofs.Steps.{no_sites, raw_step}
 use Rattle.vx_events.specs.Ends.{Ends}
 use Rattle.vx_model.specs.Sites.{is_origin, no_line}
 use Rattle.vx_model.specs.declared.site.Role.TheVariants.{Primary}
-use Rattle.vx_events.specs.Facts.{seat_of, site_fact, site_number, volume_fact}
+use Rattle.vx_events.specs.Facts.{seat_of, site_number, volume_fact}
 use Rattle.vx_events.specs.GroupLines.{is_over_group}
-use Rattle.vx_events.specs.LinkedFacts.{link_facts, linked_fact, links_by}
+use Rattle.vx_events.specs.LinkedFacts.{link_facts, linked_fact, links_by, seen_fact}
 use Rattle.vx_events.specs.LinksFit.{IsBlank, LinksFit}
 use Rattle.vx_events.specs.declared.said.Said.{Said}
 use Rattle.vx_events.specs.declared.said.Said.TheVariants.{Done}
@@ -113,9 +113,9 @@ raw_beside d s bare fits =
     beside_blank d s (d.world.headers s + 0) (blank_sites d s blank d.world.sites) (no_more (d.world.headers s) ∙ blank.headers) (doubt_of (raw_event d s).world s (d.after s))
     (ap (λ (o : Option After). doubt_of (raw_event d s).world s o) (bare_sure d s bare fits))
 
-blank_fact : (d : Doubted) (s : ℕ) (n : Node) → IsBlank d.world s → fact_from n (d.world.links s) d.world.sites ≡ site_fact n
+blank_fact : (d : Doubted) (s : ℕ) (n : Node) → IsBlank d.world s → fact_from n (d.world.links s) d.world.sites ≡ seen_fact n
 blank_fact d s n blank =
-    ap (λ (ls : List LinkFacts). let f : SiteFacts = record (site_fact n) { links = ls } in f)
+    ap (λ (ls : List LinkFacts). let f : SiteFacts = record (seen_fact n) { links = ls } in f)
     (ap (λ (ss : List ℕ). links_by n.state (link_facts n (d.world.links s) ss)) (no_sites (d.world.links s) d.world.sites 0 d.world.sites blank.links) ∙ nothing_shown n.state)
 
 -- one without a group becomes a raw set without one
@@ -149,7 +149,7 @@ module _ {R : Type 0} {g : Ghosts R} where
   -- what the tests of the line found
   record IsRawSite (d : Doubted) (y : Yard R g) (name : List ℕ) (s : ℕ) (site : SiteFacts) : Type 0 where
     seat : SiteAt d y name s
-    fact : site ≡ site_fact (d.world.nodes s)
+    fact : site ≡ seen_fact (d.world.nodes s)
     bare : (d.world.nodes s).state ≡ IsBare
     can : CanBeRaw (d.world.nodes s).disks (d.world.nodes s).blocks
     outcome : outcome_of d.world (MakeRaw s) ≡ is_done (raw_made d.world s)

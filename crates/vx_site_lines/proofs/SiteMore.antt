@@ -38,10 +38,10 @@ use Rattle.vx_events.proofs.Steps.{site_step}
 use Rattle.vx_events.proofs.Testing.{absent, none_under}
 use Rattle.vx_events.proofs.Values.{length-values_from, values_from-push}
 use Rattle.vx_events.specs.Effects.{AddsSite}
-use Rattle.vx_events.specs.Facts.{site_fact, values_from}
+use Rattle.vx_events.specs.Facts.{values_from}
 use Rattle.vx_events.specs.GroupLines.{is_over_group}
 use Rattle.vx_events.specs.GroupNotes.{note_at}
-use Rattle.vx_events.specs.LinkedFacts.{link_facts, linked_fact, links_by}
+use Rattle.vx_events.specs.LinkedFacts.{link_facts, linked_fact, links_by, seen_fact}
 use Rattle.vx_events.specs.StepsOver.{fact_of_group, fact_over, facts_over}
 use Rattle.vx_events.proofs.OverSeats.{name_over}
 use Rattle.vx_events.specs.LinksFit.{LinksFit}
@@ -142,7 +142,7 @@ fact_more : (d e : Doubted) (n : Node) (i : ℕ) → AddsSite d e n → LinksFit
 fact_more d e n i adds fits apart =
     let more : e.world.sites ≡ suc d.world.sites = omega (arith, adds.sites) in
     fact_same (d.world.nodes i) (e.world.nodes i) (d.world.links i) (e.world.links i) (suc d.world.sites) e.world.sites (adds.nodes i apart) (adds.links i) more
-    ∙ ap (λ (ss : List ℕ). let f : SiteFacts = record (site_fact (d.world.nodes i)) { links = links_by (d.world.nodes i).state (link_facts (d.world.nodes i) (d.world.links i) ss) } in f)
+    ∙ ap (λ (ss : List ℕ). let f : SiteFacts = record (seen_fact (d.world.nodes i)) { links = links_by (d.world.nodes i).state (link_facts (d.world.nodes i) (d.world.links i) ss) } in f)
     (linked_more (d.world.links i) d.world.sites (fits.rows i).places)
 
 over_more : (d e : Doubted) (n : Node) (i : ℕ) → AddsSite d e n → LinksFit d → (i ≡ d.world.sites → ⊥) → fact_over e.world i ≡ fact_over d.world i

@@ -47,8 +47,8 @@ use Rattle.vx_events.specs.Effects.{EffectAt}
 use Rattle.vx_events.specs.Ends.{AllDone, DiskFails, Ends, FuseRunsOut, IsLeft}
 use Rattle.vx_events.specs.Fails.{IsSiteDisk}
 use Rattle.vx_diskset.specs.Blames.{BlamesSite}
-use Rattle.vx_events.specs.Facts.{group_by, group_fact, seat_of, site_fact, site_number}
-use Rattle.vx_events.specs.LinkedFacts.{link_facts, links_by}
+use Rattle.vx_events.specs.Facts.{group_by, group_fact, seat_of, site_number}
+use Rattle.vx_events.specs.LinkedFacts.{link_facts, links_by, seen_fact}
 use Rattle.vx_events.specs.LinksFit.{LinksFit}
 use Rattle.vx_events.specs.Lists.{Choice}
 use Rattle.vx_events.specs.Sayings.{RepeatsSaid, Replies}
@@ -98,7 +98,7 @@ halted_fact : (n : Node) (row : ℕ → Link) (sites disk : ℕ) → halted_fact
 halted_fact n row sites disk =
     let ss : List ℕ = linked_sites row sites 0 sites in
     ap (λ (x : SiteFacts). let f : SiteFacts = record x { links = links_by n.state (link_facts n row ss) } in f) (stopped_fact n disk)
-    ∙ ap (λ (ls : List LinkFacts). let f : SiteFacts = record (site_fact (halted_at n disk)) { links = links_by n.state ls } in f) (sym (shown_by n (halted_at n disk) row (λ k l. refl) ss))
+    ∙ ap (λ (ls : List LinkFacts). let f : SiteFacts = record (seen_fact (halted_at n disk)) { links = links_by n.state ls } in f) (sym (shown_by n (halted_at n disk) row (λ k l. refl) ss))
 
 -- a line that applies finds a replicated volume group
 apply_has : (sites : List SiteFacts) (files : Bool) (name : List ℕ) (to : ℕ) → line_refusal sites files (Apply name to) ≡ None → (n : Named sites name) → is_some (rvg_of (Some n.facts)) ≡ true

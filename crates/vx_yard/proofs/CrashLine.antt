@@ -11,10 +11,11 @@ use Rattle.vx_diskset.specs.declared.disk_set.DiskSet.{DiskSet}
 use Rattle.vx_yard.specs.declared.yard.Yard.{Yard}
 use Rattle.vx_yard.specs.Changes.{halted_facts}
 use Rattle.vx_diskset.specs.DiskSets.{Later, halted_at}
-use Rattle.vx_events.specs.Facts.{site_fact, group_by}
+use Rattle.vx_events.specs.Facts.{group_by}
 use Rattle.vx_yard.specs.Stands.{RoseAll, site_faults}
 use Rattle.vx_yard.specs.Yards.{count_of}
 use Rattle.vx_yard.proofs.ChangeSite.{rose_none, counts_later}
+use Rattle.vx_events.specs.LinkedFacts.{seen_fact}
 
 halted_as : (state : SiteState) (n : Node) (disk : ℕ) → halted_group disk (group_by state n) ≡ group_by state (halted_at n disk)
 halted_as IsBare n disk = refl
@@ -22,8 +23,8 @@ halted_as IsUp n disk = refl
 halted_as Deported n disk = refl
 halted_as IsDown n disk = refl
 
-pub stopped_fact : (n : Node) (disk : ℕ) → halted_facts disk (site_fact n) ≡ site_fact (halted_at n disk)
-stopped_fact n disk = ap (λ r. let f : SiteFacts = record (site_fact n) { rvg = r } in f) (halted_as n.state n disk)
+pub stopped_fact : (n : Node) (disk : ℕ) → halted_facts disk (seen_fact n) ≡ seen_fact (halted_at n disk)
+stopped_fact n disk = ap (λ r. let f : SiteFacts = record (seen_fact n) { rvg = r } in f) (halted_as n.state n disk)
 
 fuse_as : (state : SiteState) (n : Node) (f : Fuse) → group_by state (record n { fuse = f }) ≡ group_by state n
 fuse_as IsBare n f = refl
@@ -32,8 +33,8 @@ fuse_as Deported n f = refl
 fuse_as IsDown n f = refl
 
 -- the tests see no fuse
-pub fuse_fact : (n : Node) (f : Fuse) → site_fact (record n { fuse = f }) ≡ site_fact n
-fuse_fact n f = ap (λ r. let x : SiteFacts = record (site_fact n) { rvg = r } in x) (fuse_as n.state n f)
+pub fuse_fact : (n : Node) (f : Fuse) → seen_fact (record n { fuse = f }) ≡ seen_fact n
+fuse_fact n f = ap (λ r. let x : SiteFacts = record (seen_fact n) { rvg = r } in x) (fuse_as n.state n f)
 
 module _ {R : Type 0} {g : Ghosts R} where
   pub rose_still : (old new : Yard R g) (s : ℕ) (e after : DiskSet R g) → slice_get old.disk_sets.items s ≡ Some e → Later e after → new.disk_sets.items ≡ slice_set old.disk_sets.items s after → RoseAll [] (count_of old) (count_of new)

@@ -11,7 +11,7 @@ use Rattle.vx_disk.specs.Racks.{IsRack}
 use Rattle.vx_disk.specs.Disks.{Disks, SameBlocks, Untouched}
 use Rattle.vx_disk.specs.declared.shelf.Shelf.{Ghosts}
 use Rattle.vx_order.specs.declared.facts.SiteFacts.{SiteFacts}
-use Rattle.vx_events.specs.Facts.{site_fact, group_by}
+use Rattle.vx_events.specs.Facts.{group_by}
 use Rattle.vx_events.specs.declared.said.Said.{Said}
 use Rattle.vx_events.specs.declared.said.Said.TheVariants.{DoneAt, Logged}
 use Rattle.vx_events.specs.Sayings.{is_written}
@@ -31,6 +31,7 @@ use Rattle.vx_grouped.specs.declared.group_site.GroupSite.TheVariants.{Up as Gro
 use Rattle.vx_untold.specs.Shades.{shade_rack, shade_meaning}
 use Rattle.vx_diskset.proofs.KeepsFailing.{Same, same_on}
 use Rattle.vx_untold.specs.declared.shade.Shade.{Shade}
+use Rattle.vx_events.specs.LinkedFacts.{seen_fact}
 
 -- ---- which disks are made to fail is seen by no test
 
@@ -40,8 +41,8 @@ group_as IsUp n failing = refl
 group_as Deported n failing = refl
 group_as IsDown n failing = refl
 
-pub failing_fact : (n : Node) (failing : ℕ → Bool) → site_fact (record n { failing = failing }) ≡ site_fact n
-failing_fact n failing = ap (λ r. let x : SiteFacts = record (site_fact n) { rvg = r } in x) (group_as n.state n failing)
+pub failing_fact : (n : Node) (failing : ℕ → Bool) → seen_fact (record n { failing = failing }) ≡ seen_fact n
+failing_fact n failing = ap (λ r. let x : SiteFacts = record (seen_fact n) { rvg = r } in x) (group_as n.state n failing)
 
 fails_on : (o n : Option Disks) (f f' : ℕ → Bool) → f' ≡ f → ((d : Disks) → o ≡ Some d → (u : ℕ) → f u ≡ true → d.failing u ≡ true) → Same o n → (d : Disks) → n ≡ Some d → (u : ℕ) → f' u ≡ true → d.failing u ≡ true
 fails_on None None f f' is told same d there u on = absurd (cc)

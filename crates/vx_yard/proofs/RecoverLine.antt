@@ -12,7 +12,7 @@ use Rattle.vx_history.specs.Doubts.{Doubted}
 use Rattle.vx_history.specs.declared.event.Event.TheVariants.{Recover as RecoverAt}
 use Rattle.vx_script.specs.declared.line.ScriptLine.TheVariants.{Recover}
 use Rattle.vx_events.specs.Ends.{Ends}
-use Rattle.vx_events.specs.Facts.{site_fact, site_number, group_by}
+use Rattle.vx_events.specs.Facts.{site_number, group_by}
 use Rattle.vx_events.specs.Lines.{IsDone as IsDoneLine}
 use Rattle.vx_events.specs.Lists.{crash_count, events_of, recovery_of}
 use Rattle.vx_events.specs.declared.said.Said.{Said}
@@ -22,10 +22,11 @@ use Rattle.vx_events.specs.Fails.{Fails}
 use Rattle.vx_yard.specs.Stands.{RoseAll, RoseBy, times}
 use Rattle.vx_diskset.specs.Stands.{IsRackTold, IsToldAt}
 use Rattle.vx_diskset.specs.Aboves.{site_in}
+use Rattle.vx_events.specs.LinkedFacts.{seen_fact}
 
 -- a session more is not seen
-pub session_fact : (n : Node) → site_fact n ≡ site_fact (record n { session = n.session + 1 })
-session_fact n = ap (λ r. let f : SiteFacts = record (site_fact n) { rvg = r } in f) (seen n.state)
+pub session_fact : (n : Node) → seen_fact n ≡ seen_fact (record n { session = n.session + 1 })
+session_fact n = ap (λ r. let f : SiteFacts = record (seen_fact n) { rvg = r } in f) (seen n.state)
   where
     seen : (t : SiteState) → group_by t n ≡ group_by t (record n { session = n.session + 1 })
     seen IsBare = refl

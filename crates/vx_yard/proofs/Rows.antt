@@ -13,13 +13,13 @@ use Rattle.vx_order.specs.declared.facts.RvgFacts.{RvgFacts}
 use Rattle.vx_order.specs.declared.facts.SiteFacts.{SiteFacts}
 use Rattle.vx_order.specs.declared.facts.VolumeFacts.{VolumeFacts}
 use Rattle.vx_diskset.specs.Holds.{row_links}
-use Rattle.vx_events.specs.Facts.{group_by, site_fact, volume_fact}
+use Rattle.vx_events.specs.Facts.{group_by, volume_fact}
 use Rattle.vx_events.specs.GroupLines.{is_over_group}
 use Rattle.vx_events.specs.GroupNotes.{no_note, note_at}
 use Rattle.vx_events.specs.GroupViews.{noted_table}
 use Rattle.vx_events.specs.RvgViews.{is_over_rvg, over_facts}
 use Rattle.vx_events.specs.StepsOver.{fact_of_group}
-use Rattle.vx_events.specs.LinkedFacts.{needed_by, link_fact, link_facts, links_by}
+use Rattle.vx_events.specs.LinkedFacts.{needed_by, link_fact, link_facts, links_by, seen_fact}
 use Rattle.vx_effects.specs.Facts.{down_fact}
 
 module _ (row new : ℕ → Link) (same : (k : ℕ) → new k ≡ row k) where
@@ -52,12 +52,12 @@ module _ (row new : ℕ → Link) (same : (k : ℕ) → new k ≡ row k) where
 
 -- what the tests see of a site with this node and these links, among so many sites
 abbrev pub fact_from : Node → (ℕ → Link) → ℕ → SiteFacts
-fact_from n row sites = record (site_fact n) { links = links_by n.state (link_facts n row (linked_sites row sites 0 sites)) }
+fact_from n row sites = record (seen_fact n) { links = links_by n.state (link_facts n row (linked_sites row sites 0 sites)) }
 
 pub fact_same : (n m : Node) (row new : ℕ → Link) (sites many : ℕ) → m ≡ n → ((k : ℕ) → new k ≡ row k) → many ≡ sites → fact_from m new many ≡ fact_from n row sites
 fact_same n m row new sites many node same count =
     ap (λ (k : Node). fact_from k new many) node ∙ ap (λ (k : ℕ). fact_from n new k) count
-    ∙ ap (λ (ls : List LinkFacts). let f : SiteFacts = record (site_fact n) { links = links_by n.state ls } in f) (link_facts_same row new same n sites)
+    ∙ ap (λ (ls : List LinkFacts). let f : SiteFacts = record (seen_fact n) { links = links_by n.state ls } in f) (link_facts_same row new same n sites)
 
 -- the same of a site that may be over a group
 abbrev pub over_from : Node → (ℕ → Link) → ℕ → SiteFacts
@@ -128,7 +128,7 @@ shown_by n m row used (s ∷ ss) =
     ap (λ (k : ℕ). (let f : LinkFacts = record (link_fact n s (row s)) { used = k } in f) ∷ link_facts m row ss) (used s (row s))
     ∙ ap (λ (ls : List LinkFacts). link_fact n s (row s) ∷ ls) (shown_by n m row used ss)
 
-pub fact_like : (n m : Node) (row : ℕ → Link) (sites : ℕ) → site_fact m ≡ site_fact n → ((s : ℕ) (l : Link) → needed_by m s l ≡ needed_by n s l) → fact_from m row sites ≡ fact_from n row sites
+pub fact_like : (n m : Node) (row : ℕ → Link) (sites : ℕ) → seen_fact m ≡ seen_fact n → ((s : ℕ) (l : Link) → needed_by m s l ≡ needed_by n s l) → fact_from m row sites ≡ fact_from n row sites
 fact_like n m row sites same used =
     ap (λ (x : SiteFacts). let f : SiteFacts = record x { links = links_by x.state (link_facts m row (linked_sites row sites 0 sites)) } in f) same
-    ∙ ap (λ (ls : List LinkFacts). let f : SiteFacts = record (site_fact n) { links = links_by n.state ls } in f) (shown_by n m row used (linked_sites row sites 0 sites))
+    ∙ ap (λ (ls : List LinkFacts). let f : SiteFacts = record (seen_fact n) { links = links_by n.state ls } in f) (shown_by n m row used (linked_sites row sites 0 sites))
