@@ -1,5 +1,5 @@
 -- What stands over the volumes of a group of disks.
-use Rattle.std.specs.Prelude.{◌≡◌, ℕ, ◌<◌, Option, Some, None, true, length}
+use Rattle.std.specs.Prelude.{◌≡◌, ℕ, Bool, ◌<◌, Option, Some, None, true, false, length}
 use Rattle.vx_disk.specs.Shelf.{Meaning}
 use Rattle.vx_disk.specs.declared.shelf.Shelf.{Ghosts}
 use Rattle.vx_ground.specs.Lifted.{laid_volumes}
@@ -27,6 +27,12 @@ abbrev pub core_of : Above → Option Core
 core_of Nothing = None
 core_of (Origin core) = Some core
 core_of (Receiver core waiting) = Some core
+
+-- whether it receives, with room for the updates that wait
+abbrev pub is_receiver : Above → Bool
+is_receiver Nothing = false
+is_receiver (Origin core) = false
+is_receiver (Receiver core waiting) = true
 
 -- no updates wait behind it: it takes none
 abbrev pub IsDeaf : Above → Type 0

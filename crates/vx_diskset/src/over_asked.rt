@@ -1,6 +1,6 @@
 // What is asked of the replicated volume group of a site over a disk group.
 ghost use Rattle.std.specs.Prelude.{◌≡◌, option_copied};
-ghost use Rattle.vx_diskset.specs.Aboves.{above_in, core_of, site_in};
+ghost use Rattle.vx_diskset.specs.Aboves.{above_in, core_of, is_receiver, site_in};
 ghost use Rattle.vx_grouped.specs.GroupSites.{site_config};
 
 use crate::disk_set::last_in;
@@ -35,8 +35,13 @@ impl<R: Rack> OverSet<R> {
     }
 
     /// Whether it receives the writes of another, with room for the updates that wait.
-    pub fn receives(&self) -> bool {
-        matches!(&self.site, OverSite::Receiver(_))
+    pub fn receives(&self) -> bool
+        ensures { result ≡ is_receiver (above_in self.now) }
+    {
+        match &self.site {
+            OverSite::Receiver(_) => true,
+            OverSite::Origin(_) | OverSite::Deported(_) | OverSite::Down(_) | OverSite::Gone => false,
+        }
     }
 
     pub(crate) fn last(&self) -> u64 {

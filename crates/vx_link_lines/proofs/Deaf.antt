@@ -36,7 +36,7 @@ use Rattle.vx_script.specs.declared.line.ScriptLine.TheVariants.{Deliver}
 use Rattle.vx_diskset.specs.Asked.{LeavesAlone}
 use Rattle.vx_diskset.specs.Holds.{KeptBeside, beside_of}
 use Rattle.vx_diskset.specs.Stands.{IsRackTold, RoleIs, SiteStands}
-use Rattle.vx_diskset.specs.Aboves.{IsDeaf, above_in}
+use Rattle.vx_diskset.specs.Aboves.{IsDeaf, above_in, is_receiver}
 use Rattle.vx_diskset.specs.declared.above.Above.{Above}
 use Rattle.vx_diskset.specs.declared.above.Above.TheVariants.{Nothing, Origin, Receiver}
 use Rattle.vx_diskset.specs.declared.disk_set.DiskSet.{DiskSet}
@@ -45,7 +45,7 @@ use Rattle.vx_joins.proofs.TakesUpdate.{ignored_is}
 use Rattle.vx_joins.specs.Deliveries.{IsUnheard, TakesNone, TakesOne, TookTo}
 use Rattle.vx_yard.specs.Changes.{last_facts}
 use Rattle.vx_diskset.proofs.OverSets.{over_deaf}
-use Rattle.vx_yard.specs.Deliveries.{Receives, is_receiver}
+use Rattle.vx_yard.specs.Deliveries.{Receives}
 use Rattle.vx_yard.specs.Standing.{Leads, StandsFor}
 use Rattle.vx_yard.specs.Stands.{AreTold}
 use Rattle.vx_yard.specs.Yards.{IsTold}

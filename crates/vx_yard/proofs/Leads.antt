@@ -12,8 +12,8 @@ use Rattle.vx_diskset.specs.declared.disk_set.DiskSet.TheVariants.{Bare, Spoiled
 use Rattle.vx_diskset.specs.declared.over_set.OverSite.{OverSite}
 use Rattle.vx_diskset.specs.declared.over_set.OverSite.TheVariants.{Origin as OriginSite, Receiver as ReceiverSite, Deported as OverAway, Down as OverFell, Gone as NoOver}
 use Rattle.vx_diskset.proofs.GroupStands.{up_has_none}
-use Rattle.vx_yard.specs.Deliveries.{Receives, is_receiver}
-use Rattle.vx_diskset.specs.Aboves.{above_site}
+use Rattle.vx_yard.specs.Deliveries.{Receives}
+use Rattle.vx_diskset.specs.Aboves.{above_site, is_receiver}
 
 module _ {R : Type 0} {g : Ghosts R} where
   over_origin : (beside : KeptBeside) (n : Node) (s : OverSite R g) → is_receiver (above_site s) ≡ false → RoleBy n (above_site s) → OverStands beside n s → n.state ≡ IsUp → is_origin n.role ≡ true

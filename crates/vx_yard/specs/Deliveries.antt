@@ -1,16 +1,9 @@
 -- What the line that hands a packet to its target looks at.
 use Rattle.std.specs.Prelude.{◌≡◌, Bool, true, false}
 use Rattle.vx_disk.specs.declared.shelf.Shelf.{Ghosts}
-use Rattle.vx_diskset.specs.Aboves.{above_in}
-use Rattle.vx_diskset.specs.declared.above.Above.{Above}
-use Rattle.vx_diskset.specs.declared.above.Above.TheVariants.{Nothing, Origin, Receiver}
+use Rattle.vx_diskset.specs.Aboves.{above_in, is_receiver}
 use Rattle.vx_diskset.specs.declared.disk_set.DiskSet.{DiskSet}
 use Rattle.vx_diskset.specs.declared.disk_set.DiskSet.TheVariants.{Bare, Spoiled, Up, Receives as HasRoom, Down, OfGroup, Over, Gone}
-
-abbrev pub is_receiver : Above → Bool
-is_receiver Nothing = false
-is_receiver (Origin core) = false
-is_receiver (Receiver core waiting) = true
 
 module _ {R : Type 0} {g : Ghosts R} where
   -- whether a group has the room in which updates wait

@@ -1,7 +1,9 @@
 pub mod BothSites
 pub mod Carries
 pub mod Changes
+pub mod DataPlaces
 pub mod Deliveries
+pub mod Gaining
 pub mod GroupFacts
 pub mod Happenings
 pub mod Holds
@@ -12,7 +14,6 @@ pub mod OfSites
 pub mod Racks
 pub mod Replies
 pub mod Standing
-pub mod Gaining
 pub mod Stands
 pub mod Steps
 pub mod Working
