@@ -1,6 +1,6 @@
 -- What a line that makes a disk fail, or ends that, comes to.
 use Rattle.std.proofs.Common.{◌≡◌, ℕ, Bool, false, List, [], ap, sym, subst, refl}
-use Rattle.std.specs.Prelude.{Some, slice_get}
+use Rattle.std.specs.Prelude.{None, Some, slice_get}
 use Rattle.vx_history.specs.Doubts.{Doubted}
 use Rattle.vx_history.specs.World.{with_node}
 use Rattle.vx_history.specs.World.{Node, updated}
@@ -12,6 +12,7 @@ use Rattle.vx_events.specs.declared.said.Said.TheVariants.{Done}
 use Rattle.vx_yard.specs.declared.yard.Yard.{Yard}
 use Rattle.vx_events.specs.Facts.{seat_of, site_number}
 use Rattle.vx_events.specs.Failing.{is_failing, made_fail}
+use Rattle.vx_events.specs.RvgSteps.{over_rvg_at}
 use Rattle.vx_events.specs.StepsOver.{over_group_at}
 use Rattle.vx_yard.proofs.CrashLine.{rose_still}
 use Rattle.vx_yard.proofs.FailsStay.{failing_fact}
@@ -32,7 +33,7 @@ use Rattle.vx_yard.proofs.OneSite.{Changed, role_kept, stands_still, told_by}
 use Rattle.vx_yard.proofs.Rows.{fact_like, fact_same}
 use Rattle.vx_history.proofs.Updates.{at_place}
 use Rattle.vx_order.specs.declared.facts.SiteFacts.{SiteFacts}
-use Rattle.vx_diskset.specs.declared.disk_set.DiskSet.TheVariants.{Bare, Spoiled, Up, Receives, Down, OfGroup, Gone}
+use Rattle.vx_diskset.specs.declared.disk_set.DiskSet.TheVariants.{Bare, Spoiled, Up, Receives, Down, OfGroup, Over, Gone}
 use Rattle.std.proofs.Common.{◌<◌, ◌∙◌, arith}
 use Rattle.vx_yard.proofs.Carrying.{SameLoad, carries_node}
 use Rattle.vx_grouped.specs.GroupSites.{GroupSiteStands, site_disks}
@@ -41,6 +42,7 @@ use Rattle.vx_grouped.specs.declared.group_site.GroupSite.TheVariants.{Up as Gro
 use Rattle.vx_site_lines.proofs.Apart.{fact_stays, over_is}
 use Rattle.vx_diskset.proofs.Laying.{raw_in}
 use Rattle.vx_yard.proofs.FirstSites.{begins_like}
+use Rattle.vx_yard.proofs.RawSites.{ungrouped_at, ungrouped_site}
 
 module _ {R : Type 0} {g : Ghosts R} where
   -- those of a group have as many
@@ -51,23 +53,24 @@ module _ {R : Type 0} {g : Ghosts R} where
   group_units n (Marked rack) h = h.units
   group_units n GroupGone h = absurd h
 
-  units_at : (beside : KeptBeside) (n : Node) (e : DiskSet R g) → SiteStands beside n e → units_in e ≡ n.disks
-  units_at beside n (Bare rack) h = h.bare.fitted.units
-  units_at beside n (Spoiled rack) h = h.fitted.units
-  units_at beside n (Up rvg) h = (raw_in n (g.meaning rvg.shelf) h.0.0 h.1.lies).units
-  units_at beside n (Receives site) h = (raw_in n (g.meaning site.rvg.shelf) h.0.0 h.1.lies).units
-  units_at beside n (Down rack) h = h.lies.units
-  units_at beside n (OfGroup s) h = group_units n s.site h.stands
-  units_at beside n Gone h = absurd h
+  units_at : (beside : KeptBeside) (n : Node) (e : DiskSet R g) → n.group ≡ None → SiteStands beside n e → units_in e ≡ n.disks
+  units_at beside n (Bare rack) none h = h.bare.fitted.units
+  units_at beside n (Spoiled rack) none h = h.fitted.units
+  units_at beside n (Up rvg) none h = (raw_in n (g.meaning rvg.shelf) h.0.0 h.1.lies).units
+  units_at beside n (Receives site) none h = (raw_in n (g.meaning site.rvg.shelf) h.0.0 h.1.lies).units
+  units_at beside n (Down rack) none h = h.lies.units
+  units_at beside n (OfGroup s) none h = group_units n s.site h.stands
+  units_at beside n (Over s) none h = absurd (h.0.0 none)
+  units_at beside n Gone none h = absurd h
 
   -- the disk that the line names is one of the site's
-  pub disk_set_so : (d : Doubted) (old : Yard R g) (name : List ℕ) (disk : ℕ) (state : DiskState) (on : Bool) (s : ℕ) (before after : DiskSet R g) → StandsFor d old → over_group_at d.world name ≡ false → IsFree old (Disk name disk state)
+  pub disk_set_so : (d : Doubted) (old : Yard R g) (name : List ℕ) (disk : ℕ) (state : DiskState) (on : Bool) (s : ℕ) (before after : DiskSet R g) → StandsFor d old → over_group_at d.world name ≡ false → over_rvg_at d.world name ≡ false → IsFree old (Disk name disk state)
       → seat_of old.facts.items name ≡ Some s → on ≡ is_failing state → slice_get old.disk_sets.items s ≡ Some before → (disk < units_in before → SetsDisk disk on before after) → SetsDisk disk (is_failing state) before after
-  disk_set_so d old name disk state on s before after stands apart free seat is there did =
+  disk_set_so d old name disk state on s before after stands apart rvg free seat is there did =
       let here = named_at d old name s stands apart seat in
       let may = disk_may old.facts.items (in_files old) name disk state free in
       let fact = fact_named d old name s here seat may.0 in
-      let units = units_at (beside_of d s) (d.world.nodes s) before (stands.disk_sets.sites s before here.below there) in
+      let units = units_at (beside_of d s) (d.world.nodes s) before (ungrouped_site d.world name s here.number (ungrouped_at d.world name apart rvg)) (stands.disk_sets.sites s before here.below there) in
       subst (λ (b : Bool). SetsDisk disk b before after) is (did (omega (arith, may.1, units, ap (λ (f : SiteFacts). f.disks) fact)))
 
   pub disk_leads : (d : Doubted) (old new : Yard R g) (name : List ℕ) (disk : ℕ) (state : DiskState) (s : ℕ) (before after : DiskSet R g) → StandsFor d old → over_group_at d.world name ≡ false → seat_of old.facts.items name ≡ Some s
