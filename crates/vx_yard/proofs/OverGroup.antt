@@ -28,7 +28,7 @@ use Rattle.vx_diskset.specs.declared.group_set.GroupSet.{GroupSet}
 use Rattle.vx_events.proofs.Places.{never_some}
 use Rattle.vx_events.specs.GroupLines.{is_over_group}
 use Rattle.vx_events.specs.RvgViews.{is_over_rvg}
-use Rattle.vx_yard.specs.Standing.{BeginsFirst}
+use Rattle.vx_yard.specs.Standing.{BeginsFirst, NotedAt}
 
 -- a site that notes a group is over it
 pub noted_over : (n : Node) (note : GroupNode) → NotesGroup n note → is_over_group n ≡ true
@@ -125,6 +125,17 @@ module _ {R : Type 0} {g : Ghosts R} where
   -- and notes the group
   pub over_rvg : (beside : KeptBeside) (n : Node) (s : OverSet R g) → SiteStands beside n (Over s) → is_over_rvg n ≡ true
   over_rvg beside n s it = with_data n.group (length n.volumes) (some_group n.group it.0.0) (over_many beside n s.site it.1)
+
+  -- of a site without one nothing is noted
+  pub none_noted_at : (beside : KeptBeside) (n m : Node) (e : DiskSet R g) → SiteStands beside n e → n.group ≡ None → NotedAt m e
+  none_noted_at beside n m (Bare rack) it none = tt
+  none_noted_at beside n m (Spoiled rack) it none = tt
+  none_noted_at beside n m (Up rvg) it none = tt
+  none_noted_at beside n m (Receives s) it none = tt
+  none_noted_at beside n m (Down rack) it none = tt
+  none_noted_at beside n m (OfGroup s) it none = tt
+  none_noted_at beside n m (Over s) it none = absurd (it.0.0 none)
+  none_noted_at beside n m Gone it none = tt
 
   -- a site over no group has a volume, where it is made
   made_many : (beside : KeptBeside) (n : Node) (e : DiskSet R g) → SiteStands beside n e → is_over_group n ≡ false → (n.state ≡ IsBare → ⊥) → 1 ≤ length n.volumes
