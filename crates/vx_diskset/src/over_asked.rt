@@ -40,7 +40,8 @@ impl<R: Rack> OverSet<R> {
     {
         match &self.site {
             OverSite::Receiver(_) => true,
-            OverSite::Origin(_) | OverSite::Deported(_) | OverSite::Down(_) | OverSite::Gone => false,
+            OverSite::Origin(_) | OverSite::Deported(_) | OverSite::Down(_) | OverSite::Gone =>
+                false,
         }
     }
 

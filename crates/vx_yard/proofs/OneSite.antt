@@ -18,6 +18,7 @@ use Rattle.vx_diskset.specs.declared.disk_set.DiskSet.{DiskSet}
 use Rattle.vx_diskset.specs.declared.disk_set.DiskSet.TheVariants.{Bare, Spoiled, Up, Receives, Down, OfGroup, Over, Gone}
 use Rattle.vx_diskset.specs.declared.over_set.OverSite.{OverSite}
 use Rattle.vx_diskset.specs.declared.over_set.OverSite.TheVariants.{Origin as OriginSite, Receiver as ReceiverSite, Deported as OverAway, Down as OverFell, Gone as NoOver}
+use Rattle.vx_diskset.specs.Noted.{NotedAt}
 use Rattle.vx_model.specs.declared.site.SiteState.TheVariants.{Up as IsUp}
 use Rattle.vx_events.specs.Effects.{ChangesNode}
 use Rattle.vx_events.specs.Facts.{values_from}
@@ -29,7 +30,7 @@ use Rattle.vx_events.specs.LinksFit.{LinksFit}
 use Rattle.vx_events.proofs.Places.{some_same}
 use Rattle.vx_events.proofs.Values.{slice_get-values_from}
 use Rattle.vx_yard.specs.Stands.{AreTold, RoseAll, site_faults}
-use Rattle.vx_yard.specs.Standing.{BeginsFirst, IsSameSite, NotedAt, SitesAgree, StandsFor}
+use Rattle.vx_yard.specs.Standing.{BeginsFirst, IsSameSite, SitesAgree, StandsFor}
 use Rattle.vx_yard.specs.Yards.{IsTold, count_of}
 use Rattle.vx_yard.specs.declared.yard.Yard.{Yard}
 use Rattle.vx_yard.proofs.ChangeSite.{counts_later, counts_rose, rose_one, told_before}

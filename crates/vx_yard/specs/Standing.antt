@@ -7,7 +7,6 @@ use Rattle.vx_model.specs.declared.errors.OutOfMemory.{OutOfMemory}
 use Rattle.vx_model.specs.declared.limits.TheConstants.{MOST_SITES}
 use Rattle.vx_history.specs.Doubts.{After, Doubted, happened}
 use Rattle.vx_history.specs.Step.{step}
-use Rattle.vx_history.specs.Groups.{GroupNode}
 use Rattle.vx_history.specs.World.{Node}
 use Rattle.vx_history.specs.declared.event.Event.TheVariants.{Crash as CrashAt}
 use Rattle.vx_history.specs.declared.event.Said.TheVariants.{Done as IsDone}
@@ -21,9 +20,8 @@ use Rattle.vx_diskset.specs.Asked.{FailsAs, FusedAs}
 use Rattle.vx_diskset.specs.Holds.{beside_of}
 use Rattle.vx_diskset.specs.Makings.{IsFirstSite}
 use Rattle.vx_diskset.specs.Stands.{IsUnused, RoleIs, SiteStands}
-use Rattle.vx_diskset.specs.Noted.{SiteNoted}
+use Rattle.vx_diskset.specs.Noted.{NotedAt}
 use Rattle.vx_diskset.specs.declared.disk_set.DiskSet.{DiskSet}
-use Rattle.vx_diskset.specs.declared.disk_set.DiskSet.TheVariants.{Over}
 use Rattle.vx_events.specs.Fails.{Fails}
 use Rattle.vx_events.specs.GroupEnds.{GroupEnds}
 use Rattle.vx_events.specs.Lines.{IsDone as IsDoneLine}
@@ -69,11 +67,6 @@ module _ {R : Type 0} {g : Ghosts R} where
   -- the group of each site has the room in which updates wait, or not, as the role of the site has it
   pub record RolesAre (d : Doubted) (y : Yard R g) : Type 0 where
     pub each : (s : ℕ) (e : DiskSet R g) → s < d.world.sites → slice_get y.disk_sets.items s ≡ Some e → RoleIs (d.world.nodes s) e
-
-  -- the group of a site with a replicated volume group over it is as it is noted
-  abbrev pub NotedAt : Node → DiskSet R g → Type 0
-  NotedAt n (Over s) = (note : GroupNode) → n.group ≡ Some note → SiteNoted n note (Over s)
-  NotedAt n e = Unit {0}
 
   -- The yard stands for this world, in which sites may be in doubt: it has what the tests of a line see of it, and disk sets that agree with it. Each
   -- site has the group that its role asks for, and one in doubt is the same site either way. The disks that the world makes fail are made to fail, and a

@@ -5,6 +5,7 @@ use Rattle.vx_yard.proofs.ChangeSite.{raw_told}
 use Rattle.vx_diskset.specs.declared.disk_set.DiskSet.TheVariants.{Gone}
 use Rattle.vx_yard.proofs.Lists.{get_at, set_twice}
 use Rattle.vx_diskset.proofs.KeepsFailing.{failing_stopped}
+use Rattle.vx_diskset.proofs.OverNoted.{noted_fell}
 use Rattle.vx_diskset.specs.Holds.{beside_of}
 use Rattle.vx_yard.proofs.CrashSite.{falls}
 use Rattle.vx_yard.proofs.falling.go_down.Goals as goal
@@ -47,7 +48,8 @@ returns-clause-falls g c = λ d stands below up.
     })
     (c.crash.ensures.crashed (beside_of d s) (d.world.nodes s) (stands.disk_sets.sites s c.replace-disk_set.result below there) up)
     (c.crash.ensures.durable (beside_of d s) (d.world.nodes s) (stands.disk_sets.sites s c.replace-disk_set.result below there) up)
-    (failing_stopped c.args.pick c.replace-disk_set.result c.crash.result c.crash.ensures.stopped) c.go_down.ensures refl
+    (failing_stopped c.args.pick c.replace-disk_set.result c.crash.result c.crash.ensures.stopped)
+    (λ m fell was. noted_fell (d.world.nodes s) m c.replace-disk_set.result c.crash.result c.crash.ensures.fallen fell was) c.go_down.ensures refl
     (record { flight = refl; assemblies = c.let_go.ensures; feeders = refl })
 
 pub returns-clause-asked : goal.returns-clause-asked
