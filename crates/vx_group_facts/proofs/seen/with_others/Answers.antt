@@ -9,19 +9,21 @@ use Rattle.vx_group_facts.proofs.KindPlaces.{others_more, others_part}
 use Rattle.vx_group_facts.proofs.seen.with_others.Goals as goal
 
 pub with_other-room-requires : goal.with_other-room-requires
-with_other-room-requires c = λ plain.
-    let n : ℕ = c.loop-place.place in
-    let vs = c.args.volumes.now in
-    let u = c.args.units.now in
-    let v = c.index-volumes-place.result in
-    let at : slice_get vs n ≡ Some v = slice_get-get_or vs n _ c.loop-place-test.true ∙ ap (λ e. Some e) (sym c.index-volumes-place.is) in
-    let before : List VolumeFacts = others_from u 0 (take n vs) in
-    let many : length c.loop-place.room ≡ length c.args.start + length before = ap (λ (fs : List VolumeFacts). length fs) c.loop-place.invariant ∙ length-append c.args.start before in
-    let more : others_from u 0 (take (n + 1) vs) ≡ before ++ kinded u n v ∷ [] =
-    others_more u n vs v at ∙ ap (λ (b : Bool). before ++ unless_data b (kinded u n v) []) plain in
-    let count : length (others_from u 0 (take (n + 1) vs)) ≡ length before + 1 = ap (λ (fs : List VolumeFacts). length fs) more ∙ length-append before (kinded u n v ∷ []) in
-    let part : length (others_from u 0 (take (n + 1) vs)) ≤ length (others_from u 0 vs) = others_part u 0 (n + 1) vs in
-    omega (arith, many, count, part, c.requires.fits)
+with_other-room-requires c = record {
+  room = λ plain.
+      let n : ℕ = c.loop-place.place in
+      let vs = c.args.volumes.now in
+      let u = c.args.units.now in
+      let v = c.index-volumes-place.result in
+      let at : slice_get vs n ≡ Some v = slice_get-get_or vs n _ c.loop-place-test.true ∙ ap (λ e. Some e) (sym c.index-volumes-place.is) in
+      let before : List VolumeFacts = others_from u 0 (take n vs) in
+      let many : length c.loop-place.room ≡ length c.args.start + length before = ap (λ (fs : List VolumeFacts). length fs) c.loop-place.invariant ∙ length-append c.args.start before in
+      let more : others_from u 0 (take (n + 1) vs) ≡ before ++ kinded u n v ∷ [] =
+      others_more u n vs v at ∙ ap (λ (b : Bool). before ++ unless_data b (kinded u n v) []) plain in
+      let count : length (others_from u 0 (take (n + 1) vs)) ≡ length before + 1 = ap (λ (fs : List VolumeFacts). length fs) more ∙ length-append before (kinded u n v ∷ []) in
+      let part : length (others_from u 0 (take (n + 1) vs)) ≤ length (others_from u 0 vs) = others_part u 0 (n + 1) vs in
+      omega (arith, many, count, part, c.requires.fits);
+}
 
 pub loop-place-preserved : goal.loop-place-preserved
 loop-place-preserved c =
