@@ -1,14 +1,14 @@
 -- What a site notes of its group of disks, below a replicated volume group or not.
-use Rattle.std.specs.Prelude.{◌≡◌, ◌⊎◌, ℕ, [], false, IsFalse, None, Result}
+use Rattle.std.specs.Prelude.{◌≡◌, ◌⊎◌, ℕ, [], false, IsFalse, Some, None, Result}
 use Rattle.vx_disk.specs.Shelf.{Meaning}
 use Rattle.vx_disk.specs.declared.shelf.Shelf.{Ghosts}
 use Rattle.vx_model.specs.declared.no.No.{No}
 use Rattle.vx_model.specs.declared.site.Role.TheVariants.{Primary}
-use Rattle.vx_model.specs.declared.site.SiteState.TheVariants.{Up as IsUp}
+use Rattle.vx_model.specs.declared.site.SiteState.TheVariants.{Down as IsDown, Up as IsUp}
 use Rattle.vx_history.specs.Groups.{GroupNode, NoteWorks}
 use Rattle.vx_history.specs.Steps.{crashed}
 use Rattle.vx_history.specs.Stops.{IsFused}
-use Rattle.vx_history.specs.World.{FuseSet, Node}
+use Rattle.vx_history.specs.World.{FuseSet, Node, NoFuse}
 use Rattle.vx_groupmaps.specs.Loading.{DeviceRose}
 use Rattle.vx_grouped.specs.ConfigMoves.{LosesSome}
 use Rattle.vx_grouped.specs.GroupSites.{AwayNoted, CutNoted, DownNoted, UpNoted, site_below, site_disks, with_note}
@@ -35,6 +35,16 @@ below_rvg n = record n { role = Primary; volumes = []; log = []; safe = 0; halte
 abbrev pub AgreesStill : GroupNode → GroupNode → Meaning → Meaning → Type 0
 AgreesStill note next old new = note.loose ≡ false → note.begun ≡ [] → (DeviceRose old new → ⊥) → (next.loose ≡ false) × (next.begun ≡ [])
 
+-- the site of this node, whose disks crashed
+pub record FellAs (n m : Node) : Type 0 where
+  pub name : m.name ≡ n.name
+  pub disks : m.disks ≡ n.disks
+  pub blocks : m.blocks ≡ n.blocks
+  pub volumes : m.volumes ≡ n.volumes
+  pub group : m.group ≡ n.group
+  pub state : m.state ≡ IsDown
+  pub fuse : m.fuse ≡ NoFuse
+
 module _ {R : Type 0} {g : Ghosts R} where
   -- the group, up or not, is as it is noted
   abbrev pub NotedOn : Node → GroupNode → GroupSite R g → Type 0
@@ -48,6 +58,11 @@ module _ {R : Type 0} {g : Ghosts R} where
   SiteNoted n note (OfGroup s) = NotedOn n note s.site × (cut_value s.cut ≡ note.cut)
   SiteNoted n note (Over s) = NotedOn (below_rvg n) note (site_in s) × (cut_value s.cut ≡ note.cut) × InsideOf (units_of n) note
   SiteNoted n note other = ⊥
+
+  -- the group of a site with a replicated volume group over it is as the site notes it
+  abbrev pub NotedAt : Node → DiskSet R g → Type 0
+  NotedAt n (Over s) = (note : GroupNode) → n.group ≡ Some note → SiteNoted n note (Over s)
+  NotedAt n e = Unit {0}
 
   -- How a call on the replicated volume group of a site moves the note: its group is up still, or it crashed as its fuse ran out.
   abbrev pub NotesMoved : Node → GroupNode → GroupSite R g → DiskSet R g → GroupSite R g → DiskSet R g → Type 0

@@ -1,5 +1,7 @@
 // The calls on the group of a site that is up.
-ghost use Rattle.std.specs.Prelude.{◌≡◌, ◌≤◌, ◌<◌, ◌%◌, ℕ, false, Err, IfOk, IfSome, IsTrue, None, Ok, OnOk, Some, length, option_copied};
+ghost use Rattle.std.specs.Prelude.{◌≡◌, ◌≤◌, ◌<◌, ◌%◌, ℕ, false, Err, IfOk, IfSome, IsTrue, None, Ok, OnOk, Some, length, option_copied, true};
+ghost use Rattle.vx_config.specs.Checks.{is_sound};
+ghost use Rattle.vx_config.specs.declared.config.Config.{Config as ConfigValue};
 ghost use Rattle.vx_grouped.specs.Ends.{plain_write};
 ghost use Rattle.vx_grouped.specs.GroupSites.{FitsPlain, UpNoted, site_below, site_disks};
 ghost use Rattle.vx_grouped.specs.SiteAdds.{SiteAdded, VolumeIn, refuses_volume};
@@ -72,6 +74,17 @@ impl<R: Rack> DiskSet<R> {
             DiskSet::OfGroup(group) => group.site.config(),
             DiskSet::Over(over) => over.config(),
             _ => None,
+        }
+    }
+
+    /// It is sound.
+    pub fn sound(&self)
+        ensures { (c : ConfigValue) → config_in self.now ≡ Some c → is_sound c ≡ true }
+    {
+        match self {
+            DiskSet::OfGroup(group) => group.site.sound(),
+            DiskSet::Over(over) => over.sound(),
+            _ => {}
         }
     }
 

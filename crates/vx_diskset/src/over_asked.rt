@@ -1,5 +1,7 @@
 // What is asked of the replicated volume group of a site over a disk group.
-ghost use Rattle.std.specs.Prelude.{◌≡◌, option_copied};
+ghost use Rattle.std.specs.Prelude.{◌≡◌, Some, option_copied, true};
+ghost use Rattle.vx_config.specs.Checks.{is_sound};
+ghost use Rattle.vx_config.specs.declared.config.Config.{Config as ConfigValue};
 ghost use Rattle.vx_diskset.specs.Aboves.{above_in, core_of, is_receiver, site_in};
 ghost use Rattle.vx_grouped.specs.GroupSites.{site_config};
 
@@ -34,13 +36,25 @@ impl<R: Rack> OverSet<R> {
         }
     }
 
+    /// It is sound.
+    pub fn sound(&self)
+        ensures { (c : ConfigValue) → site_config (site_in self.now) ≡ Some c → is_sound c ≡ true }
+    {
+        match &self.site {
+            OverSite::Origin(founded) => founded.laid.sound(),
+            OverSite::Receiver(founded) => founded.laid.sound(),
+            OverSite::Deported(_) | OverSite::Down(_) | OverSite::Gone => {}
+        }
+    }
+
     /// Whether it receives the writes of another, with room for the updates that wait.
     pub fn receives(&self) -> bool
         ensures { result ≡ is_receiver (above_in self.now) }
     {
         match &self.site {
             OverSite::Receiver(_) => true,
-            OverSite::Origin(_) | OverSite::Deported(_) | OverSite::Down(_) | OverSite::Gone => false,
+            OverSite::Origin(_) | OverSite::Deported(_) | OverSite::Down(_) | OverSite::Gone =>
+                false,
         }
     }
 

@@ -1,22 +1,35 @@
 -- The volume that a write names which no test refuses: at a raw set, or where it is no plain one, it is a data volume.
-use Rattle.std.proofs.Common.{◌≡◌, ◌∙◌, ℕ, Bool, true, false, List, Option, Some, None, ap, map, refl, sym}
+use Rattle.std.proofs.Common.{◌≡◌, ◌∙◌, ℕ, Bool, true, false, List, Option, Some, None, ap, map, refl, sym, subst}
 use Rattle.std.specs.List.{find}
 use Rattle.std.specs.Prelude.{◌&&◌, if◌then◌else◌, not, slice_get, unwrap_or}
 use Rattle.std.specs.Str.{bytes_eq}
 use Rattle.vx_model.specs.declared.no.No.TheVariants.{Role as WrongRole}
-use Rattle.vx_history.specs.World.{Node}
-use Rattle.vx_order.specs.Calls.{takes_calls}
+use Rattle.vx_history.specs.World.{Node, World}
+use Rattle.vx_order.specs.Calls.{takes_calls, call_unknown, call_role, span_role, span_unknown}
 use Rattle.vx_order.specs.Tests.{when}
 use Rattle.vx_order.specs.declared.facts.RvgFacts.{RvgFacts}
 use Rattle.vx_order.specs.declared.facts.VolumeFacts.{VolumeFacts}
 use Rattle.vx_order.specs.declared.facts.VolumeKind.{VolumeKind}
 use Rattle.vx_order.specs.declared.facts.VolumeKind.TheVariants.{Data, Map, Plain, Srl}
-use Rattle.vx_events.proofs.Refused.{FoundAt, found_at}
-use Rattle.vx_events.proofs.Testing.{found_data}
-use Rattle.vx_events.specs.Facts.{volume_fact}
+use Rattle.vx_events.proofs.Refused.{FoundAt, Named, found_at, passes}
+use Rattle.vx_events.proofs.Testing.{found_data, asks_primary}
+use Rattle.vx_events.specs.Facts.{volume_fact, group_by, group_fact}
 use Rattle.vx_events.specs.GroupNotes.{note_at}
 use Rattle.vx_events.specs.RvgOver.{fact_kind, is_plain_kind, kind_named}
 use Rattle.vx_events.specs.RvgViews.{is_over_rvg, over_table, table_at}
+use Rattle.vx_model.specs.declared.site.Role.TheVariants.{Primary}
+use Rattle.vx_order.specs.Subject.{first_name}
+use Rattle.vx_model.specs.Sites.{is_up}
+use Rattle.vx_order.specs.Order.{line_refusal}
+use Rattle.vx_events.specs.LinkedFacts.{linked_fact}
+use Rattle.vx_order.specs.Spans.{span_of}
+use Rattle.vx_model.specs.declared.site.SiteState.{SiteState}
+use Rattle.vx_model.specs.declared.site.SiteState.TheVariants.{Up as IsUp}
+use Rattle.vx_script.specs.declared.line.ScriptLine.TheVariants.{Read}
+use Rattle.vx_order.specs.declared.span.Span.{Span}
+use Rattle.vx_order.specs.declared.span.Way.TheVariants.{Reads}
+use Rattle.vx_order.specs.declared.facts.SiteFacts.{SiteFacts}
+use Rattle.vx_order.specs.Sites.{rvg_of, volume_of}
 
 -- of the volumes of a replicated volume group only data volumes take writes
 kind_data : (kind : VolumeKind) (rvg : Option RvgFacts) → when (true && not (takes_calls kind rvg)) WrongRole ≡ None → is_plain_kind kind ≡ false → kind ≡ Data
@@ -40,3 +53,25 @@ written_kind n name v rvg found role plain = by (is_over_rvg n) refl
         found_data (λ (x : VolumeFacts). bytes_eq x.name name) n.volumes v
         (ap (λ (b : Bool). find (λ (x : VolumeFacts). bytes_eq x.name name) (if b then over_table n (note_at n) else map volume_fact n.volumes)) (sym is) ∙ found)
     by true is = kind_data v.kind rvg role (ap is_plain_kind (sym (kind_found n name v found)) ∙ plain is)
+
+-- a read that no test refuses is at a primary, where it is of such a volume
+pub read_role : (w : World) (s : ℕ) (sites : List SiteFacts) (files : Bool) (name volume : List ℕ) (start count : ℕ) (n : Named sites name) → n.facts ≡ linked_fact w s → (w.nodes s).state ≡ IsUp
+    → (is_over_rvg (w.nodes s) ≡ true → is_plain_kind (kind_named (w.nodes s) volume) ≡ false) → line_refusal sites files (Read name volume start count) ≡ None → (w.nodes s).role ≡ Primary
+unfolding first_name span_of
+read_role w s sites files name volume start count n is up plain free =
+    let p = passes sites files (Read name volume start count) free in
+    let m : Node = w.nodes s in
+    let f : SiteFacts = linked_fact w s in
+    let span : Span = record { volume = volume; start = start; count = count; way = Reads } in
+    let there = n.found ∙ ap (λ (f : SiteFacts). Some f) is in
+    let known : span_unknown (Some f) (Some span) ≡ None = subst (λ (o : Option SiteFacts). span_unknown o (Some span) ≡ None) there p.volume in
+    let role : span_role (Some f) (Some span) ≡ None = subst (λ (o : Option SiteFacts). span_role o (Some span) ≡ None) there p.call_role in
+    let found : Option VolumeFacts = find (λ (v : VolumeFacts). bytes_eq v.name volume) (table_at m) in
+    let volume_is : volume_of (Some f) volume ≡ found = ap (λ (t : SiteState). if is_up t then found else None) up in
+    let rvg_is : rvg_of (Some f) ≡ Some (group_fact m) = ap (λ (t : SiteState). if is_up t then group_by t m else None) up in
+    let role_led : call_role (Some (group_fact m)) found Reads ≡ None =
+    subst (λ (o : Option VolumeFacts). call_role (Some (group_fact m)) o Reads ≡ None) volume_is
+    (subst (λ (o : Option RvgFacts). call_role o (volume_of (Some f) volume) Reads ≡ None) rvg_is role) in
+    asks_primary found (group_fact m) volume Reads refl
+    (λ v there. written_kind m volume v (Some (group_fact m)) there (subst (λ (o : Option VolumeFacts). call_role (Some (group_fact m)) o Reads ≡ None) there role_led) plain)
+    (subst (λ (o : Option VolumeFacts). call_unknown o volume ≡ None) volume_is known) role_led

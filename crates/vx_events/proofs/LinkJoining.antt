@@ -1,6 +1,6 @@
 -- Where no test of a line that makes a link refuses, its first event is not refused; and where none of a line that waits does, the write is
 -- confirmed or pending.
-use Rattle.std.proofs.Common.{◌≡◌, ◌∙◌, inl, inr, ◌<◌, ◌≤◌, ℕ, suc, List, [], ◌∷◌, length, Bool, true, false, ap, sym, subst, refl, arith}
+use Rattle.std.proofs.Common.{◌≡◌, ◌∙◌, ◌+◌, ◌++◌, inl, inr, ◌<◌, ◌≤◌, ℕ, suc, List, [], ◌∷◌, length, Bool, true, false, ap, sym, subst, refl, arith}
 use Rattle.std.specs.Prelude.{Option, Some, None, not, ◌&&◌, ◌||◌, ◌==◌, cond, eqb, leb, nat_le, is_some, slice_get, map, if◌then◌else◌}
 use Rattle.std.proofs.lemmas.Bool.{or_parts, and_parts, false_from_ne_true}
 use Rattle.std.specs.List.{find}
@@ -138,11 +138,11 @@ other_kind units place = by (place == units.srl) (place == units.maps)
 
 others_none : (units : Units) (place : ℕ) (vs : List VolumeEntry) → data_sizes (others_from units place vs) ≡ []
 others_none units place [] = refl
-others_none units place (v ∷ vs) = by (is_data_unit units.vols place)
+others_none units place (v ∷ vs) = by (is_data_unit units.vols place) (others_none units (place + 1) vs)
   where
-    by : (b : Bool) → data_sizes (unless_data b (kinded units place v) (others_from units (place + 1) vs)) ≡ []
-    by true = others_none units (place + 1) vs
-    by false = ap (λ (c : Bool). if c then v.blocks ∷ data_sizes (others_from units (place + 1) vs) else data_sizes (others_from units (place + 1) vs)) (other_kind units place) ∙ others_none units (place + 1) vs
+    by : (b : Bool) → data_sizes (others_from units (place + 1) vs) ≡ [] → data_sizes (unless_data b (kinded units place v) (others_from units (place + 1) vs)) ≡ []
+    by true none = none
+    by false none = ap (λ (c : Bool). if c then v.blocks ∷ data_sizes (others_from units (place + 1) vs) else data_sizes (others_from units (place + 1) vs)) (other_kind units place) ∙ none
 
 plain_none : (vs : List VolumeEntry) → data_sizes (map plain_fact vs) ≡ []
 plain_none [] = refl

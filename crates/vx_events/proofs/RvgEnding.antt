@@ -28,7 +28,7 @@ use Rattle.vx_events.specs.Fails.{Fails}
 use Rattle.vx_events.specs.GroupEnds.{BringsUp}
 use Rattle.vx_events.specs.GroupLines.{group_events, group_noted, noting}
 use Rattle.vx_events.specs.GroupNotes.{IsKnown, note_at}
-use Rattle.vx_events.specs.Lists.{Choice, events_of, recovery_of}
+use Rattle.vx_events.specs.Lists.{Choice, events_of, recovery_of, crash_count}
 use Rattle.vx_events.specs.RvgBack.{FindsNoRvg, FindsPlain, FindsRvg, GetsRvg, GroupCutOff, GroupHeld, GroupUnfound, HadRvg, IsLeftBack, KeptLost, IsLeftBut, LogCut, LogFails, LogLacks, RestsWithRvg, RvgBack, RvgFinds, RvgUp, fall_first, fuse_left, rest_again}
 use Rattle.vx_events.specs.RvgLinks.{AllKnown, LinksOver, noting_each}
 use Rattle.vx_events.specs.RvgMakes.{RvgStops, noting_in}
@@ -209,7 +209,7 @@ opens_at w (Raw site) opens c h = absurd h
 opens_at w (DiskLine site disk state) opens c h = absurd h
 opens_at w (Crash site pick) opens c h = absurd h
 opens_at w (FuseLine site calls pick) opens c h = absurd h
-opens_at w (Recover site) opens c h = absurd (recovery_begins (w.nodes (site_number w site)).state (site_number w site) c.kept h)
+opens_at w (Recover site) opens c h = absurd (recovery_begins (w.nodes (site_number w site)).state (site_number w site) (crash_count (w.nodes (site_number w site)) c.kept) h)
 opens_at w (Write site volume start count fill) opens c h = opens
 opens_at w (Put site volume start bytes) opens c h = opens
 opens_at w (Read site volume start count) opens c h = absurd h
@@ -307,7 +307,7 @@ links_over_stop told d line fails said new known h =
       before = d;
       like = same_doubted d;
       events = stops.events;
-      ending = stops.ending;
-      stops = ends_like d stops.events stops.ending h.middle new stops.stops
+      ending = h.ending;
+      stops = ends_like d stops.events h.ending h.middle new stops.stops
           (as_like h.middle new (noting_each d.world h.next h.middle.world) (each_like d.world h.next h.middle.world) h.left);
     }

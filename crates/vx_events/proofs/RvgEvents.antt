@@ -66,7 +66,7 @@ module _ (told : Type 0) (is_told : told) (files : Bool) (d : Doubted) (fails : 
   done_by_kind : (links : Bool) (line : ScriptLine) → OpensFor d.world line → EndsBy links told d line fails said new → RvgStops d new
   done_by_kind true line opens ends =
       let stops = link_stops told is_told d line fails said new ends in
-      record { before = d; like = same_doubted d; events = stops.events; ending = stops.ending; stops = stops.stops }
+      record { before = d; like = same_doubted d; events = stops.events; ending = fails; stops = stops.stops }
   done_by_kind false line opens ends =
       let stops = ended told is_told d line (opens_at d.world line opens) fails said new ends in
       record { before = d; like = same_doubted d; events = stops.events; ending = stops.ending; stops = stops.stops }

@@ -1,5 +1,5 @@
 -- A line that makes a replicated volume group, and that no test refuses, names volumes of a group of disks without one. Where it is done its site has that one.
-use Rattle.std.proofs.Common.{◌≡◌, ◌∙◌, ℕ, zero, suc, Bool, true, false, List, [], ◌∷◌, Option, Some, None, ap, map, refl, sym, subst}
+use Rattle.std.proofs.Common.{◌≡◌, ◌∙◌, ℕ, zero, suc, Bool, true, false, List, [], ◌∷◌, Option, Some, None, ap, map, length, refl, sym, subst}
 use Rattle.std.specs.List.{AllByRecursion, find}
 use Rattle.std.specs.Prelude.{◌&&◌, if◌then◌else◌, is_some, not, slice_get, unwrap_or, eqb}
 use Rattle.std.specs.Str.{bytes_eq}

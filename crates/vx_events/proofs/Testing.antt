@@ -31,12 +31,10 @@ use Rattle.vx_order.specs.declared.facts.SiteFacts.{SiteFacts}
 use Rattle.vx_order.specs.declared.facts.VolumeFacts.{VolumeFacts}
 use Rattle.vx_order.specs.declared.facts.VolumeKind.{VolumeKind}
 use Rattle.vx_order.specs.declared.facts.VolumeKind.TheVariants.{Data}
-use Rattle.vx_order.specs.declared.span.Span.{Span}
 use Rattle.vx_order.specs.declared.span.Way.{Way}
 use Rattle.vx_order.specs.declared.span.Way.TheVariants.{Writes, Reads}
 use Rattle.vx_events.specs.Facts.{site_fact, facts_of, values_from, site_number, volume_fact, volume_number, place_of, group_by, group_fact}
 use Rattle.vx_events.specs.Lines.{write_in}
-use Rattle.vx_events.specs.LinkedFacts.{linked_fact}
 use Rattle.vx_events.specs.Plain.{IsUnlinked, IsSizedAs}
 use Rattle.vx_events.proofs.Passing.{IsCall, neither}
 use Rattle.vx_events.proofs.Steps.{site_step, raw_step, CanPut}
@@ -231,16 +229,6 @@ read_primary w files name volume start count free =
     let p = passes (facts_of w) files (Read name volume start count) free in
     let may = read_may (facts_of w) files name volume start count free in
     primary_in w name volume start count Reads may.site refl (up_in w name may.site may.up) p.volume p.call_role
-
--- the same of the site that these facts, among others, are of
-pub read_role : (w : World) (s : ℕ) (sites : List SiteFacts) (files : Bool) (name volume : List ℕ) (start count : ℕ) (n : Named sites name) → n.facts ≡ linked_fact w s → (w.nodes s).state ≡ IsUp
-    → line_refusal sites files (Read name volume start count) ≡ None → (w.nodes s).role ≡ Primary
-unfolding first_name span_of
-read_role w s sites files name volume start count n is up free =
-    let p = passes sites files (Read name volume start count) free in
-    let span : Span = record { volume = volume; start = start; count = count; way = Reads } in
-    let there = n.found ∙ ap (λ (f : SiteFacts). Some f) is in
-    led_at (w.nodes s) volume start count Reads refl up (subst (λ (o : Option SiteFacts). span_unknown o (Some span) ≡ None) there p.volume) (subst (λ (o : Option SiteFacts). span_role o (Some span) ≡ None) there p.call_role)
 
 pub blocks_filled : (count fill : ℕ) → blocks_in (replicate (512 * count) fill) ≡ count
 blocks_filled count fill = let many : length (replicate (512 * count) fill) ≡ 512 * count = length-replicate {A = ℕ} (512 * count) fill in omega (arith, many)

@@ -24,25 +24,23 @@ use Rattle.vx_diskset.specs.Asked.{FailsAs, FusedAs, SameFailing}
 use Rattle.vx_diskset.specs.GroupCalls.{CalledOn}
 use Rattle.vx_diskset.specs.Holds.{beside_of, doubt_of}
 use Rattle.vx_diskset.specs.Makings.{StandsUnlinked, rvg_made}
-use Rattle.vx_diskset.specs.Noted.{SiteNoted}
+use Rattle.vx_diskset.specs.Noted.{NotedAt, SiteNoted}
 use Rattle.vx_diskset.specs.Stands.{RoleIs, SiteStands}
 use Rattle.vx_diskset.specs.declared.disk_set.DiskSet.{DiskSet}
 use Rattle.vx_diskset.specs.declared.disk_set.DiskSet.TheVariants.{OfGroup}
-use Rattle.vx_events.proofs.Places.{never_some}
+use Rattle.vx_events.proofs.Places.{never_some, some_same}
 use Rattle.vx_events.specs.GroupLines.{noting}
 use Rattle.vx_events.specs.GroupNotes.{note_at}
-use Rattle.vx_events.specs.RvgFits.{data_at, data_of, entries_noted}
+use Rattle.vx_events.specs.RvgFits.{data_at, data_of, entries_noted, FitsSome}
 use Rattle.vx_events.specs.RvgNotes.{note_gained, srl_blocks, units_named}
-use Rattle.vx_events.specs.RvgSteps.{fact_full}
 use Rattle.vx_events.specs.RvgViews.{is_over_rvg}
-use Rattle.vx_events.specs.StepsOver.{fact_of_group}
+use Rattle.vx_events.specs.StepsOver.{fact_of_group, fact_over}
 use Rattle.vx_yard.proofs.Carrying.{Feeds, SameLoad, carries_at}
 use Rattle.vx_yard.proofs.FailsStay.{fails_then}
-use Rattle.vx_yard.proofs.OneSite.{Changed, Comes, full_at, told_by}
+use Rattle.vx_yard.proofs.OneSite.{Changed, Comes, told_by, stands_at}
 use Rattle.vx_yard.proofs.OverGroup.{many_apart, set_notes, with_data}
 use Rattle.vx_yard.specs.Carries.{Carries}
-use Rattle.vx_yard.specs.Gaining.{StandsFull}
-use Rattle.vx_yard.specs.Standing.{BeginsFirst}
+use Rattle.vx_yard.specs.Standing.{BeginsFirst, StandsFor}
 use Rattle.vx_yard.specs.declared.yard.Yard.{Yard}
 use Rattle.vx_group_lines.proofs.Arriving.{Arrives, arrives_data, arrives_none, arrives_noted, arrives_worked, noted_at}
 use Rattle.vx_group_lines.proofs.Changing.{notes_config}
@@ -52,12 +50,26 @@ use Rattle.vx_group_lines.proofs.RvgCalls.{fused_below}
 use Rattle.vx_group_lines.proofs.RvgFacts.{gained_fact, up_seen}
 use Rattle.vx_group_lines.proofs.RvgStanding.{RvgOver, rvg_over}
 use Rattle.vx_group_lines.specs.Noting.{made_facts}
+use Rattle.vx_kept.specs.Cleans.{at_serial}
+use Rattle.vx_events.specs.GroupViews.{config_of}
 
 no_after : (w : World) (s : ℕ) (o : Option After) → doubt_of w s o ≡ None → o ≡ None
 no_after w s None is = refl
 no_after w s (Some a) is = absurd (never_some (sym is))
 
-module _ {R : Type 0} {g : Ghosts R} (d : Doubted) (old new : Yard R g) (name srl maps : List ℕ) (volumes : List (List ℕ)) (s : ℕ) (before after : DiskSet R g) (stands : StandsFull d old)
+module _ {R : Type 0} {g : Ghosts R} where
+  -- what stands by one note of a site stands by that which the site notes
+  noted_at : (k : Node) (note : GroupNode) (e : DiskSet R g) → k.group ≡ Some note → SiteNoted k note e → NotedAt k e
+  noted_at k note (Bare rack) is it = tt
+  noted_at k note (Spoiled rack) is it = tt
+  noted_at k note (Up rvg) is it = tt
+  noted_at k note (Receives site) is it = tt
+  noted_at k note (Down rack) is it = tt
+  noted_at k note (OfGroup site) is it = tt
+  noted_at k note (Over site) is it = λ other there. subst (λ (x : GroupNode). SiteNoted k x (Over site)) (some_same (sym is ∙ there)) it
+  noted_at k note Gone is it = tt
+
+module _ {R : Type 0} {g : Ghosts R} (d : Doubted) (old new : Yard R g) (name srl maps : List ℕ) (volumes : List (List ℕ)) (s : ℕ) (before after : DiskSet R g) (stands : StandsFor d old)
     (at : RvgAt d old name srl maps volumes s before) (changed : Changed old new s before after) (failing : SameFailing before after) (since : CalledOn before after) where
   abbrev n : Node
   n = d.world.nodes s
@@ -78,7 +90,7 @@ module _ {R : Type 0} {g : Ghosts R} (d : Doubted) (old new : Yard R g) (name sr
   none = (set_notes (beside_of d s) n at.group.set at.group.stands at.group.made).1.none
 
   pub rvg_begins : Arrives d d s (d.world.nodes s) (d.world.gathering s)
-  rvg_begins = arrives_none d s stands.below.links (no_after d.world s (d.after s) (at.group.stands.sure at.group.made)) (at.group.stands.unlinked at.group.made)
+  rvg_begins = arrives_none d s stands.links (no_after d.world s (d.after s) (at.group.stands.sure at.group.made)) (at.group.stands.unlinked at.group.made)
 
   since_set : CalledOn (OfGroup at.group.set) after
   since_set = subst (λ (x : DiskSet R g). CalledOn x after) at.group.is_set since
@@ -120,7 +132,9 @@ module _ {R : Type 0} {g : Ghosts R} (d : Doubted) (old new : Yard R g) (name sr
     same_made : rvg_made config units middle gained (d.world.nodes s) ≡ k
     same_made = ap (λ (vs : List VolumeEntry). with_note gained (volumes_set (blocks_of vs units.srl) (data_of vs units) noted_node)) (sym (entries_same d old name srl maps volumes s before stands at))
 
-    module _ (made : StandsUnlinked (rvg_made config units middle gained (d.world.nodes s)) after) (noted : SiteNoted (rvg_made config units middle gained (d.world.nodes s)) gained after) where
+    -- the site has the replicated volume group of what it notes
+    module _ (made : StandsUnlinked (rvg_made config units middle gained (d.world.nodes s)) after) (noted : SiteNoted (rvg_made config units middle gained (d.world.nodes s)) gained after)
+        (fits : (c : Config) → config_of gained.config ≡ Some c → FitsSome (rvg_next.world.nodes s) c) where
       here : SiteStands (beside_of rvg_next s) k after
       here = subst (λ (x : Node). StandsUnlinked x after) same_made made (beside_of rvg_next s) arrives.links (ap (λ (o : Option After). doubt_of rvg_next.world s o) arrives.sure)
 
@@ -138,22 +152,29 @@ module _ {R : Type 0} {g : Ghosts R} (d : Doubted) (old new : Yard R g) (name sr
         changes = arrives.site;
         links = arrives.fits;
         stands = subst (λ (x : Node). SiteStands (beside_of rvg_next s) x after) (sym arrives.node) here;
-        failing = subst (λ (x : Node). FailsAs x after) (sym arrives.node) (fails_then n k before after refl failing (stands.below.failing s before at.group.below changed.there));
+        failing = subst (λ (x : Node). FailsAs x after) (sym arrives.node) (fails_then n k before after refl failing (stands.failing s before at.group.below changed.there));
         fuse = subst (λ (x : Node). FusedAs x after) (sym arrives.node)
-            (fused_below n k at.group.set after refl since_set sits.up (subst (λ (x : DiskSet R g). FusedAs n x) at.group.is_set (stands.below.fuses s before at.group.below changed.there)));
+            (fused_below n k at.group.set after refl since_set sits.up (subst (λ (x : DiskSet R g). FusedAs n x) at.group.is_set (stands.fuses s before at.group.below changed.there)));
         role = subst (λ (x : Node). RoleIs x after) (sym arrives.node) (role_origin k after origin);
         doubt = λ was a is. absurd (never_some (sym arrives.sure ∙ is));
       }
 
-      pub seen : made_facts sits.core sits.config (fact_of_group (d.world.nodes s) (note_at (d.world.nodes s))) ≡ fact_full rvg_next.world s
-      seen = gained_fact rvg_next.world s n k note gained sits.core sits.config arrives.node refl (notes_config gained sits.config sits.noted) at.up over arrives.links refl refl refl
+      fits_here : FitsSome k (at_serial 0 sits.config)
+      fits_here = subst (λ (x : Node). FitsSome x (at_serial 0 sits.config)) arrives.node (fits (at_serial 0 sits.config) (notes_config gained sits.config sits.noted))
+
+      -- and it is so noted
+      here_noted : NotedAt k after
+      here_noted = noted_at k gained after refl (subst (λ (x : Node). SiteNoted x gained after) same_made noted)
+
+      pub seen : made_facts sits.core sits.config (fact_of_group (d.world.nodes s) (note_at (d.world.nodes s))) ≡ fact_over rvg_next.world s
+      seen = gained_fact rvg_next.world s n k note gained sits.core sits.config fits_here.0 arrives.node refl (notes_config gained sits.config sits.noted) at.up over (many_apart k many) fits_here.1.rvg fits_here.1.volumes arrives.links refl refl refl
           (up_seen (beside_of rvg_next s) k sits.core sits.volumes sits.stands none.running (ap (λ (ws : List Write). length ws) none.log ∙ sym none.safe))
 
       -- the yard stands for the world in which the site has it
-      pub gained_stands : new.facts.items ≡ slice_set old.facts.items s (made_facts sits.core sits.config (fact_of_group (d.world.nodes s) (note_at (d.world.nodes s)))) → StandsFull rvg_next new
+      pub gained_stands : new.facts.items ≡ slice_set old.facts.items s (made_facts sits.core sits.config (fact_of_group (d.world.nodes s) (note_at (d.world.nodes s)))) → StandsFor rvg_next new
       gained_stands facts =
-          full_at d rvg_next old new s (made_facts sits.core sits.config (fact_of_group n note)) before after stands at.group.below changed comes
-          (λ was. subst (λ (x : Node). BeginsFirst s x) (sym arrives.node) (arrives.first was)) seen facts
+          stands_at d rvg_next old new s (made_facts sits.core sits.config (fact_of_group n note)) before after stands at.group.below changed comes
+          (λ was. subst (λ (x : Node). BeginsFirst s x) (sym arrives.node) (arrives.first was)) (λ _. subst (λ (x : Node). NotedAt x after) (sym arrives.node) here_noted) seen facts
 
       pub gained_carries : SameLoad old new → Carries d old → Carries rvg_next new
       gained_carries load carries =

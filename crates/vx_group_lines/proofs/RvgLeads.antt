@@ -12,7 +12,7 @@ use Rattle.vx_rvg.specs.Views.{Core}
 use Rattle.vx_script.specs.declared.line.ScriptLine.TheVariants.{Rvg}
 use Rattle.vx_groupmaps.specs.Loading.{DeviceRose}
 use Rattle.vx_grouped.specs.ConfigMoves.{LosesSome}
-use Rattle.vx_grouped.specs.GroupSites.{site_config, site_disks}
+use Rattle.vx_grouped.specs.GroupSites.{site_config, site_disks, HasNoRvg}
 use Rattle.vx_grouped.specs.SiteEnds.{ConfigGoes}
 use Rattle.vx_grouped.specs.declared.group_site.GroupSite.{GroupSite}
 use Rattle.vx_diskset.specs.Asked.{SameFailing}
@@ -23,14 +23,15 @@ use Rattle.vx_diskset.specs.Stands.{faults_at}
 use Rattle.vx_diskset.specs.declared.disk_set.DiskSet.{DiskSet}
 use Rattle.vx_events.specs.Fails.{Fails}
 use Rattle.vx_events.specs.GroupNotes.{note_at}
-use Rattle.vx_events.specs.RvgMakes.{MakesRvg, RvgDone}
-use Rattle.vx_events.specs.RvgNotes.{HasOneValue, NotesRvg, as_replicated, note_gained, units_named}
+use Rattle.vx_events.specs.RvgMakes.{MakesRvg, RvgDone, noting_in}
+use Rattle.vx_events.specs.RvgNotes.{HasOneValue, NotesRvg, as_replicated, note_gained, units_named, volume_events}
 use Rattle.vx_events.specs.RvgWorks.{NoteAgrees}
 use Rattle.vx_events.specs.StepsOver.{fact_of_group}
 use Rattle.vx_events.specs.declared.said.Said.TheVariants.{Done}
 use Rattle.vx_yard.proofs.Carrying.{SameLoad}
 use Rattle.vx_yard.proofs.OneSite.{Changed}
-use Rattle.vx_yard.specs.Gaining.{LeadsRvg, StandsFull}
+use Rattle.vx_yard.specs.Standing.{StandsFor}
+use Rattle.vx_yard.specs.Gaining.{LeadsRvg}
 use Rattle.vx_yard.specs.Yards.{IsTold, count_of}
 use Rattle.vx_yard.specs.declared.yard.Yard.{Yard}
 use Rattle.vx_group_lines.proofs.Fails.{calls_of}
@@ -41,8 +42,15 @@ use Rattle.vx_group_lines.proofs.RvgCalls.{below_faults, names_below, rose_below
 use Rattle.vx_group_lines.proofs.RvgGained.{gained_carries, gained_stands, rvg_next, sits}
 use Rattle.vx_group_lines.proofs.RvgNotes.{notes_rvg, quiet_by, rose_disk}
 use Rattle.vx_group_lines.specs.Noting.{made_facts}
+use Rattle.vx_events.specs.RvgFits.{FitsSome}
+use Rattle.vx_diskset.specs.Holds.{beside_of}
+use Rattle.vx_events.specs.GroupViews.{config_of}
+use Rattle.vx_events.proofs.RvgTests.{gained_note}
+use Rattle.vx_events.proofs.RvgGains.{made_fits}
+use Rattle.vx_events.specs.Doubts.{run_as}
+use Rattle.vx_yard.proofs.OverGroup.{set_notes}
 
-module _ {R : Type 0} {g : Ghosts R} (d : Doubted) (old new : Yard R g) (name srl maps : List ℕ) (volumes : List (List ℕ)) (s : ℕ) (before after : DiskSet R g) (stands : StandsFull d old)
+module _ {R : Type 0} {g : Ghosts R} (d : Doubted) (old new : Yard R g) (name srl maps : List ℕ) (volumes : List (List ℕ)) (s : ℕ) (before after : DiskSet R g) (stands : StandsFor d old)
     (at : RvgAt d old name srl maps volumes s before) (changed : Changed old new s before after) (failing : SameFailing before after) (since : CalledOn before after) where
   abbrev n : Node
   n = d.world.nodes s
@@ -86,22 +94,31 @@ module _ {R : Type 0} {g : Ghosts R} (d : Doubted) (old new : Yard R g) (name sr
     notes = notes_rvg s many fails o e names (IsTold new) units note middle narrows goes.was goes.now goes.noted (omega arith) settled goes.noted_now goes.change one
         (record { works = works; quiet = λ none off agreed. quiet_by s many fails o e names middle settled calm (omega arith) none agreed })
 
+    none : HasNoRvg (d.world.nodes s)
+    none = (set_notes (beside_of d s) n at.group.set at.group.stands at.group.made).1.none
+
     abbrev next : Doubted
     next = rvg_next d old new name srl maps volumes s before after stands at changed failing since middle settled
 
     makes : MakesRvg (IsTold new) d (Rvg name srl maps volumes) s fails Done next
     makes = RvgDone name srl maps volumes middle (note_gained units settled) refl (calls_of s (count_of old s) (count_of new s) many) notes refl (record { world = refl; after = λ i. refl })
 
+    fits : (c : Config) → config_of (note_gained units settled).config ≡ Some c → FitsSome (next.world.nodes s) c
+    fits c is =
+        made_fits (IsTold new) d (Rvg name srl maps volumes) s fails Done next c
+        (record { below = at.group.below; up = at.up; running = none.running; role = none.role; volumes = none.volumes; log = none.log }) makes refl
+        (ap (λ (x : GroupNode). config_of x.config) (gained_note s (note_gained units settled) (run_as false (noting_in d s middle) (volume_events note s units)) next (record { world = refl; after = λ i. refl })) ∙ is)
+
     pub gained_leads : ((core : Core) (c : Config) → core_in after ≡ Some core → AtSite (λ x. site_config x ≡ Some c) after → new.facts.items ≡ slice_set old.facts.items s (made_facts core c (fact_of_group (d.world.nodes s) (note_at (d.world.nodes s)))))
         → SameLoad old new → LeadsRvg d name srl maps volumes Done old new
     gained_leads shown load =
-        let there = sits d old new name srl maps volumes s before after stands at changed failing since middle settled made noted in
+        let there = sits d old new name srl maps volumes s before after stands at changed failing since middle settled made noted fits in
         record {
           next = next;
           fails = fails;
           makes = subst (λ (k : ℕ). MakesRvg (IsTold new) d (Rvg name srl maps volumes) k fails Done next) (sym at.number) makes;
-          stands = gained_stands d old new name srl maps volumes s before after stands at changed failing since middle settled made noted (shown there.core there.config there.has_core there.has);
+          stands = gained_stands d old new name srl maps volumes s before after stands at changed failing since middle settled made noted fits (shown there.core there.config there.has_core there.has);
           none = λ other. absurd (other refl);
-          carries = gained_carries d old new name srl maps volumes s before after stands at changed failing since middle settled made noted load;
+          carries = gained_carries d old new name srl maps volumes s before after stands at changed failing since middle settled made noted fits load;
           rose = rose_below old new s before after changed many;
         }

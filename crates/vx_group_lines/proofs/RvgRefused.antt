@@ -38,7 +38,8 @@ use Rattle.vx_events.specs.declared.said.Said.TheVariants.{Refused}
 use Rattle.vx_yard.proofs.Carrying.{SameLoad}
 use Rattle.vx_yard.proofs.CrashLine.{rose_still}
 use Rattle.vx_yard.proofs.OneSite.{Changed}
-use Rattle.vx_yard.specs.Gaining.{LeadsRvg, StandsFull, StopsRvg}
+use Rattle.vx_yard.specs.Standing.{StandsFor}
+use Rattle.vx_yard.specs.Gaining.{LeadsRvg, StopsRvg}
 use Rattle.vx_yard.specs.Yards.{IsTold, count_of}
 use Rattle.vx_yard.specs.declared.yard.Yard.{Yard}
 use Rattle.vx_group_lines.proofs.Changing.{moves_table}
@@ -61,7 +62,7 @@ module _ {R : Type 0} {g : Ghosts R} where
   plain_noted m next (Over s) it = absurd it
   plain_noted m next Gone it = absurd it
 
-  module _ (d : Doubted) (old new : Yard R g) (name srl maps : List ℕ) (volumes : List (List ℕ)) (s : ℕ) (before after : DiskSet R g) (stands : StandsFull d old)
+  module _ (d : Doubted) (old new : Yard R g) (name srl maps : List ℕ) (volumes : List (List ℕ)) (s : ℕ) (before after : DiskSet R g) (stands : StandsFor d old)
       (at : RvgAt d old name srl maps volumes s before) (changed : Changed old new s before after) (failing : SameFailing before after) (since : CalledOn before after) (facts : new.facts.items ≡ old.facts.items) (load : SameLoad old new) where
     abbrev n : Node
     n = d.world.nodes s

@@ -25,25 +25,25 @@ use Rattle.vx_diskset.specs.declared.group_set.GroupSet.{GroupSet}
 use Rattle.vx_events.specs.GroupLines.{is_over_group, noting}
 use Rattle.vx_events.specs.GroupNotes.{note_at}
 use Rattle.vx_events.specs.GroupViews.{noted_table}
-use Rattle.vx_events.specs.RvgSteps.{HasNoRvgs, fact_full}
+use Rattle.vx_events.specs.RvgSteps.{HasNoRvgs, fact_over}
 use Rattle.vx_events.specs.RvgViews.{is_over_rvg}
 use Rattle.vx_events.specs.StepsOver.{fact_of_group}
 use Rattle.vx_yard.proofs.Carrying.{Feeds, SameLoad, carries_at}
 use Rattle.vx_yard.proofs.FailsStay.{fails_then}
 use Rattle.vx_yard.proofs.Lists.{set_same}
-use Rattle.vx_yard.proofs.OneSite.{Changed, full_at, told_by}
+use Rattle.vx_yard.proofs.OneSite.{Changed, stands_at, told_by}
 use Rattle.vx_yard.proofs.OverGroup.{noted_over, set_notes}
 use Rattle.vx_yard.specs.Carries.{Carries}
-use Rattle.vx_yard.specs.Gaining.{StandsFull}
-use Rattle.vx_yard.specs.Standing.{BeginsFirst}
+use Rattle.vx_yard.specs.Standing.{StandsFor, BeginsFirst}
 use Rattle.vx_yard.specs.declared.yard.Yard.{Yard}
 use Rattle.vx_group_lines.proofs.Arriving.{Arrives, arrives_worked}
 use Rattle.vx_group_lines.proofs.GroupAt.{uncut, up_notes}
 use Rattle.vx_group_lines.proofs.GroupCalls.{fused_since, seen_as, site_up}
 use Rattle.vx_group_lines.proofs.GroupLeads.{feeds_nobody, group_comes, sized_of, up_set}
 use Rattle.vx_group_lines.proofs.GroupMarks.{group_noted_at}
-use Rattle.vx_group_lines.proofs.RvgAt.{RvgAt, fact_alone}
+use Rattle.vx_group_lines.proofs.RvgAt.{RvgAt}
 use Rattle.vx_group_lines.proofs.RvgGained.{rvg_begins}
+use Rattle.vx_events.proofs.OverSeats.{fact_grouped}
 
 module _ {R : Type 0} {g : Ghosts R} where
   noted_up : (m : Node) (next : GroupNode) (e : GroupSite R g) → NotedOn m next e → m.state ≡ IsUp → UpNoted m next e
@@ -70,7 +70,7 @@ module _ {R : Type 0} {g : Ghosts R} where
   plain_up m next (Over s) it up = absurd it
   plain_up m next Gone it up = absurd it
 
-  module _ (d : Doubted) (old new : Yard R g) (name srl maps : List ℕ) (volumes : List (List ℕ)) (s : ℕ) (before after : DiskSet R g) (stands : StandsFull d old)
+  module _ (d : Doubted) (old new : Yard R g) (name srl maps : List ℕ) (volumes : List (List ℕ)) (s : ℕ) (before after : DiskSet R g) (stands : StandsFor d old)
       (at : RvgAt d old name srl maps volumes s before) (changed : Changed old new s before after) (failing : SameFailing before after) (since : CalledOn before after) where
     abbrev n : Node
     n = d.world.nodes s
@@ -105,11 +105,11 @@ module _ {R : Type 0} {g : Ghosts R} where
       to = subst (λ (x : DiskSet R g). Changed old new s before x) plain.is changed
 
       fails : FailsAs m (OfGroup plain.set)
-      fails = subst (λ (x : DiskSet R g). FailsAs m x) plain.is (fails_then n m before after refl failing (stands.below.failing s before at.group.below changed.there))
+      fails = subst (λ (x : DiskSet R g). FailsAs m x) plain.is (fails_then n m before after refl failing (stands.failing s before at.group.below changed.there))
 
       fused : FusedAs m (OfGroup plain.set)
       fused = fused_since n m at.group.set plain.set refl (subst (λ (x : DiskSet R g). CalledOn (OfGroup at.group.set) x) plain.is (subst (λ (x : DiskSet R g). CalledOn x after) at.group.is_set since))
-          (site_up m next plain.set.site plain.noted) (subst (λ (x : DiskSet R g). FusedAs n x) at.group.is_set (stands.below.fuses s before at.group.below changed.there))
+          (site_up m next plain.set.site plain.noted) (subst (λ (x : DiskSet R g). FusedAs n x) at.group.is_set (stands.fuses s before at.group.below changed.there))
 
       alone : is_over_rvg m ≡ false
       alone = ap (λ (vs : List Volume). true && not (eqb (length vs) 0)) none.volumes
@@ -117,18 +117,18 @@ module _ {R : Type 0} {g : Ghosts R} where
       over : is_over_group m ≡ true
       over = noted_over m next (up_notes m next plain.set.site plain.noted).0
 
-      seen : fact_of_group n note ≡ fact_full rvg_left.world s
+      seen : fact_of_group n note ≡ fact_over rvg_left.world s
       seen =
           seen_as n m note next refl refl refl refl table
           ∙ ap (λ (x : Node). fact_of_group x (note_at x)) (sym arrives.node)
-          ∙ sym (fact_alone rvg_left.world s (ap (λ (x : Node). is_over_rvg x) arrives.node ∙ alone) (ap (λ (x : Node). is_over_group x) arrives.node ∙ over))
+          ∙ sym (fact_grouped rvg_left.world s (ap (λ (x : Node). is_over_group x) arrives.node ∙ over))
 
-      pub stays_stands : new.facts.items ≡ old.facts.items → StandsFull rvg_left new
+      pub stays_stands : new.facts.items ≡ old.facts.items → StandsFor rvg_left new
       stays_stands facts =
-          full_at d rvg_left old new s (fact_of_group n note) before (OfGroup plain.set) stands at.group.below to
+          stands_at d rvg_left old new s (fact_of_group n note) before (OfGroup plain.set) stands at.group.below to
           (group_comes d rvg_left s m (d.world.gathering s) plain.set arrives
           (up_set m next plain.set (sized_of (beside_of d s) n at.group.set at.group.stands) plain.noted (maps_stand plain.set plain.is) (plain.cut ∙ same_cut ∙ rvg_uncut) (same_cut ∙ rvg_uncut)) fails fused)
-          (λ was. subst (λ (x : Node). BeginsFirst s x) (sym arrives.node) (arrives.first was)) seen
+          (λ was. subst (λ (x : Node). BeginsFirst s x) (sym arrives.node) (arrives.first was)) (λ _. tt) seen
           (facts ∙ sym (set_same old.facts.items s (fact_of_group n note) at.group.fact))
 
       pub stays_carries : SameLoad old new → Carries d old → Carries rvg_left new

@@ -12,7 +12,7 @@ use Rattle.vx_diskset.specs.GroupCalls.{AtSite, core_in}
 use Rattle.vx_diskset.specs.declared.disk_set.DiskSet.{DiskSet}
 use Rattle.vx_events.specs.declared.said.Said.{Said}
 use Rattle.vx_events.specs.declared.said.Said.TheVariants.{Refused}
-use Rattle.vx_events.specs.RvgViews.{kinds_from}
+use Rattle.vx_events.specs.RvgViews.{kinds_by}
 use Rattle.vx_rvg.specs.Views.{Core, last_of}
 use Rattle.vx_yard.specs.Changes.{up_facts}
 use Rattle.vx_yard.specs.GroupFacts.{group_up_facts}
@@ -22,7 +22,7 @@ use Rattle.vx_yard.specs.declared.yard.Yard.{Yard}
 
 -- what the tests see of a site that comes up as a group of this configuration, with this replicated volume group over it
 abbrev pub made_facts : Core → Config → SiteFacts → SiteFacts
-made_facts core c f = up_facts core.log.header.state (last_of core) core.log.ring (group_up_facts (kinds_from c.rvg 0 c.volumes) f)
+made_facts core c f = up_facts core.log.header.state (last_of core) core.log.ring (group_up_facts (kinds_by c.rvg c.volumes) f)
 
 module _ {R : Type 0} {g : Ghosts R} where
   -- all but what the tests see of its sites, and what these put together

@@ -1,5 +1,6 @@
 // What the tests see of a site behind a call on its group, and the reply.
-ghost use Rattle.std.specs.Prelude.{◌≡◌, ◌<◌, [], length, map, option_copied, slice_get, slice_set, None, Some};
+ghost use Rattle.std.specs.Prelude.{◌≡◌, ◌<◌, [], length, map, option_copied, slice_get, slice_set, None, Some, true};
+ghost use Rattle.vx_config.specs.Checks.{is_sound};
 ghost use Rattle.vx_config.specs.declared.config.Config.{Config as ConfigValue};
 ghost use Rattle.vx_events.specs.GroupViews.{plain_fact};
 ghost use Rattle.vx_events.specs.RvgViews.{kinds_of};
@@ -57,6 +58,7 @@ pub(crate) fn group_stopped<R: Rack>(
 // The volumes of a configuration as the tests see them, by what each is to its replicated volume group; none where there is no configuration.
 fn table_of(config: Option<&Config>, room: VolumeRoom) -> VolumeTable
     requires empty { room ≡ [] }
+    requires sound { (c : ConfigValue) → option_copied config.entry ≡ Some c → is_sound c ≡ true }
     ensures { result ≡ kinds_of (option_copied config.entry) }
 {
     match config {
@@ -81,6 +83,7 @@ pub(crate) fn note_up<R: Rack>(yard: &mut Yard<R>, site: usize, room: VolumeRoom
     ensures assemblies { yard.new.assemblies ≡ yard.old.assemblies }
     ensures same { KeepsRest yard.old yard.new }
 {
+    yard.disk_sets[site].sound();
     let volumes = table_of(yard.disk_sets[site].config(), room);
     come_up_group(&mut yard.facts[site], volumes);
     note_rvg(yard, site);

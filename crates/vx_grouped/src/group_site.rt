@@ -26,6 +26,8 @@ pub enum GroupSite<R: Rack> {
 }
 
 impl<R: Rack> GroupSite<R> {
+    ghost use Rattle.vx_config.specs.Checks.{is_sound};
+    ghost use Rattle.vx_config.specs.declared.config.Config.{Config as ConfigValue};
     ghost use Rattle.vx_grouped.specs.GroupSites.{CutNoted, DownNoted, GroupSiteStands, UpNoted, site_agrees, site_below, site_config, site_disks};
     ghost use Rattle.vx_grouped.specs.SiteMaps.{StaysMapped};
     ghost use Rattle.vx_watched.specs.Traces.{TellsLess};
@@ -52,6 +54,17 @@ impl<R: Rack> GroupSite<R> {
             GroupSite::Up(group) => Some(group.config()),
             GroupSite::Deported(_) | GroupSite::Down(_) | GroupSite::Marked(_) | GroupSite::Gone =>
                 None,
+        }
+    }
+
+    /// The configuration of a group that is up is sound.
+    pub fn sound(&self)
+        ensures { (c : ConfigValue) → site_config self.now ≡ Some c → is_sound c ≡ true }
+    {
+        match self {
+            GroupSite::Up(group) => group.sound(),
+            GroupSite::Deported(_) | GroupSite::Down(_) | GroupSite::Marked(_) | GroupSite::Gone =>
+                {}
         }
     }
 

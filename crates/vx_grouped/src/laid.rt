@@ -1,5 +1,5 @@
 // A group that is up on the disks of a site.
-ghost use Rattle.std.specs.Prelude.{◌≡◌, ◌≢◌, ◌<◌, ℕ, IsTrue, Some};
+ghost use Rattle.std.specs.Prelude.{◌≡◌, ◌≢◌, ◌<◌, ℕ, IsTrue, Some, true};
 ghost use Rattle.vx_loggroup.specs.Facts.{LoggedFact};
 ghost use Rattle.vx_loggroup.specs.Fresh.{FreshStands};
 ghost use Rattle.vx_loggroup.specs.Settled.{SettledFact};
@@ -35,6 +35,7 @@ pub struct Laid<R: Rack> {
 }
 
 impl<R: Rack> Laid<R> {
+    ghost use Rattle.vx_config.specs.Checks.{is_sound};
     ghost use Rattle.vx_config.specs.Configs.{HasSpelling};
     ghost use Rattle.vx_disk.specs.Causes.{OnDisks, WithDisks};
     ghost use Rattle.vx_disk.specs.Disks.{Crashed, SameBlocks, Untouched};
@@ -110,6 +111,11 @@ impl<R: Rack> Laid<R> {
     {
         &self.core.inner.config
     }
+
+    /// Its configuration is sound.
+    pub fn sound(&self)
+        ensures { is_sound self.now.core.inner.config ≡ true }
+    {}
 
     /// How many volumes it has.
     pub fn units(&self) -> u32

@@ -17,7 +17,7 @@ use Rattle.vx_disk.specs.declared.shelf.Shelf.{Ghosts}
 use Rattle.vx_rvg.specs.Contents.{ShowsContent}
 use Rattle.vx_events.proofs.Blocks.{shown_are}
 use Rattle.vx_events.specs.Ends.{ShowsReceived}
-use Rattle.vx_events.proofs.Testing.{read_role}
+use Rattle.vx_events.proofs.DataNamed.{read_role}
 use Rattle.vx_events.proofs.RefusedCalls.{read_may}
 use Rattle.vx_events.specs.Facts.{seat_of, site_number, volume_number}
 use Rattle.vx_events.specs.Sayings.{received_content}
@@ -45,6 +45,7 @@ use Rattle.vx_yard.proofs.NamedSite.{fact_named}
 use Rattle.vx_yard.proofs.RawSites.{raw_site, raw_told}
 use Rattle.vx_yard.proofs.OneSite.{Changed, told_by}
 use Rattle.vx_site_lines.proofs.WriteCalls.{whole_log}
+use Rattle.vx_yard.proofs.OverGroup.{both_ways, none_rvg}
 
 pub not_primary : (r : Role) → is_origin r ≡ false → is_primary r ≡ false
 not_primary Primary is = absurd (let e : true ≡ false = is in cc)
@@ -129,7 +130,7 @@ module _ {R : Type 0} {g : Ghosts R} where
         let free_read : IsFree old (Read name volume start count) = subst (λ (l : ScriptLine). IsFree old l) is free in
         let may = read_may old.facts.items (in_files old) name volume start count free_read in
         fetch_leads d line old new name volume start count s place bytes before after (inl is) stands read
-        (read_role d.world s old.facts.items (in_files old) name volume start count may.site (fact_named d old name s read.seat seat may.site) read.can.up free_read) changed alone keeps gave facts load
+        (read_role d.world s old.facts.items (in_files old) name volume start count may.site (fact_named d old name s read.seat seat may.site) read.can.up (λ over. absurd (both_ways over (none_rvg (d.world.nodes s) read.none))) free_read) changed alone keeps gave facts load
     fetched_leads line bytes (inr is) free seat origin gave = by (is_primary n.role) refl
       where
         n : Node

@@ -62,7 +62,7 @@ pub(crate) fn show_received<R: Rack>(
     ensures files { in_files yard.new ≡ in_files yard.old }
 {
     let site = yard.site_of(name);
-    let place = yard.data_of(site, volume);
+    let place = yard.volume_of(site, volume);
     if count == 0 || count > MOST_CALL_BLOCKS {
         unreachable!();
     }

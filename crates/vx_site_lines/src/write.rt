@@ -43,7 +43,7 @@ fn write_blocks<R: Rack>(
     ensures files { in_files yard.new ≡ in_files yard.old }
 {
     let site = yard.site_of(name);
-    let place = yard.data_of(site, volume);
+    let place = yard.volume_of(site, volume);
     let count = (bytes.len() / BLOCK) as u64;
     let next = yard.disk_sets[site].last().saturating_add(1);
     let hold = hold_of_site(&yard.facts[site]);

@@ -71,6 +71,9 @@ use Rattle.vx_yard.proofs.NamedSite.{SiteAt, fact_named, fact_of, rvg_at}
 use Rattle.vx_yard.proofs.OneSite.{Changed, Comes, beside_same, role_kept, rose_at, stands_apart, stands_at, still_apart, told_by}
 use Rattle.vx_yard.proofs.Rows.{fact_from, fact_like, fact_same, over_same, shown_by}
 use Rattle.vx_yard.proofs.SiteEvents.{first_choice, keeps_k}
+use Rattle.vx_events.specs.RvgViews.{is_over_rvg}
+use Rattle.vx_yard.proofs.OverGroup.{noted_off}
+use Rattle.vx_events.specs.RvgSteps.{over_rvg_at}
 
 -- ---- a line that notes that the fuse may have let calls pass
 
@@ -146,16 +149,17 @@ module _ {R : Type 0} {g : Ghosts R} where
   -- what the tests found
   pub record CanApplyAt (d : Doubted) (y : Yard R g) (name : List ℕ) (s : ℕ) : Type 0 where
     pub seat : SiteAt d y name s
+    pub off : is_over_rvg (d.world.nodes s) ≡ false
     pub can : CanApply (d.world.nodes s)
 
-  pub can_apply_at : (d : Doubted) (y : Yard R g) (name : List ℕ) (to s : ℕ) → StandsFor d y → IsFree y (Apply name to) → seat_of y.facts.items name ≡ Some s → CanApplyAt d y name s
-  can_apply_at d y name to s stands free at =
+  pub can_apply_at : (d : Doubted) (y : Yard R g) (name : List ℕ) (to s : ℕ) → StandsFor d y → over_rvg_at d.world name ≡ false → IsFree y (Apply name to) → seat_of y.facts.items name ≡ Some s → CanApplyAt d y name s
+  can_apply_at d y name to s stands off free at =
       let may = apply_may y.facts.items (in_files y) name to free in
       let here = rvg_at d y name s stands at may.site (apply_has y.facts.items (in_files y) name to free may.site) in
       let fact = fact_named d y name s here at may.site in
       let n : Node = d.world.nodes s in
       let up : n.state ≡ IsUp = sym (ap (λ (f : SiteFacts). f.state) fact) ∙ may.up in
-      record { seat = here; can = record { up = up; running = may.running (group_fact n) (ap (λ (f : SiteFacts). f.rvg) fact ∙ ap (λ (t : SiteState). group_by t n) up) } }
+      record { seat = here; off = subst (λ (i : ℕ). is_over_rvg (d.world.nodes i) ≡ false) here.number off; can = record { up = up; running = may.running (group_fact n) (ap (λ (f : SiteFacts). f.rvg) fact ∙ ap (λ (t : SiteState). group_by t n) up) } }
 
   module _ (d : Doubted) (old new : Yard R g) (name : List ℕ) (to s : ℕ) (before after : DiskSet R g) (stands : StandsFor d old) (here : CanApplyAt d old name s) (changed : Changed old new s before after)
       (keeps : KeepsRole before after) where
@@ -198,7 +202,7 @@ module _ {R : Type 0} {g : Ghosts R} where
           carries = carries_node s d e (worked n) old new load eff.site eff.sent eff.gathering eff.is.node refl refl refl (told_by old new s before after changed);
           stands = still_apart d e old new s before after stands here.seat.below changed
               (comes_effect d e s (worked n) d.world.packets (d.world.gathering s) after eff (fit_worked h s (fit_happened d (ApplyAt s to number) false tt stands.links)) refl refl refl refl refl is.2 fails fuse kind)
-              here.seat.apart (ap (λ (q : Node). is_over_group q) eff.is.node ∙ here.seat.apart)
+              (λ _. noted_off (beside_of d s) (worked n) (e.world.nodes s) after is.2 here.off) here.seat.apart (ap (λ (q : Node). is_over_group q) eff.is.node ∙ here.seat.apart)
               (fact_same (worked n) (e.world.nodes s) (d.world.links s) (e.world.links s) d.world.sites e.world.sites eff.is.node (λ j. eff.is.links j) eff.site.sites
               ∙ fact_like n (worked n) (d.world.links s) d.world.sites (fuse_fact n (burned n.fuse)) (λ j l. refl))
               (ap (λ fs. fs.items) facts);
@@ -234,6 +238,7 @@ module _ {R : Type 0} {g : Ghosts R} where
           carries = carries_node s d e m old new load eff.site eff.sent eff.gathering eff.is.node refl refl refl (told_by old new s before after changed);
           stands = stands_apart d e old new s f' before after stands here.seat.below changed
               (comes_effect d e s m d.world.packets (d.world.gathering s) after eff (fit_worked h s (fit_happened d (Fault s disk) false tt stands.links)) refl refl refl refl refl is.0 (fails_still m (Refused (Device disk)) refl calls) fuse kind)
+              (λ _. noted_off (beside_of d s) m (e.world.nodes s) after is.0 here.off)
               (ap (λ (q : Node). is_over_group q) eff.is.node ∙ here.seat.apart)
               (noted ∙ ap (halted_facts disk) (some_same (sym at ∙ here.seat.fact)) ∙ halted_fact n (d.world.links s) d.world.sites disk
               ∙ sym (fact_same m (e.world.nodes s) (d.world.links s) (e.world.links s) d.world.sites e.world.sites eff.is.node (λ j. eff.is.links j) eff.site.sites))
@@ -284,6 +289,7 @@ module _ {R : Type 0} {g : Ghosts R} where
                     doubt = λ was a there. subst (λ (q : Node). IsSameSite q a.node) same (before_noted.doubt was a there);
                   })
                   (λ first. subst (λ (q : Node). BeginsFirst s q) (sym node) (begins_fell s n n count here.can.up first))
+                  (λ _. noted_off (sure_of (itself (beside_of d s) n)) (crashed n count) (e.world.nodes s) after stood here.off)
                   (noted ∙ ap down_fact (some_same (sym at ∙ fact_of d old s stands here.seat.below)) ∙ crash_fact d s count false n (d.world.links s) refl (λ j. refl) (λ _. refl) here.seat.below here.can.up least most refl refl refl refl
                   ∙ over_same (e.world.nodes s) (h.world.nodes s) (h.world.links s) (h.world.links s) h.world.sites h.world.sites same (λ j. refl) refl)
                   facts;

@@ -12,7 +12,7 @@ use Rattle.vx_order.specs.declared.facts.SiteFacts.{SiteFacts}
 use Rattle.vx_script.specs.declared.line.ScriptLine.TheVariants.{Read, Show}
 use Rattle.vx_events.proofs.Places.{some_same}
 use Rattle.vx_events.proofs.Refused.{Named}
-use Rattle.vx_events.proofs.Testing.{read_role}
+use Rattle.vx_events.proofs.DataNamed.{read_role}
 use Rattle.vx_events.proofs.RefusedCalls.{read_may, show_may}
 use Rattle.vx_events.proofs.OverSeats.{over_reads}
 use Rattle.vx_events.specs.Facts.{seat_of}
@@ -27,6 +27,8 @@ use Rattle.vx_yard.specs.declared.yard.Yard.{Yard}
 use Rattle.vx_yard.proofs.NamedSite.{fact_named, fact_placed, place_at, site_at}
 use Rattle.vx_yard.proofs.OverGroup.{over_none}
 use Rattle.vx_yard.proofs.Leads.{room_origin, room_receives}
+use Rattle.vx_events.specs.RvgViews.{is_over_rvg}
+use Rattle.vx_events.specs.RvgOver.{is_plain_kind, kind_named}
 
 module _ {R : Type 0} {g : Ghosts R} (d : Doubted) (y : Yard R g) (name : List ℕ) (s : ℕ) (stands : StandsFor d y) (seat : seat_of y.facts.items name ≡ Some s) where
   -- a site of which the tests see that it is up
@@ -43,13 +45,13 @@ module _ {R : Type 0} {g : Ghosts R} (d : Doubted) (y : Yard R g) (name : List �
       ap (λ (r : Role). is_origin r) (over_none (beside_of d s) (d.world.nodes s) e.0 (stands.disk_sets.sites s e.0 below e.1) over).role
 
   -- a read that no test refuses is at such a site
-  pub read_leads : (volume : List ℕ) (start count : ℕ) → IsFree y (Read name volume start count) → (t : ℕ) → seat_of y.facts.items name ≡ Some t → is_origin (d.world.nodes t).role ≡ true
-  read_leads volume start count free t at =
+  pub read_leads : (volume : List ℕ) (start count : ℕ) → (is_over_rvg (d.world.nodes s) ≡ true → is_plain_kind (kind_named (d.world.nodes s) volume) ≡ false) → IsFree y (Read name volume start count) → (t : ℕ) → seat_of y.facts.items name ≡ Some t → is_origin (d.world.nodes t).role ≡ true
+  read_leads volume start count plain free t at =
       let may = read_may y.facts.items (in_files y) name volume start count free in
       let up : (d.world.nodes s).state ≡ IsUp = up_at may.site may.up in
       subst (λ (i : ℕ). is_origin (d.world.nodes i).role ≡ true) (some_same (sym seat ∙ at))
       (by_bool (is_over_group (d.world.nodes s)) over_leads
-      (λ apart. ap is_origin (read_role d.world s y.facts.items (in_files y) name volume start count may.site (fact_named d y name s (site_at d y name s stands apart seat) seat may.site) up free)))
+      (λ apart. ap is_origin (read_role d.world s y.facts.items (in_files y) name volume start count may.site (fact_named d y name s (site_at d y name s stands apart seat) seat may.site) up plain free)))
 
   module _ (e : DiskSet R g) (b : Bool) (there : slice_get y.disk_sets.items s ≡ Some e) (is : Receives e b) where
     -- one that has room for updates receives

@@ -5,7 +5,6 @@ pub mod Carrying
 pub mod ChangeSite
 pub mod CrashLine
 pub mod CrashSite
-pub mod DataPlaces
 pub mod FailsStay
 pub mod FirstSites
 pub mod FuseStays

@@ -116,6 +116,7 @@ module _ {R : Type 0} {g : Ghosts R} where
       links = stands.links;
       roles = record { each = λ s x below at. stands.roles.each s x below (sym (ap (λ es. slice_get es s) sets) ∙ at) };
       first = stands.first;
+      noted = λ s x below at. stands.noted s x below (sym (ap (λ es. slice_get es s) sets) ∙ at);
       doubts = λ s a is. stands.doubts s a is;
       failing = λ s x below at. stands.failing s x below (sym (ap (λ es. slice_get es s) sets) ∙ at);
       fuses = λ s x below at. stands.fuses s x below (sym (ap (λ es. slice_get es s) sets) ∙ at);

@@ -49,6 +49,7 @@ module _ {R : Type 0} {g : Ghosts R} where
     links = fit_empty;
     roles = record { each = λ s e below is. absurd (omega (arith, below)) };
     first = λ s below. absurd (omega (arith, below));
+    noted = λ s e below is. absurd (omega (arith, below));
     doubts = λ s a is. absurd (never is);
     failing = λ s e below is. absurd (omega (arith, below));
     fuses = λ s e below is. absurd (omega (arith, below));

@@ -18,26 +18,25 @@ use Rattle.vx_diskset.specs.declared.disk_set.DiskSet.{DiskSet}
 use Rattle.vx_diskset.specs.declared.disk_set.DiskSet.TheVariants.{Bare, Spoiled, Up, Receives, Down, OfGroup, Over, Gone}
 use Rattle.vx_diskset.specs.declared.over_set.OverSite.{OverSite}
 use Rattle.vx_diskset.specs.declared.over_set.OverSite.TheVariants.{Origin as OriginSite, Receiver as ReceiverSite, Deported as OverAway, Down as OverFell, Gone as NoOver}
+use Rattle.vx_diskset.specs.Noted.{NotedAt}
 use Rattle.vx_model.specs.declared.site.SiteState.TheVariants.{Up as IsUp}
 use Rattle.vx_events.specs.Effects.{ChangesNode}
 use Rattle.vx_events.specs.Facts.{values_from}
 use Rattle.vx_events.specs.GroupLines.{is_over_group}
 use Rattle.vx_events.specs.LinkedFacts.{linked_fact}
-use Rattle.vx_events.specs.RvgSteps.{fact_full, facts_full}
 use Rattle.vx_events.specs.StepsOver.{fact_over, facts_over}
 use Rattle.vx_events.proofs.OverSeats.{fact_apart}
 use Rattle.vx_events.specs.LinksFit.{LinksFit}
 use Rattle.vx_events.proofs.Places.{some_same}
 use Rattle.vx_events.proofs.Values.{slice_get-values_from}
 use Rattle.vx_yard.specs.Stands.{AreTold, RoseAll, site_faults}
-use Rattle.vx_yard.specs.Gaining.{StandsFull}
-use Rattle.vx_yard.specs.Standing.{BeginsFirst, IsSameSite, SitesAgree, StandsBelow, StandsFor}
+use Rattle.vx_yard.specs.Standing.{BeginsFirst, IsSameSite, SitesAgree, StandsFor}
 use Rattle.vx_yard.specs.Yards.{IsTold, count_of}
 use Rattle.vx_yard.specs.declared.yard.Yard.{Yard}
 use Rattle.vx_yard.proofs.ChangeSite.{counts_later, counts_rose, rose_one, told_before}
 use Rattle.vx_yard.proofs.Lists.{get-set_same, get-set_other, length-set, set_same, values_from-set}
 use Rattle.vx_yard.proofs.OverGroup.{begins_apart}
-use Rattle.vx_yard.proofs.Rows.{full_same, over_same, row_links_same}
+use Rattle.vx_yard.proofs.Rows.{over_same, row_links_same}
 
 -- ---- the sites that are as they were
 
@@ -64,15 +63,6 @@ facts_set d e s changes =
     (λ j apart.
     let other : j ≡ s → ⊥ = λ is. apart (is ∙ sym start) in
     over_same (d.world.nodes j) (e.world.nodes j) (d.world.links j) (e.world.links j) d.world.sites e.world.sites (changes.nodes j other) (λ k. changes.links j k other) changes.sites)
-
-pub full_set : (d e : Doubted) (s : ℕ) → ChangesNode s d e → facts_full e.world ≡ slice_set (facts_full d.world) s (fact_full e.world s)
-full_set d e s changes =
-    let start : 0 + s ≡ s = omega arith in
-    ap (λ (k : ℕ). values_from (λ i. fact_full e.world i) 0 k) changes.sites
-    ∙ values_from-set (λ i. fact_full d.world i) (λ i. fact_full e.world i) 0 d.world.sites s (fact_full e.world s) (ap (λ (i : ℕ). fact_full e.world i) start)
-    (λ j apart.
-    let other : j ≡ s → ⊥ = λ is. apart (is ∙ sym start) in
-    full_same (d.world.nodes j) (e.world.nodes j) (d.world.links j) (e.world.links j) d.world.sites e.world.sites (changes.nodes j other) (λ k. changes.links j k other) changes.sites)
 
 module _ {R : Type 0} {g : Ghosts R} where
   -- what a site comes to, whose disk set is this one then
@@ -141,24 +131,12 @@ module _ {R : Type 0} {g : Ghosts R} where
     others = λ i x past is. agree.others i x (omega (arith, past, comes.changes.sites)) (sym (get-set_other es s i after (λ same. omega (arith, past, below, same, comes.changes.sites))) ∙ is);
   }
 
-  -- all but what the tests see
-  pub below_of : (d : Doubted) (y : Yard R g) → StandsFor d y → StandsBelow d y
-  below_of d y stands = record {
-    disk_sets = stands.disk_sets;
-    links = stands.links;
-    roles = stands.roles;
-    first = stands.first;
-    doubts = stands.doubts;
-    failing = stands.failing;
-    fuses = stands.fuses;
-    none = stands.none;
-    room = stands.room;
-  }
-
-  -- so it is of the yard with another disk set of a site, in the world that this one comes to
-  pub below_at : (d e : Doubted) (old new : Yard R g) (s : ℕ) (before after : DiskSet R g) → StandsBelow d old → s < d.world.sites → Changed old new s before after → Comes d e s after
-      → (BeginsFirst s (d.world.nodes s) → BeginsFirst s (e.world.nodes s)) → StandsBelow e new
-  below_at d e old new s before after stands below changed comes first = record {
+  -- so the yard stands with another disk set of a site, in the world that this one comes to
+  pub stands_at : (d e : Doubted) (old new : Yard R g) (s : ℕ) (f : SiteFacts) (before after : DiskSet R g) → StandsFor d old → s < d.world.sites → Changed old new s before after → Comes d e s after
+      → (BeginsFirst s (d.world.nodes s) → BeginsFirst s (e.world.nodes s)) → (NotedAt (d.world.nodes s) before → NotedAt (e.world.nodes s) after)
+      → f ≡ fact_over e.world s → new.facts.items ≡ slice_set old.facts.items s f → StandsFor e new
+  stands_at d e old new s f before after stands below changed comes first noted fact facts = record {
+    facts = facts ∙ ap (λ (fs : List SiteFacts). slice_set fs s f) stands.facts ∙ ap (λ (x : SiteFacts). slice_set (facts_over d.world) s x) fact ∙ sym (facts_set d e s comes.changes);
     disk_sets = subst (λ es. SitesAgree e es) (sym changed.disk_sets) (sites_set d e old.disk_sets.items s after stands.disk_sets below comes);
     links = comes.links;
     roles = record {
@@ -169,6 +147,8 @@ module _ {R : Type 0} {g : Ghosts R} where
         (λ (same : i ≡ s). subst (λ (k : ℕ). BeginsFirst k (e.world.nodes k)) (sym same) (first (stands.first s below)))
         (λ apart. subst (λ (n : Node). BeginsFirst i n) (sym (comes.changes.nodes i apart)) (stands.first i (omega (arith, inside, comes.changes.sites))))
         (cases_eq i s);
+    noted = λ i x inside is. at_set (λ j y. NotedAt (e.world.nodes j) y) old.disk_sets.items s after within (noted (stands.noted s before below changed.there)) i x (here i x is)
+        (λ apart was. subst (λ (n : Node). NotedAt n x) (sym (comes.changes.nodes i apart)) (stands.noted i x (omega (arith, inside, comes.changes.sites)) was));
     doubts = λ i a is. doubted i a is;
     failing = λ i x inside is. at_set (λ j y. FailsAs (e.world.nodes j) y) old.disk_sets.items s after within comes.failing i x (here i x is)
         (λ apart was. subst (λ (n : Node). FailsAs n x) (sym (comes.changes.nodes i apart)) (stands.failing i x (omega (arith, inside, comes.changes.sites)) was));
@@ -192,52 +172,27 @@ module _ {R : Type 0} {g : Ghosts R} where
           (λ apart. subst (λ (n : Node). IsSameSite n a.node) (sym (comes.changes.nodes i apart)) (stands.doubts i a (sym (comes.changes.after i apart) ∙ is)))
           (cases_eq i s)
 
-  -- the yard stands for that world
-  pub stands_at : (d e : Doubted) (old new : Yard R g) (s : ℕ) (f : SiteFacts) (before after : DiskSet R g) → StandsFor d old → s < d.world.sites → Changed old new s before after → Comes d e s after
-      → (BeginsFirst s (d.world.nodes s) → BeginsFirst s (e.world.nodes s)) → f ≡ fact_over e.world s → new.facts.items ≡ slice_set old.facts.items s f → StandsFor e new
-  stands_at d e old new s f before after stands below changed comes first fact facts =
-      let rest : StandsBelow e new = below_at d e old new s before after (below_of d old stands) below changed comes first in
-      record {
-        facts = facts ∙ ap (λ (fs : List SiteFacts). slice_set fs s f) stands.facts ∙ ap (λ (x : SiteFacts). slice_set (facts_over d.world) s x) fact ∙ sym (facts_set d e s comes.changes);
-        disk_sets = rest.disk_sets;
-        links = rest.links;
-        roles = rest.roles;
-        first = rest.first;
-        doubts = rest.doubts;
-        failing = rest.failing;
-        fuses = rest.fuses;
-        none = rest.none;
-        room = rest.room;
-      }
-
-  -- the same where sites may have replicated volume groups over groups of disks
-  pub full_at : (d e : Doubted) (old new : Yard R g) (s : ℕ) (f : SiteFacts) (before after : DiskSet R g) → StandsFull d old → s < d.world.sites → Changed old new s before after → Comes d e s after
-      → (BeginsFirst s (d.world.nodes s) → BeginsFirst s (e.world.nodes s)) → f ≡ fact_full e.world s → new.facts.items ≡ slice_set old.facts.items s f → StandsFull e new
-  full_at d e old new s f before after stands below changed comes first fact facts = record {
-    facts = facts ∙ ap (λ (fs : List SiteFacts). slice_set fs s f) stands.facts ∙ ap (λ (x : SiteFacts). slice_set (facts_full d.world) s x) fact ∙ sym (full_set d e s comes.changes);
-    below = below_at d e old new s before after stands.below below changed comes first;
-  }
-
   -- the same of a site of which the tests see nothing new
   pub stands_still : (d e : Doubted) (old new : Yard R g) (s : ℕ) (before after : DiskSet R g) → StandsFor d old → s < d.world.sites → Changed old new s before after → Comes d e s after
-      → (BeginsFirst s (d.world.nodes s) → BeginsFirst s (e.world.nodes s)) → fact_over e.world s ≡ fact_over d.world s → new.facts.items ≡ old.facts.items → StandsFor e new
-  stands_still d e old new s before after stands below changed comes first fact facts =
+      → (BeginsFirst s (d.world.nodes s) → BeginsFirst s (e.world.nodes s)) → (NotedAt (d.world.nodes s) before → NotedAt (e.world.nodes s) after)
+      → fact_over e.world s ≡ fact_over d.world s → new.facts.items ≡ old.facts.items → StandsFor e new
+  stands_still d e old new s before after stands below changed comes first noted fact facts =
       let start : 0 + s ≡ s = omega arith in
       let there : slice_get old.facts.items s ≡ Some (fact_over e.world s) =
       ap (λ (fs : List SiteFacts). slice_get fs s) stands.facts ∙ slice_get-values_from (λ i. fact_over d.world i) 0 d.world.sites s below ∙ ap (λ (i : ℕ). Some (fact_over d.world i)) start
       ∙ ap (λ (x : SiteFacts). Some x) (sym fact) in
-      stands_at d e old new s (fact_over e.world s) before after stands below changed comes first refl (facts ∙ sym (set_same old.facts.items s (fact_over e.world s) there))
+      stands_at d e old new s (fact_over e.world s) before after stands below changed comes first noted refl (facts ∙ sym (set_same old.facts.items s (fact_over e.world s) there))
 
   -- the same of a site that is over no group
   pub stands_apart : (d e : Doubted) (old new : Yard R g) (s : ℕ) (f : SiteFacts) (before after : DiskSet R g) → StandsFor d old → s < d.world.sites → Changed old new s before after → Comes d e s after
-      → is_over_group (e.world.nodes s) ≡ false → f ≡ linked_fact e.world s → new.facts.items ≡ slice_set old.facts.items s f → StandsFor e new
-  stands_apart d e old new s f before after stands below changed comes apart fact facts =
-      stands_at d e old new s f before after stands below changed comes (λ _. begins_apart s (beside_of e s) (e.world.nodes s) after comes.stands apart) (fact ∙ sym (fact_apart e.world s apart)) facts
+      → (NotedAt (d.world.nodes s) before → NotedAt (e.world.nodes s) after) → is_over_group (e.world.nodes s) ≡ false → f ≡ linked_fact e.world s → new.facts.items ≡ slice_set old.facts.items s f → StandsFor e new
+  stands_apart d e old new s f before after stands below changed comes noted apart fact facts =
+      stands_at d e old new s f before after stands below changed comes (λ _. begins_apart s (beside_of e s) (e.world.nodes s) after comes.stands apart) noted (fact ∙ sym (fact_apart e.world s apart)) facts
 
   pub still_apart : (d e : Doubted) (old new : Yard R g) (s : ℕ) (before after : DiskSet R g) → StandsFor d old → s < d.world.sites → Changed old new s before after → Comes d e s after
-      → is_over_group (d.world.nodes s) ≡ false → is_over_group (e.world.nodes s) ≡ false → linked_fact e.world s ≡ linked_fact d.world s → new.facts.items ≡ old.facts.items → StandsFor e new
-  still_apart d e old new s before after stands below changed comes was apart fact facts =
-      stands_still d e old new s before after stands below changed comes (λ _. begins_apart s (beside_of e s) (e.world.nodes s) after comes.stands apart) (fact_apart e.world s apart ∙ fact ∙ sym (fact_apart d.world s was)) facts
+      → (NotedAt (d.world.nodes s) before → NotedAt (e.world.nodes s) after) → is_over_group (d.world.nodes s) ≡ false → is_over_group (e.world.nodes s) ≡ false → linked_fact e.world s ≡ linked_fact d.world s → new.facts.items ≡ old.facts.items → StandsFor e new
+  still_apart d e old new s before after stands below changed comes noted was apart fact facts =
+      stands_still d e old new s before after stands below changed comes (λ _. begins_apart s (beside_of e s) (e.world.nodes s) after comes.stands apart) noted (fact_apart e.world s apart ∙ fact ∙ sym (fact_apart d.world s was)) facts
 
   -- one call failed, on a disk of the site
   pub rose_at : (old new : Yard R g) (s disk : ℕ) (before after : DiskSet R g) → Changed old new s before after → RoseAt before after disk → RoseAll ((s, disk) ∷ []) (count_of old) (count_of new)

@@ -25,6 +25,7 @@ use Rattle.vx_diskset.specs.declared.over_set.OverSet.{OverSet}
 use Rattle.vx_diskset.specs.declared.over_set.OverSite.{OverSite}
 use Rattle.vx_diskset.specs.declared.over_set.OverSite.TheVariants.{Origin as OriginSite, Receiver as ReceiverSite, Deported as OverAway, Down as OverFell, Gone as NoOver}
 use Rattle.vx_diskset.specs.declared.group_set.GroupSet.{GroupSet}
+use Rattle.vx_diskset.specs.Noted.{NotedAt}
 use Rattle.vx_events.proofs.Places.{never_some}
 use Rattle.vx_events.specs.GroupLines.{is_over_group}
 use Rattle.vx_events.specs.RvgViews.{is_over_rvg}
@@ -84,6 +85,19 @@ none_over n none = ap (λ (o : Option GroupNode). is_some o && eqb (length n.vol
 pub none_rvg : (n : Node) → n.group ≡ None → is_over_rvg n ≡ false
 none_rvg n none = ap (λ (o : Option GroupNode). is_some o && not (eqb (length n.volumes) 0)) none
 
+either_way : (a b : Bool) → (a && b) ≡ true → (a && not b) ≡ false
+either_way true true e = refl
+either_way true false e = absurd (cc)
+either_way false b e = refl
+
+pub group_off : (n : Node) → is_over_group n ≡ true → is_over_rvg n ≡ false
+group_off n over = either_way (is_some n.group) (eqb (length n.volumes) 0) over
+
+-- a site with the same group and the same volumes
+pub rvg_same : (n m : Node) → m.group ≡ n.group → m.volumes ≡ n.volumes → is_over_rvg m ≡ is_over_rvg n
+rvg_same n m group volumes =
+    ap (λ (o : Option GroupNode). is_some o && not (eqb (length m.volumes) 0)) group ∙ ap (λ (vs : List Volume). is_some n.group && not (eqb (length vs) 0)) volumes
+
 pub both_ways : {b : Bool} → b ≡ true → b ≡ false → ⊥
 both_ways over apart = let e : true ≡ false = sym over ∙ apart in cc
 
@@ -125,6 +139,25 @@ module _ {R : Type 0} {g : Ghosts R} where
   -- and notes the group
   pub over_rvg : (beside : KeptBeside) (n : Node) (s : OverSet R g) → SiteStands beside n (Over s) → is_over_rvg n ≡ true
   over_rvg beside n s it = with_data n.group (length n.volumes) (some_group n.group it.0.0) (over_many beside n s.site it.1)
+
+  -- of one without a replicated volume group over its group nothing more is noted
+  pub noted_off : (beside : KeptBeside) (n m : Node) (e : DiskSet R g) → SiteStands beside n e → is_over_rvg n ≡ false → NotedAt m e
+  noted_off beside n m (Bare rack) it off = tt
+  noted_off beside n m (Spoiled rack) it off = tt
+  noted_off beside n m (Up rvg) it off = tt
+  noted_off beside n m (Receives s) it off = tt
+  noted_off beside n m (Down rack) it off = tt
+  noted_off beside n m (OfGroup s) it off = tt
+  noted_off beside n m (Over s) it off = absurd (both_ways (over_rvg beside n s it) off)
+  noted_off beside n m Gone it off = tt
+
+  -- so it is of one that notes no group
+  pub noted_none : (beside : KeptBeside) (n m : Node) (e : DiskSet R g) → SiteStands beside n e → n.group ≡ None → NotedAt m e
+  noted_none beside n m e it none = noted_off beside n m e it (none_rvg n none)
+
+  -- and of one over a group
+  pub noted_group : (beside : KeptBeside) (n m : Node) (e : DiskSet R g) → SiteStands beside n e → is_over_group n ≡ true → NotedAt m e
+  noted_group beside n m e it over = noted_off beside n m e it (group_off n over)
 
   -- a site over no group has a volume, where it is made
   made_many : (beside : KeptBeside) (n : Node) (e : DiskSet R g) → SiteStands beside n e → is_over_group n ≡ false → (n.state ≡ IsBare → ⊥) → 1 ≤ length n.volumes

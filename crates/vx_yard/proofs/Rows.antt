@@ -17,7 +17,6 @@ use Rattle.vx_events.specs.Facts.{group_by, volume_fact}
 use Rattle.vx_events.specs.GroupLines.{is_over_group}
 use Rattle.vx_events.specs.GroupNotes.{no_note, note_at}
 use Rattle.vx_events.specs.GroupViews.{noted_table}
-use Rattle.vx_events.specs.RvgViews.{is_over_rvg, over_facts}
 use Rattle.vx_events.specs.StepsOver.{fact_of_group}
 use Rattle.vx_events.specs.LinkedFacts.{needed_by, link_fact, link_facts, links_by, seen_fact}
 use Rattle.vx_effects.specs.Facts.{down_fact}
@@ -67,16 +66,6 @@ pub over_same : (n m : Node) (row new : ℕ → Link) (sites many : ℕ) → m �
 over_same n m row new sites many node same count =
     ap (λ (k : Node). over_from k new many) node
     ∙ ap (λ (f : SiteFacts). if is_over_group n then fact_of_group n (note_at n) else f) (fact_same n n row new sites many refl same count)
-
--- the same of one whose group may have a replicated volume group
-abbrev pub full_from : Node → (ℕ → Link) → ℕ → SiteFacts
-full_from n row sites = if is_over_rvg n then over_facts (note_at n) (fact_from n row sites) else over_from n row sites
-
-pub full_same : (n m : Node) (row new : ℕ → Link) (sites many : ℕ) → m ≡ n → ((k : ℕ) → new k ≡ row k) → many ≡ sites → full_from m new many ≡ full_from n row sites
-full_same n m row new sites many node same count =
-    ap (λ (k : Node). full_from k new many) node
-    ∙ ap (λ (f : SiteFacts). if is_over_rvg n then over_facts (note_at n) f else over_from n new many) (fact_same n n row new sites many refl same count)
-    ∙ ap (λ (f : SiteFacts). if is_over_rvg n then over_facts (note_at n) (fact_from n row sites) else f) (over_same n n row new sites many refl same count)
 
 -- a site that is over no group
 pub apart_same : (n m : Node) (row new : ℕ → Link) (sites many : ℕ) → is_over_group n ≡ false → m ≡ n → ((k : ℕ) → new k ≡ row k) → many ≡ sites → over_from m new many ≡ fact_from n row sites

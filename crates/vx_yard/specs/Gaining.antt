@@ -1,4 +1,4 @@
--- What a yard stands for in which sites may have replicated volume groups over groups of disks, and what a line that makes one leads it to.
+-- What a line leads a yard to that makes a replicated volume group over a group of disks.
 use Rattle.std.specs.Prelude.{◌≡◌, ℕ, List, [], Result, Ok, Err}
 use Rattle.vx_model.specs.declared.errors.OutOfMemory.{OutOfMemory}
 use Rattle.vx_disk.specs.declared.shelf.Shelf.{Ghosts}
@@ -8,28 +8,23 @@ use Rattle.vx_events.specs.Facts.{site_number}
 use Rattle.vx_events.specs.Fails.{Fails}
 use Rattle.vx_events.specs.RvgMakes.{MakesRvg}
 use Rattle.vx_events.specs.RvgParts.{ShortFull}
-use Rattle.vx_events.specs.RvgSteps.{HasNoRvgs, facts_full}
+use Rattle.vx_events.specs.RvgSteps.{HasNoRvgs}
 use Rattle.vx_events.specs.declared.said.Said.{Said}
 use Rattle.vx_events.specs.declared.said.Said.TheVariants.{Done}
 use Rattle.vx_yard.specs.Carries.{Carries}
-use Rattle.vx_yard.specs.Standing.{StandsBelow}
+use Rattle.vx_yard.specs.Standing.{StandsFor}
 use Rattle.vx_yard.specs.Stands.{RoseAll}
 use Rattle.vx_yard.specs.Yards.{IsTold, count_of}
 use Rattle.vx_yard.specs.declared.yard.Yard.{Yard}
 
 module _ {R : Type 0} {g : Ghosts R} where
-  -- The yard stands for this world, in which sites may have replicated volume groups over groups of disks.
-  pub record StandsFull (d : Doubted) (y : Yard R g) : Type 0 where
-    pub facts : y.facts.items ≡ facts_full d.world
-    pub below : StandsBelow d y
-
   -- The line worked, and was answered so. The yard stands for what it made of the world, and carries that, if it did so before. Only a line that is done makes a
   -- replicated volume group.
   pub record LeadsRvg (d : Doubted) (site srl maps : List ℕ) (volumes : List (List ℕ)) (said : Said) (old new : Yard R g) : Type 0 where
     pub next : Doubted
     pub fails : Fails
     pub makes : MakesRvg (IsTold new) d (Rvg site srl maps volumes) (site_number d.world site) fails said next
-    pub stands : StandsFull next new
+    pub stands : StandsFor next new
     pub none : (said ≡ Done → ⊥) → HasNoRvgs d.world → HasNoRvgs next.world
     pub carries : Carries d old → Carries next new
     pub rose : RoseAll fails (count_of old) (count_of new)
@@ -38,7 +33,7 @@ module _ {R : Type 0} {g : Ghosts R} where
   pub record StopsRvg (d : Doubted) (site srl maps : List ℕ) (volumes : List (List ℕ)) (old new : Yard R g) : Type 0 where
     pub next : Doubted
     pub part : ShortFull (IsTold new) d (Rvg site srl maps volumes) next
-    pub stands : StandsFull next new
+    pub stands : StandsFor next new
     pub none : HasNoRvgs d.world → HasNoRvgs next.world
     pub carries : Carries d old → Carries next new
     pub rose : RoseAll [] (count_of old) (count_of new)

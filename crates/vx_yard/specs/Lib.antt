@@ -1,7 +1,6 @@
 pub mod BothSites
 pub mod Carries
 pub mod Changes
-pub mod DataPlaces
 pub mod Deliveries
 pub mod Gaining
 pub mod GroupFacts

@@ -20,6 +20,7 @@ use Rattle.vx_diskset.specs.Asked.{FailsAs, FusedAs}
 use Rattle.vx_diskset.specs.Holds.{beside_of}
 use Rattle.vx_diskset.specs.Makings.{IsFirstSite}
 use Rattle.vx_diskset.specs.Stands.{IsUnused, RoleIs, SiteStands}
+use Rattle.vx_diskset.specs.Noted.{NotedAt}
 use Rattle.vx_diskset.specs.declared.disk_set.DiskSet.{DiskSet}
 use Rattle.vx_events.specs.Fails.{Fails}
 use Rattle.vx_events.specs.GroupEnds.{GroupEnds}
@@ -67,27 +68,16 @@ module _ {R : Type 0} {g : Ghosts R} where
   pub record RolesAre (d : Doubted) (y : Yard R g) : Type 0 where
     pub each : (s : ℕ) (e : DiskSet R g) → s < d.world.sites → slice_get y.disk_sets.items s ≡ Some e → RoleIs (d.world.nodes s) e
 
-  -- All but what the tests of a line see, of a yard that stands for this world, in which sites may be in doubt: disk sets that agree with it.
-  -- Each site has the group that its role asks for, and one in doubt is the same site either way. The disks that the world makes fail are made
-  -- to fail, and a fuse that it knows of has no more calls left than it knows.
-  pub record StandsBelow (d : Doubted) (y : Yard R g) : Type 0 where
-    pub disk_sets : SitesAgree d y.disk_sets.items
-    pub links : LinksFit d
-    pub roles : RolesAre d y
-    pub first : (s : ℕ) → s < d.world.sites → BeginsFirst s (d.world.nodes s)
-    pub doubts : (s : ℕ) (a : After) → d.after s ≡ Some a → IsSameSite (d.world.nodes s) a.node
-    pub failing : (s : ℕ) (e : DiskSet R g) → s < d.world.sites → slice_get y.disk_sets.items s ≡ Some e → FailsAs (d.world.nodes s) e
-    pub fuses : (s : ℕ) (e : DiskSet R g) → s < d.world.sites → slice_get y.disk_sets.items s ≡ Some e → FusedAs (d.world.nodes s) e
-    pub none : y.racks.items ≡ []
-    pub room : MOST_SITES ≤ vec_capacity y.racks
-
-  -- The yard stands for this world: it has what the tests of a line see of it, and all of that.
+  -- The yard stands for this world, in which sites may be in doubt: it has what the tests of a line see of it, and disk sets that agree with it. Each
+  -- site has the group that its role asks for, and one in doubt is the same site either way. The disks that the world makes fail are made to fail, and a
+  -- fuse that it knows of has no more calls left than it knows.
   pub record StandsFor (d : Doubted) (y : Yard R g) : Type 0 where
     pub facts : y.facts.items ≡ facts_over d.world
     pub disk_sets : SitesAgree d y.disk_sets.items
     pub links : LinksFit d
     pub roles : RolesAre d y
     pub first : (s : ℕ) → s < d.world.sites → BeginsFirst s (d.world.nodes s)
+    pub noted : (s : ℕ) (e : DiskSet R g) → s < d.world.sites → slice_get y.disk_sets.items s ≡ Some e → NotedAt (d.world.nodes s) e
     pub doubts : (s : ℕ) (a : After) → d.after s ≡ Some a → IsSameSite (d.world.nodes s) a.node
     pub failing : (s : ℕ) (e : DiskSet R g) → s < d.world.sites → slice_get y.disk_sets.items s ≡ Some e → FailsAs (d.world.nodes s) e
     pub fuses : (s : ℕ) (e : DiskSet R g) → s < d.world.sites → slice_get y.disk_sets.items s ≡ Some e → FusedAs (d.world.nodes s) e

@@ -7,6 +7,7 @@ ghost use Rattle.vx_yard.specs.OfSites.{OfSite};
 ghost use Rattle.vx_diskset.specs.Asked.{CrashesBy, MayCrash, SameFailing};
 ghost use Rattle.vx_diskset.specs.DiskSets.{CrashedAt, CrashedTo, Later};
 ghost use Rattle.vx_diskset.specs.Holds.{KeptBeside};
+ghost use Rattle.vx_diskset.specs.Noted.{OversFall};
 ghost use Rattle.vx_diskset.specs.Stands.{SiteStands};
 ghost use Rattle.vx_yard.specs.Standing.{Falls, StandsFor};
 ghost use Rattle.vx_yard.specs.Yards.{IsTold, in_files};
@@ -24,6 +25,7 @@ pub fn crash_in<R: Rack>(place: &mut DiskSet<R>, pick: u64)
     ensures durable { (beside : KeptBeside) (n : Node) → SiteStands beside n place.old → n.state ≡ UpState → n.halted ≡ None → CrashedTo beside n n.safe place.new }
     ensures asked { (beside : KeptBeside) (n : Node) → SiteStands beside n place.old → n.state ≡ UpState → CrashesBy pick place.old place.new }
     ensures stopped { MayCrash pick place.old place.new }
+    ensures fallen { OversFall place.old place.new }
     ensures later { Later place.old place.new }
 {
     let disk_set = mem::replace(place, DiskSet::Gone);

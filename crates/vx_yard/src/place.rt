@@ -1,15 +1,14 @@
 // The site and the volume that a line names. The tests of the line found them, so there is no case without one.
-ghost use Rattle.std.specs.Prelude.{◌≡◌, ◌<◌, ◌≤◌, Some, IsSome, length, slice_get};
-ghost use Rattle.vx_model.specs.declared.limits.TheConstants.{MOST_DATA_VOLUMES, MOST_SITES, MOST_VOLUMES};
+ghost use Rattle.std.specs.Prelude.{◌≡◌, ◌<◌, Some, IsSome, length, slice_get};
+ghost use Rattle.vx_model.specs.declared.limits.TheConstants.{MOST_SITES, MOST_VOLUMES};
 ghost use Rattle.vx_order.specs.declared.facts.SiteFacts.{SiteFacts};
 ghost use Rattle.vx_events.specs.Facts.{seat_of, place_of};
-ghost use Rattle.vx_yard.specs.DataPlaces.{NamesData, data_by, place_among};
 ghost use Rattle.vx_yard.specs.Yards.{IsYardKept};
 
 use crate::{Yard, facts};
 use vx_disk::Rack;
 use vx_linked::find_seat;
-use vx_model::{Name, Units};
+use vx_model::Name;
 
 impl<R: Rack> Yard<R> {
     /// The number of the site that a line names.
@@ -27,7 +26,8 @@ impl<R: Rack> Yard<R> {
         }
     }
 
-    /// The number of the volume that a line names at this site.
+    /// The number of the volume that a line names at this site, among those that the tests see: data volumes of a replicated volume group come first,
+    /// by their numbers in it.
     pub fn volume_of(&self, site: usize, name: &Name) -> usize
         requires kept { IsYardKept self.now }
         requires site { site < length self.now.facts.items }
@@ -39,45 +39,5 @@ impl<R: Rack> Yard<R> {
             Some(place) => place,
             None => unreachable!(),
         }
-    }
-
-    /// The number of the data volume that a line names at this site: its place among the data volumes of a replicated volume group over a disk
-    /// group, and its place among all where there is no disk group.
-    pub fn data_of(&self, site: usize, name: &Name) -> usize
-        requires kept { IsYardKept self.now }
-        requires site { site < length self.now.facts.items }
-        requires named { (f : SiteFacts) → slice_get self.now.facts.items site ≡ Some f → IsSome (place_of f.volumes name.now) }
-        ensures place { NamesData self.now site name.now result }
-        ensures small { result < MOST_VOLUMES }
-    {
-        let place = self.volume_of(site, name);
-        match self.disk_sets[site].config() {
-            Some(config) => data_place(&config.rvg, place),
-            None => place,
-        }
-    }
-}
-
-// The place of a volume among the data volumes of a replicated volume group, where there is one.
-fn data_place(rvg: &Option<Units>, place: usize) -> usize
-    requires few { place < MOST_VOLUMES }
-    ensures is { result ≡ data_by rvg.now place }
-    ensures small { result < MOST_VOLUMES }
-{
-    match rvg {
-        Some(units) => place_in(units.vols.as_slice(), place as u32),
-        None => place,
-    }
-}
-
-// The place of a unit among these.
-fn place_in(units: &[u32], unit: u32) -> usize
-    requires few { length units.now ≤ MOST_DATA_VOLUMES }
-    ensures is { result ≡ place_among units.now unit }
-    ensures small { result < MOST_VOLUMES }
-{
-    match units.iter().position(|other| *other == unit) {
-        Some(place) => place,
-        None => 0,
     }
 }

@@ -78,7 +78,6 @@ pub fn take_racks<R: Rack>(racks: Vec<R>, disk_sets: Vec<DiskSet<R>>) -> Vec<R>
 
 /// Fills an empty list, which has room for them, with an disk set for each of these racks, in order. The emptied list of the
 /// racks keeps its room.
-#[tactic(none)]
 pub fn put_racks<R: Rack>(racks: Vec<R>, disk_sets: Vec<DiskSet<R>>) -> (Vec<R>, Vec<DiskSet<R>>)
     ensures disk_sets { disk_sets.items ≡ [] → vec_len racks ≤ vec_capacity disk_sets → result.1.items ≡ map (λ r. DiskSet.Bare r) racks.items }
     ensures none { result.0.items ≡ [] }

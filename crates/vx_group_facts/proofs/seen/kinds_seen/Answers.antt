@@ -1,28 +1,31 @@
--- `kinds_seen`: what `push` asks; what stays true in its loop over `place`.
-use Rattle.std.proofs.Common.{◌≡◌, ◌∙◌, ◌<◌, ℕ, List, [], ◌∷◌, ◌++◌, Some, length, ap, sym, take, arith}
+-- `kinds_seen`: what the calls ask, and what it gives.
+use Rattle.std.proofs.Common.{◌≡◌, ◌∙◌, ◌++◌, ◌≤◌, ℕ, List, ap, length, map, sym, arith}
 use Rattle.std.specs.Prelude.{slice_get}
+use Rattle.std.proofs.lemmas.List.{length-map}
+use Rattle.vx_events.specs.RvgViews.{data_seen, others_from}
 use Rattle.vx_order.specs.declared.facts.VolumeFacts.{VolumeFacts}
-use Rattle.vx_events.specs.RvgViews.{kinds_from}
-use Rattle.std.proofs.lemmas.List.{length-take}
-use Rattle.std.proofs.lemmas.Option.{slice_get-get_or}
-use Rattle.vx_group_facts.proofs.KindPlaces.{kinds_more, length_kinds}
+use Rattle.vx_group_facts.proofs.KindPlaces.{data_within, kinds_few}
 use Rattle.vx_group_facts.proofs.seen.kinds_seen.Goals as goal
 
-pub push-requires : goal.push-requires
-push-requires c =
-    let n : ℕ = c.loop-place.place in
-    let vs = c.args.volumes.now in
-    let same : length c.loop-place.room ≡ length (kinds_from (Some c.args.units.now) 0 (take n vs)) = ap (λ (fs : List VolumeFacts). length fs) c.loop-place.invariant in
-    let less : n < length vs = c.loop-place-test.true in
-    record { room = omega (arith, same, length_kinds (Some c.args.units.now) 0 (take n vs), length-take n vs, less, c.requires.few) }
+pub with_data-room-requires-clause-few : goal.with_data-room-requires-clause-few
+with_data-room-requires-clause-few c =
+    let many : length c.as_slice.result.now ≡ length c.args.units.now.vols = ap (λ (ns : List ℕ). length ns) c.as_slice.ensures.units in
+    omega (arith, many, kinds_few c.args.volumes.now c.args.units.now c.requires.group, c.requires.few)
 
-pub loop-place-preserved : goal.loop-place-preserved
-loop-place-preserved c =
-    let u = Some c.args.units.now in
-    let before = kinds_from u 0 (take c.loop-place.place c.args.volumes.now) in
-    let at : slice_get c.args.volumes.now c.loop-place.place ≡ Some c.index-volumes-place.result =
-    slice_get-get_or c.args.volumes.now c.loop-place.place _ c.loop-place-test.true ∙ ap (λ e. Some e) (sym c.index-volumes-place.is) in
-    c.push.ensures
-    ∙ ap (λ (fs : List VolumeFacts). fs ++ c.kinded_volume.result ∷ []) c.loop-place.invariant
-    ∙ ap (λ (f : VolumeFacts). before ++ f ∷ []) c.kinded_volume.ensures
-    ∙ sym (kinds_more u c.loop-place.place c.args.volumes.now c.index-volumes-place.result at)
+pub with_data-room-requires-clause-within : goal.with_data-room-requires-clause-within
+with_data-room-requires-clause-within c = λ k place at.
+    data_within c.args.volumes.now c.args.units.now c.requires.group k place (ap (λ (ns : List ℕ). slice_get ns k) (sym c.as_slice.ensures.units) ∙ at)
+
+pub with_others-requires-clause-fits : goal.with_others-requires-clause-fits
+with_others-requires-clause-fits c =
+    let vs = c.args.volumes.now in
+    let u = c.args.units.now in
+    let many : length c.with_data-room.result ≡ length u.vols =
+    ap (λ (fs : List VolumeFacts). length fs) c.with_data-room.ensures ∙ length-map c.as_slice.result.now (data_seen vs) ∙ ap (λ (ns : List ℕ). length ns) c.as_slice.ensures.units in
+    omega (arith, many, kinds_few vs u c.requires.group, c.requires.few)
+
+pub returns : goal.returns
+returns c =
+    c.into_table.ensures ∙ c.with_others.ensures
+    ∙ ap (λ (fs : List VolumeFacts). fs ++ others_from c.args.units.now 0 c.args.volumes.now)
+    (c.with_data-room.ensures ∙ ap (λ (ns : List ℕ). map (data_seen c.args.volumes.now) ns) c.as_slice.ensures.units)

@@ -5,8 +5,7 @@ use Rattle.vx_config.specs.declared.config.Config.{Config}
 use Rattle.vx_diskset.specs.GroupCalls.{config_in}
 use Rattle.vx_events.proofs.Places.{some_same}
 use Rattle.vx_events.specs.GroupViews.{plain_fact}
-use Rattle.vx_events.specs.RvgViews.{kinds_from, kinds_of}
-use Rattle.vx_group_facts.proofs.KindPlaces.{kinds_plain}
+use Rattle.vx_events.specs.RvgViews.{kinds_by, kinds_of}
 use Rattle.vx_model.specs.declared.units.Units.{Units}
 use Rattle.vx_order.specs.declared.facts.SiteFacts.{SiteFacts}
 use Rattle.vx_yard.proofs.Lists.{get-set_same, get_at, set_twice}
@@ -15,32 +14,39 @@ use Rattle.vx_group_lines.specs.Noting.{made_facts}
 use Rattle.vx_group_lines.proofs.GroupShown.{config_at}
 use Rattle.vx_group_lines.proofs.noting.note_up.Goals as goal
 
+-- the configuration that is asked for is sound
+pub table_of-volumes-requires-clause-sound : goal.table_of-volumes-requires-clause-sound
+table_of-volumes-requires-clause-sound g c = λ κs within x is.
+    let one = get_at c.args.yard.now.disk_sets.items c.args.site c.index.result.now c.requires.disk_set c.index.ensures in
+    let two = get_at c.args.yard.now.disk_sets.items c.args.site c.index-2.result.now c.requires.disk_set c.index-2.ensures in
+    c.sound.ensures x (ap (λ e. config_in e) (some_same (sym one ∙ two)) ∙ sym c.config.ensures ∙ is)
+
 pub returns-clause-facts : goal.returns-clause-facts
 returns-clause-facts g c = λ f x at has alone none.
     let facts = c.args.yard.now.facts.items in
     let s = c.args.site in
-    let there = get_at c.args.yard.now.disk_sets.items s c.index.result.now c.requires.disk_set c.index.ensures in
+    let there = get_at c.args.yard.now.disk_sets.items s c.index-2.result.now c.requires.disk_set c.index-2.ensures in
     let same = some_same (sym has.there ∙ there) in
-    let is : config_in c.index.result.now ≡ Some x = ap (λ e. config_in e) (sym same) ∙ config_at has.disk_set (Some x) has.is in
+    let is : config_in c.index-2.result.now ≡ Some x = ap (λ e. config_in e) (sym same) ∙ config_at has.disk_set (Some x) has.is in
     let here = get_at facts s c.index_mut.result.now c.requires.facts c.index_mut.ensures.value in
     c.note_rvg.ensures.none (record { disk_set = none.disk_set; there = none.there; is = none.is })
     ∙ ap (λ (k : SiteFacts). slice_set facts s k)
     (c.come_up_group.ensures
     ∙ ap (λ vs. group_up_facts vs c.index_mut.result.now)
-    (c.table_of-volumes.ensures ∙ ap (λ (o : Option Config). kinds_of o) (c.config.ensures ∙ is) ∙ ap (λ (u : Option Units). kinds_from u 0 x.volumes) alone ∙ kinds_plain 0 x.volumes)
+    (c.table_of-volumes.ensures ∙ ap (λ (o : Option Config). kinds_of o) (c.config.ensures ∙ is) ∙ ap (λ (u : Option Units). kinds_by u x.volumes) alone)
     ∙ ap (λ (k : SiteFacts). group_up_facts (map plain_fact x.volumes) k) (some_same (sym here ∙ at)))
 
 pub returns-clause-made : goal.returns-clause-made
 returns-clause-made g c = λ f x core at has stands.
     let facts = c.args.yard.now.facts.items in
     let s = c.args.site in
-    let there = get_at c.args.yard.now.disk_sets.items s c.index.result.now c.requires.disk_set c.index.ensures in
+    let there = get_at c.args.yard.now.disk_sets.items s c.index-2.result.now c.requires.disk_set c.index-2.ensures in
     let same = some_same (sym has.there ∙ there) in
-    let is : config_in c.index.result.now ≡ Some x = ap (λ e. config_in e) (sym same) ∙ config_at has.disk_set (Some x) has.is in
+    let is : config_in c.index-2.result.now ≡ Some x = ap (λ e. config_in e) (sym same) ∙ config_at has.disk_set (Some x) has.is in
     let here = get_at facts s c.index_mut.result.now c.requires.facts c.index_mut.ensures.value in
-    let up : c.come_up_group.new.facts ≡ group_up_facts (kinds_from x.rvg 0 x.volumes) f =
+    let up : c.come_up_group.new.facts ≡ group_up_facts (kinds_by x.rvg x.volumes) f =
     c.come_up_group.ensures ∙ ap (λ vs. group_up_facts vs c.index_mut.result.now) (c.table_of-volumes.ensures ∙ ap (λ (o : Option Config). kinds_of o) (c.config.ensures ∙ is))
-    ∙ ap (λ (k : SiteFacts). group_up_facts (kinds_from x.rvg 0 x.volumes) k) (some_same (sym here ∙ at)) in
-    c.note_rvg.ensures.some (group_up_facts (kinds_from x.rvg 0 x.volumes) f) core (get-set_same facts s c.come_up_group.new.facts c.requires.facts ∙ ap (λ (k : SiteFacts). Some k) up)
+    ∙ ap (λ (k : SiteFacts). group_up_facts (kinds_by x.rvg x.volumes) k) (some_same (sym here ∙ at)) in
+    c.note_rvg.ensures.some (group_up_facts (kinds_by x.rvg x.volumes) f) core (get-set_same facts s c.come_up_group.new.facts c.requires.facts ∙ ap (λ (k : SiteFacts). Some k) up)
     (record { disk_set = stands.disk_set; there = stands.there; is = stands.is })
     ∙ set_twice facts s c.come_up_group.new.facts (made_facts core x f)

@@ -1,9 +1,8 @@
--- `fetch`: clauses told, leads and asked; what `site_of-site`, `data_of-place` and `unreachable` ask.
+-- `fetch`: clauses told, leads and asked; what `site_of-site`, `volume_of-place` and `unreachable` ask.
 use Rattle.std.proofs.Common.{◌≡◌, arith, refl}
 use Rattle.std.specs.Prelude.{Some}
 use Rattle.vx_events.specs.Facts.{seat_of}
 use Rattle.vx_yard.proofs.ChangeSite.{told_before}
-use Rattle.vx_yard.proofs.DataPlaces.{raw_data}
 use Rattle.vx_yard.proofs.Lists.{get_at}
 use Rattle.vx_site_lines.proofs.ReadLine.{may_read}
 use Rattle.vx_yard.proofs.Seats.{named_some, volume_there}
@@ -19,8 +18,8 @@ use Rattle.vx_site_lines.proofs.read.fetch.Goals as goal
 pub site_of-site-requires-clause-named : goal.site_of-site-requires-clause-named
 site_of-site-requires-clause-named g c = λ κs within. named_some c.args.yard.now c.args.name.now (may_read c.args.yard.now c.args.name.now c.args.volume.now c.args.start c.args.count c.requires.free).site
 
-pub data_of-place-requires-clause-named : goal.data_of-place-requires-clause-named
-data_of-place-requires-clause-named g c = λ κs within f at.
+pub volume_of-place-requires-clause-named : goal.volume_of-place-requires-clause-named
+volume_of-place-requires-clause-named g c = λ κs within f at.
     volume_there c.args.yard.now c.args.name.now c.args.volume.now c.args.start c.args.count c.site_of-site.result f (may_read c.args.yard.now c.args.name.now c.args.volume.now c.args.start c.args.count c.requires.free) c.site_of-site.ensures.seat at
 
 pub unreachable-requires : goal.unreachable-requires
@@ -45,10 +44,9 @@ returns-in-Ok-clause-leads g c = λ d line stands apart is free origin.
     let seat : seat_of y.facts.items c.args.name.now ≡ Some c.site_of-site.result = c.site_of-site.ensures.seat in
     let disk_set = get_at y.disk_sets.items c.site_of-site.result c.index_mut.result.now c.site_of-site.ensures.disk_set c.index_mut.ensures.value in
     let may = may_read y c.args.name.now c.args.volume.now c.args.start c.args.count c.requires.free in
-    let read = fetching d y c.args.name.now c.args.volume.now c.args.start c.args.count c.site_of-site.result c.data_of-place.result c.index_mut.result.now stands apart may seat disk_set
-    (raw_data d y c.args.name.now c.args.volume.now c.site_of-site.result c.data_of-place.result c.index_mut.result.now stands apart seat disk_set c.data_of-place.ensures.place) in
+    let read = fetching d y c.args.name.now c.args.volume.now c.args.start c.args.count c.site_of-site.result c.volume_of-place.result c.index_mut.result.now stands apart may seat disk_set c.volume_of-place.ensures.place in
     let there = stands.disk_sets.sites c.site_of-site.result c.index_mut.result.now read.seat.below disk_set in
-    fetched_leads d y _ c.args.name.now c.args.volume.now c.args.start c.args.count c.site_of-site.result c.data_of-place.result c.index_mut.result.now c.blocks_of.new.disk_set stands read
+    fetched_leads d y _ c.args.name.now c.args.volume.now c.args.start c.args.count c.site_of-site.result c.volume_of-place.result c.index_mut.result.now c.blocks_of.new.disk_set stands read
     (record { there = disk_set; later = c.in-Ok.ensures.later; disk_sets = refl; racks = refl }) (c.in-Ok.ensures.still (raw_named d c.args.name.now c.site_of-site.result c.index_mut.result.now read.seat.number apart there))
     c.in-Ok.ensures.role refl (record { flight = refl; assemblies = refl; feeders = refl })
     line c.in-Ok.blocks is free seat (origin c.site_of-site.result seat)
@@ -60,10 +58,9 @@ returns-in-Err-clause-leads g c = λ d line stands apart is free origin.
     let seat : seat_of y.facts.items c.args.name.now ≡ Some c.site_of-site.result = c.site_of-site.ensures.seat in
     let disk_set = get_at y.disk_sets.items c.site_of-site.result c.index_mut.result.now c.site_of-site.ensures.disk_set c.index_mut.ensures.value in
     let may = may_read y c.args.name.now c.args.volume.now c.args.start c.args.count c.requires.free in
-    let read = fetching d y c.args.name.now c.args.volume.now c.args.start c.args.count c.site_of-site.result c.data_of-place.result c.index_mut.result.now stands apart may seat disk_set
-    (raw_data d y c.args.name.now c.args.volume.now c.site_of-site.result c.data_of-place.result c.index_mut.result.now stands apart seat disk_set c.data_of-place.ensures.place) in
+    let read = fetching d y c.args.name.now c.args.volume.now c.args.start c.args.count c.site_of-site.result c.volume_of-place.result c.index_mut.result.now stands apart may seat disk_set c.volume_of-place.ensures.place in
     let there = stands.disk_sets.sites c.site_of-site.result c.index_mut.result.now read.seat.below disk_set in
-    fetch_stops d line y _ c.args.name.now c.args.volume.now c.args.start c.args.count c.site_of-site.result c.data_of-place.result c.in-Err.no c.index_mut.result.now c.blocks_of.new.disk_set is stands read
+    fetch_stops d line y _ c.args.name.now c.args.volume.now c.args.start c.args.count c.site_of-site.result c.volume_of-place.result c.in-Err.no c.index_mut.result.now c.blocks_of.new.disk_set is stands read
     (record { there = disk_set; later = c.in-Err.ensures.later; disk_sets = refl; racks = refl }) (c.in-Err.ensures.still (raw_named d c.args.name.now c.site_of-site.result c.index_mut.result.now read.seat.number apart there))
     c.in-Err.ensures.role
     (c.in-Err.ensures.read (beside_of d c.site_of-site.result) (d.world.nodes c.site_of-site.result) there read.can) refl

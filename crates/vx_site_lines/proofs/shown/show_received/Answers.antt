@@ -5,7 +5,6 @@ use Rattle.vx_diskset.specs.Holds.{beside_of}
 use Rattle.vx_events.proofs.Places.{some_same}
 use Rattle.vx_model.specs.Sites.{is_origin}
 use Rattle.vx_yard.proofs.ChangeSite.{told_before}
-use Rattle.vx_yard.proofs.DataPlaces.{raw_data}
 use Rattle.vx_site_lines.proofs.FetchLine.{fetching}
 use Rattle.vx_yard.proofs.Lists.{get_at}
 use Rattle.vx_yard.proofs.NamedSite.{asks_at, place_at}
@@ -19,8 +18,8 @@ use Rattle.vx_site_lines.proofs.shown.show_received.Goals as goal
 pub site_of-site-requires-clause-named : goal.site_of-site-requires-clause-named
 site_of-site-requires-clause-named g c = λ κs within. named_some c.args.yard.now c.args.name.now (may_read c.args.yard.now c.args.name.now c.args.volume.now c.args.start c.args.count (inr c.requires.free)).site
 
-pub data_of-place-requires-clause-named : goal.data_of-place-requires-clause-named
-data_of-place-requires-clause-named g c = λ κs within f at.
+pub volume_of-place-requires-clause-named : goal.volume_of-place-requires-clause-named
+volume_of-place-requires-clause-named g c = λ κs within f at.
     volume_there c.args.yard.now c.args.name.now c.args.volume.now c.args.start c.args.count c.site_of-site.result f (may_read c.args.yard.now c.args.name.now c.args.volume.now c.args.start c.args.count (inr c.requires.free)) c.site_of-site.ensures.seat at
 
 pub unreachable-requires : goal.unreachable-requires
@@ -43,11 +42,10 @@ returns-in-Ok-clause-leads g c = λ d s stands apart seat receives.
     let after = c.shown_of.new.disk_set in
     let disk_set = get_at y.disk_sets.items t before c.site_of-site.ensures.disk_set c.index_mut.ensures.value in
     let may = may_read y c.args.name.now c.args.volume.now c.args.start c.args.count (inr c.requires.free) in
-    let read = fetching d y c.args.name.now c.args.volume.now c.args.start c.args.count t c.data_of-place.result before stands apart may c.site_of-site.ensures.seat disk_set
-    (raw_data d y c.args.name.now c.args.volume.now t c.data_of-place.result before stands apart c.site_of-site.ensures.seat disk_set c.data_of-place.ensures.place) in
+    let read = fetching d y c.args.name.now c.args.volume.now c.args.start c.args.count t c.volume_of-place.result before stands apart may c.site_of-site.ensures.seat disk_set c.volume_of-place.ensures.place in
     let there = stands.disk_sets.sites t before read.seat.below disk_set in
     let other = subst (λ i. is_origin (d.world.nodes i).role ≡ false) (some_same (sym seat ∙ c.site_of-site.ensures.seat)) receives in
-    shown_leads d y _ c.args.name.now c.args.volume.now c.args.start c.args.count t c.data_of-place.result before after stands read (record { there = disk_set; later = c.in-Ok.ensures.later; disk_sets = refl; racks = refl }) (c.in-Ok.ensures.still (raw_named d c.args.name.now t before read.seat.number apart there)) c.in-Ok.ensures.role refl
+    shown_leads d y _ c.args.name.now c.args.volume.now c.args.start c.args.count t c.volume_of-place.result before after stands read (record { there = disk_set; later = c.in-Ok.ensures.later; disk_sets = refl; racks = refl }) (c.in-Ok.ensures.still (raw_named d c.args.name.now t before read.seat.number apart there)) c.in-Ok.ensures.role refl
     (record { flight = refl; assemblies = refl; feeders = refl }) c.in-Ok.blocks (not_primary (d.world.nodes t).role other) (c.in-Ok.ensures.shows (beside_of d t) (d.world.nodes t) there read.can)
 
 pub returns-in-Err-clause-told : goal.returns-in-Err-clause-told
@@ -62,10 +60,9 @@ returns-in-Err-clause-leads g c = λ d s stands apart seat receives.
     let after = c.shown_of.new.disk_set in
     let disk_set = get_at y.disk_sets.items t before c.site_of-site.ensures.disk_set c.index_mut.ensures.value in
     let may = may_read y c.args.name.now c.args.volume.now c.args.start c.args.count (inr c.requires.free) in
-    let read = fetching d y c.args.name.now c.args.volume.now c.args.start c.args.count t c.data_of-place.result before stands apart may c.site_of-site.ensures.seat disk_set
-    (raw_data d y c.args.name.now c.args.volume.now t c.data_of-place.result before stands apart c.site_of-site.ensures.seat disk_set c.data_of-place.ensures.place) in
+    let read = fetching d y c.args.name.now c.args.volume.now c.args.start c.args.count t c.volume_of-place.result before stands apart may c.site_of-site.ensures.seat disk_set c.volume_of-place.ensures.place in
     let there = stands.disk_sets.sites t before read.seat.below disk_set in
-    shown_stops d y _ c.args.name.now c.args.volume.now c.args.start c.args.count t c.data_of-place.result before after stands read (record { there = disk_set; later = c.in-Err.ensures.later; disk_sets = refl; racks = refl }) (c.in-Err.ensures.still (raw_named d c.args.name.now t before read.seat.number apart there)) c.in-Err.ensures.role refl
+    shown_stops d y _ c.args.name.now c.args.volume.now c.args.start c.args.count t c.volume_of-place.result before after stands read (record { there = disk_set; later = c.in-Err.ensures.later; disk_sets = refl; racks = refl }) (c.in-Err.ensures.still (raw_named d c.args.name.now t before read.seat.number apart there)) c.in-Err.ensures.role refl
     (record { flight = refl; assemblies = refl; feeders = refl }) c.in-Err.no (c.in-Err.ensures.shows (beside_of d t) (d.world.nodes t) there read.can)
 
 pub returns-in-Ok-clause-asked : goal.returns-in-Ok-clause-asked

@@ -8,7 +8,6 @@ use Rattle.vx_events.specs.Facts.{seat_of}
 use Rattle.vx_events.specs.declared.said.Said.{Said}
 use Rattle.vx_linked.specs.Holds.{awaits_one}
 use Rattle.vx_yard.proofs.ChangeSite.{told_before}
-use Rattle.vx_yard.proofs.DataPlaces.{raw_data}
 use Rattle.vx_yard.proofs.Lists.{get_at}
 use Rattle.vx_yard.proofs.NamedSite.{asks_at, place_at}
 use Rattle.vx_yard.proofs.RawSites.{raw_named}
@@ -21,8 +20,8 @@ pub site_of-site-requires-clause-named : goal.site_of-site-requires-clause-named
 site_of-site-requires-clause-named g c = λ κs within.
     let free = c.requires.free in named_some c.args.yard.now c.args.name.now (may_write c.args.yard.now free.0 c.args.name.now c.args.volume.now c.args.start c.args.bytes.now free.1 free.2).call.site
 
-pub data_of-place-requires-clause-named : goal.data_of-place-requires-clause-named
-data_of-place-requires-clause-named g c = λ κs within f at.
+pub volume_of-place-requires-clause-named : goal.volume_of-place-requires-clause-named
+volume_of-place-requires-clause-named g c = λ κs within f at.
     let free = c.requires.free in
     volume_there c.args.yard.now c.args.name.now c.args.volume.now c.args.start (blocks_in c.args.bytes.now) c.site_of-site.result f
     (may_write c.args.yard.now free.0 c.args.name.now c.args.volume.now c.args.start c.args.bytes.now free.1 free.2).call c.site_of-site.ensures.seat at
@@ -35,13 +34,13 @@ returns-in-Ok-clause-leads g c = λ d line stands apart is free.
     let at = get_at y.disk_sets.items s c.index_mut.result.now c.site_of-site.ensures.disk_set c.index_mut.ensures.value in
     let f = get_at y.facts.items s c.index-2.result.now c.site_of-site.ensures.fact c.index-2.ensures in
     let now = get_at y.facts.items s c.index_mut-in-Ok.result.now c.site_of-site.ensures.fact c.index_mut-in-Ok.ensures.value in
-    let to = writing d y line c.args.name.now c.args.volume.now c.args.start c.args.bytes.now s c.data_of-place.result c.index_mut.result.now stands apart is free seat at (raw_data d y c.args.name.now c.args.volume.now s c.data_of-place.result c.index_mut.result.now stands apart seat at c.data_of-place.ensures.place) in
+    let to = writing d y line c.args.name.now c.args.volume.now c.args.start c.args.bytes.now s c.volume_of-place.result c.index_mut.result.now stands apart is free seat at c.volume_of-place.ensures.place in
     let there = stands.disk_sets.sites s c.index_mut.result.now to.seat.below at in
     let racks = (g.met.R.Rack g.world.𝓛 g.world.𝓜 g.world.𝓡 ((λ s x. x), (λ x. x), (λ x. x), λ x. x)).rack in
-    write_leads racks d y _ line c.args.name.now c.args.volume.now c.args.start c.args.bytes.now s c.data_of-place.result c.index_mut.result.now c.write_keeping.new.self stands is to (record { there = at; later = c.in-Ok.ensures.later; disk_sets = refl; racks = refl }) c.in-Ok.ensures.role
+    write_leads racks d y _ line c.args.name.now c.args.volume.now c.args.start c.args.bytes.now s c.volume_of-place.result c.index_mut.result.now c.write_keeping.new.self stands is to (record { there = at; later = c.in-Ok.ensures.later; disk_sets = refl; racks = refl }) c.in-Ok.ensures.role
     c.in-Ok.number c.note_written.result c.index_mut-in-Ok.result.now c.note_written.new.facts
     (c.in-Ok.ensures.wrote (beside_of d s) (d.world.nodes s) there to.can
-    (room_as d y c.args.name.now c.args.volume.now c.args.start c.args.bytes.now s c.data_of-place.result c.index_mut.result.now c.index-2.result.now c.hold_of_site-hold.result stands to at f c.hold_of_site-hold.ensures.hold))
+    (room_as d y c.args.name.now c.args.volume.now c.args.start c.args.bytes.now s c.volume_of-place.result c.index_mut.result.now c.index-2.result.now c.hold_of_site-hold.result stands to at f c.hold_of_site-hold.ensures.hold))
     (c.in-Ok.ensures.called (beside_of d s) (d.world.nodes s) there (raw_named d c.args.name.now s c.index_mut.result.now to.seat.number apart there)) c.note_written.ensures.said now c.note_written.ensures.noted refl (record { flight = refl; assemblies = refl; feeders = refl })
 
 pub returns-in-Err-clause-leads : goal.returns-in-Err-clause-leads
@@ -53,14 +52,14 @@ returns-in-Err-clause-leads g c = λ d line stands apart is free.
     let first = get_at y.disk_sets.items s c.index.result.now c.site_of-site.ensures.disk_set c.index.ensures in
     let f = get_at y.facts.items s c.index-2.result.now c.site_of-site.ensures.fact c.index-2.ensures in
     let now = get_at y.facts.items s c.index_mut-in-Err.result.now c.site_of-site.ensures.fact c.index_mut-in-Err.ensures.value in
-    let to = writing d y line c.args.name.now c.args.volume.now c.args.start c.args.bytes.now s c.data_of-place.result c.index_mut.result.now stands apart is free seat at (raw_data d y c.args.name.now c.args.volume.now s c.data_of-place.result c.index_mut.result.now stands apart seat at c.data_of-place.ensures.place) in
+    let to = writing d y line c.args.name.now c.args.volume.now c.args.start c.args.bytes.now s c.volume_of-place.result c.index_mut.result.now stands apart is free seat at c.volume_of-place.ensures.place in
     let there = stands.disk_sets.sites s c.index_mut.result.now to.seat.below at in
     let racks = (g.met.R.Rack g.world.𝓛 g.world.𝓜 g.world.𝓡 ((λ s x. x), (λ x. x), (λ x. x), λ x. x)).rack in
-    write_stops racks d y _ line c.args.name.now c.args.volume.now c.args.start c.args.bytes.now s c.data_of-place.result c.index_mut.result.now c.write_keeping.new.self stands is to (record { there = at; later = c.in-Err.ensures.later; disk_sets = refl; racks = refl }) c.in-Err.ensures.role
+    write_stops racks d y _ line c.args.name.now c.args.volume.now c.args.start c.args.bytes.now s c.volume_of-place.result c.index_mut.result.now c.write_keeping.new.self stands is to (record { there = at; later = c.in-Err.ensures.later; disk_sets = refl; racks = refl }) c.in-Err.ensures.role
     c.in-Err.no c.note_unwritten.result c.saturating_add-next.result c.index_mut-in-Err.result.now c.note_unwritten.new.facts
     (c.in-Err.ensures.blames (beside_of d s) (d.world.nodes s) there)
     (c.in-Err.ensures.wrote (beside_of d s) (d.world.nodes s) there to.can
-    (room_as d y c.args.name.now c.args.volume.now c.args.start c.args.bytes.now s c.data_of-place.result c.index_mut.result.now c.index-2.result.now c.hold_of_site-hold.result stands to at f c.hold_of_site-hold.ensures.hold))
+    (room_as d y c.args.name.now c.args.volume.now c.args.start c.args.bytes.now s c.volume_of-place.result c.index_mut.result.now c.index-2.result.now c.hold_of_site-hold.result stands to at f c.hold_of_site-hold.ensures.hold))
     (c.in-Err.ensures.called (beside_of d s) (d.world.nodes s) there (raw_named d c.args.name.now s c.index_mut.result.now to.seat.number apart there)) c.note_unwritten.ensures.said
     (λ free. next_after c.last.result c.saturating_add-next.result (d.world.nodes s).safe (c.last.ensures.is (beside_of d s) (d.world.nodes s) (stands.disk_sets.sites s c.index.result.now to.seat.below first) to.can.up to.can.running) free c.saturating_add-next.ensures)
     now c.note_unwritten.ensures.noted refl (record { flight = refl; assemblies = c.let_go_if_down.ensures; feeders = refl })

@@ -6,6 +6,7 @@ use Rattle.vx_history.specs.World.{Node}
 use Rattle.vx_diskset.specs.Asked.{CrashesBy, MayCrash}
 use Rattle.vx_diskset.specs.DiskSets.{CrashedAt, CrashedTo, Later}
 use Rattle.vx_diskset.specs.Holds.{KeptBeside}
+use Rattle.vx_diskset.specs.Noted.{OversFall}
 use Rattle.vx_diskset.specs.Stands.{SiteStands}
 use Rattle.vx_yard.proofs.InPlaces.{in_place}
 use Rattle.vx_yard.proofs.falling.crash_in.Goals as goal
@@ -29,6 +30,11 @@ pub returns-clause-stopped : goal.returns-clause-stopped
 returns-clause-stopped g c =
     in_place (λ o e. MayCrash c.args.pick o e)
     c.args.place.now c.replace-disk_set.result c.crash.result c.put_back.new.place c.replace-disk_set.ensures.value c.put_back.ensures c.crash.ensures.stopped
+
+pub returns-clause-fallen : goal.returns-clause-fallen
+returns-clause-fallen g c =
+    in_place (λ o e. OversFall o e)
+    c.args.place.now c.replace-disk_set.result c.crash.result c.put_back.new.place c.replace-disk_set.ensures.value c.put_back.ensures c.crash.ensures.fallen
 
 pub returns-clause-later : goal.returns-clause-later
 returns-clause-later g c =
