@@ -42,6 +42,7 @@ use Rattle.vx_grouped.specs.declared.group_site.GroupSite.TheVariants.{Up as Gro
 use Rattle.vx_site_lines.proofs.Apart.{fact_stays, over_is}
 use Rattle.vx_diskset.proofs.Laying.{raw_in}
 use Rattle.vx_yard.proofs.FirstSites.{begins_like}
+use Rattle.vx_yard.proofs.OverGroup.{noted_none}
 use Rattle.vx_yard.proofs.RawSites.{ungrouped_at, ungrouped_site}
 
 module _ {R : Type 0} {g : Ghosts R} where
@@ -73,10 +74,10 @@ module _ {R : Type 0} {g : Ghosts R} where
       let units = units_at (beside_of d s) (d.world.nodes s) before (ungrouped_site d.world name s here.number (ungrouped_at d.world name apart rvg)) (stands.disk_sets.sites s before here.below there) in
       subst (λ (b : Bool). SetsDisk disk b before after) is (did (omega (arith, may.1, units, ap (λ (f : SiteFacts). f.disks) fact)))
 
-  pub disk_leads : (d : Doubted) (old new : Yard R g) (name : List ℕ) (disk : ℕ) (state : DiskState) (s : ℕ) (before after : DiskSet R g) → StandsFor d old → over_group_at d.world name ≡ false → seat_of old.facts.items name ≡ Some s
+  pub disk_leads : (d : Doubted) (old new : Yard R g) (name : List ℕ) (disk : ℕ) (state : DiskState) (s : ℕ) (before after : DiskSet R g) → StandsFor d old → over_group_at d.world name ≡ false → over_rvg_at d.world name ≡ false → seat_of old.facts.items name ≡ Some s
       → Changed old new s before after → KeepsRole before after → ((beside : KeptBeside) (n : Node) → SiteStands beside n before → SiteStands beside n after) → SetsDisk disk (is_failing state) before after
       → new.facts ≡ old.facts → SameLoad old new → Leads d (Disk name disk state) Done old new
-  disk_leads d old new name disk state s before after stands apart is changed role keeps sets facts load =
+  disk_leads d old new name disk state s before after stands apart rvg is changed role keeps sets facts load =
       let seat = named_at d old name s stands apart is in
       let over = apart_at d old name s stands apart is in
       let on : Bool = is_failing state in
@@ -99,6 +100,7 @@ module _ {R : Type 0} {g : Ghosts R} where
             (record { told = λ x at u fails. set_on disk on (disks_told before) (disks_told after) m.failing (stands.failing s before seat.below changed.there).told sets x at u fails })
             (fused_set m n before after disk on refl sets (stands.fuses s before seat.below changed.there)) (role_kept d old s before after stands seat.below changed.there role))
             (λ first. subst (λ (x : Node). BeginsFirst s x) (sym (at_place d.world.nodes s n)) (begins_like s m n (λ bare. bare) refl refl refl refl first))
+            (λ _. noted_none (beside_of d s) m ((with_one d s n).world.nodes s) after (keeps (beside_of d s) m there) (ungrouped_site d.world name s seat.number (ungrouped_at d.world name apart rvg)))
             (fact_stays d.world (with_one d s n).world s over (over_is n ((with_one d s n).world.nodes s) (at_place d.world.nodes s n) over)
             (fact_same n ((with_one d s n).world.nodes s) (d.world.links s) (d.world.links s) d.world.sites d.world.sites (at_place d.world.nodes s n) (λ k. refl) refl
             ∙ fact_like m n (d.world.links s) d.world.sites (failing_fact m failing) (λ k l. refl)))

@@ -63,6 +63,8 @@ use Rattle.vx_yard.proofs.NamedSite.{SiteAt, apart_at, fact_named, site_at}
 use Rattle.vx_yard.proofs.NoteSite.{comes_same, one_left, only_left}
 use Rattle.vx_yard.proofs.OneSite.{Changed, Comes, beside_same, role_kept, rose_at, stands_still, told_by}
 use Rattle.vx_site_lines.proofs.Apart.{never_up}
+use Rattle.vx_diskset.specs.Noted.{NotedAt}
+use Rattle.vx_yard.proofs.OverGroup.{noted_none}
 use Rattle.vx_yard.proofs.RawSites.{raw_site, raw_told, ungrouped_over, ungrouped_site}
 use Rattle.vx_yard.proofs.SiteEvents.{first_choice}
 use Rattle.vx_diskset.proofs.Laying.{laid_in}
@@ -185,7 +187,7 @@ module _ {R : Type 0} {g : Ghosts R} where
   -- ---- the disk set gave the blocks, or one of its disks failed
 
   module _ (d : Doubted) (old new : Yard R g) (s : ℕ) (before after : DiskSet R g) (stands : StandsFor d old) (below : s < d.world.sites) (changed : Changed old new s before after) (alone : LeavesAlone before after) (keeps : KeepsRole before after)
-      (here : SiteStands (beside_of d s) (d.world.nodes s) after) (facts : new.facts ≡ old.facts) where
+      (here : SiteStands (beside_of d s) (d.world.nodes s) after) (none : (d.world.nodes s).group ≡ None) (facts : new.facts ≡ old.facts) where
     -- the disk set of the site, of which nothing changed
     comes : Comes d d s after
     comes =
@@ -205,12 +207,15 @@ module _ {R : Type 0} {g : Ghosts R} where
       doubt = comes.doubt;
     }
 
+    still_noted : NotedAt (d.world.nodes s) before → NotedAt (d.world.nodes s) after
+    still_noted was = noted_none (beside_of d s) (d.world.nodes s) (d.world.nodes s) after here none
+
     pub stays_for : StandsFor d new
-    stays_for = stands_still d d old new s before after stands below changed comes (λ first. first) refl (ap (λ fs. fs.items) facts)
+    stays_for = stands_still d d old new s before after stands below changed comes (λ first. first) still_noted refl (ap (λ fs. fs.items) facts)
 
     pub read_for : (k volume start count : ℕ) → StandsFor (behind_read d k volume start count) new
     read_for k volume start count =
-        read_world d k volume start count (λ (e : Doubted). StandsFor e new) (stands_still d (recounted d d.world) old new s before after stands below changed comes_recounted (λ first. first) refl (ap (λ fs. fs.items) facts))
+        read_world d k volume start count (λ (e : Doubted). StandsFor e new) (stands_still d (recounted d d.world) old new s before after stands below changed comes_recounted (λ first. first) still_noted refl (ap (λ fs. fs.items) facts))
 
   -- at a primary
   pub fetch_leads : (d : Doubted) (line : ScriptLine) (old new : Yard R g) (name volume : List ℕ) (start count s place : ℕ) (bytes : List ℕ) (before after : DiskSet R g) → IsReadLine line name volume start count → StandsFor d old
@@ -237,7 +242,7 @@ module _ {R : Type 0} {g : Ghosts R} where
             (λ told. shows (raw_told after (raw_site (beside_of d s) (d.world.nodes s) after read.none gave.stands) (told.each s after there))));
         carries = λ was. read_world d k v start count (λ (e : Doubted). Carries e new)
             (carries_on d (recounted d d.world) old new was load refl (λ i. refl) (λ i. feeds_same (d.world.nodes i) (d.world.nodes i) refl) (told_by old new s before after changed));
-        stands = read_for d old new s before after stands read.seat.below changed alone keeps gave.stands facts k v start count;
+        stands = read_for d old new s before after stands read.seat.below changed alone keeps gave.stands read.none facts k v start count;
         rose = rose_still old new s before after changed.there changed.later changed.disk_sets;
       }
 
@@ -253,7 +258,7 @@ module _ {R : Type 0} {g : Ghosts R} where
         done = done_by (IsTold new) d line name volume start count ((k, disk) ∷ []) (Refused (Device disk)) d is
             (λ l list still. only_left (IsTold new) d l k (ReadAt k (volume_number (d.world.nodes k) volume) start count) disk (list first_choice) refl tt (still d.world));
         carries = carries_same d old new load (told_by old new s before after changed);
-        stands = stays_for d old new s before after stands read.seat.below changed alone keeps gave.0 facts;
+        stands = stays_for d old new s before after stands read.seat.below changed alone keeps gave.0 read.none facts;
         rose = subst (λ (i : ℕ). RoseAll ((i, disk) ∷ []) (count_of old) (count_of new)) (sym read.seat.number) (rose_at old new s disk before after changed gave.1);
       }
   fetch_stops d line old new name volume start count s place other before after is stands read changed alone keeps gave facts load = absurd gave

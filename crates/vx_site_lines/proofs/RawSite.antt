@@ -67,7 +67,7 @@ use Rattle.vx_site_lines.proofs.RawLine.{raw_fact_of}
 use Rattle.vx_yard.proofs.Rows.{fact_from, fact_same}
 use Rattle.vx_yard.proofs.SiteEvents.{first_choice}
 use Rattle.vx_diskset.proofs.GroupFinding.{over_made}
-use Rattle.vx_yard.proofs.OverGroup.{begins_apart}
+use Rattle.vx_yard.proofs.OverGroup.{begins_apart, noted_none}
 
 no_more : (n : ℕ) → n + 0 ≡ n
 no_more n = omega arith
@@ -212,6 +212,7 @@ module _ {R : Type 0} {g : Ghosts R} where
             (subst (λ (m : Node). Feeds (d.world.nodes s) m) here (feeds_none (d.world.nodes s) (raw_set s n) (λ up receives. origin_receives receives))) (told_by old new s before after changed);
         stands = stands_at d e old new s (raw_facts s volumes site) before after stands found.seat.below changed comes
             (λ _. begins_apart s (beside_of e s) (e.world.nodes s) after comes.stands (over_is (raw_set s n) (e.world.nodes s) (sym here) (raw_apart s n parts.3)))
+            (λ _. noted_none (beside_of e s) (e.world.nodes s) (e.world.nodes s) after comes.stands (ap (λ (m : Node). m.group) (sym here) ∙ parts.3))
             (fact_at e.world s (raw_facts s volumes site) (over_is (raw_set s n) (e.world.nodes s) (sym here) (raw_apart s n parts.3))
             (raw_fact_of s n site volumes found.fact table parts.0 parts.1 ∙ sym (blank_fact d s (raw_set s n) blank)
             ∙ sym (fact_same (raw_set s n) (e.world.nodes s) (d.world.links s) (e.world.links s) d.world.sites e.world.sites (sym here) (λ j. refl) refl)))
@@ -239,7 +240,8 @@ module _ {R : Type 0} {g : Ghosts R} where
       stays here = stands_still d d old new s before after stands found.seat.below changed
           (comes_same d s after stands.links here (fails_then n n before after refl same (stands.failing s before found.seat.below changed.there))
           (fused_none n after (bare_at (beside_of d s) n before stood found.bare).2)
-          (role_off (beside_of d s) n n after here (λ up. let e : IsBare ≡ IsUp = sym found.bare ∙ up in cc))) (λ first. first) refl (ap (λ fs. fs.items) facts)
+          (role_off (beside_of d s) n n after here (λ up. let e : IsBare ≡ IsUp = sym found.bare ∙ up in cc))) (λ first. first)
+          (λ _. noted_none (beside_of d s) n n after here (bare_at (beside_of d s) n before stood found.bare).3) refl (ap (λ fs. fs.items) facts)
 
       by_stop : (stop : Stop) → MadeIs s n before after (Err stop) → LeadsIs d (Raw name) old new (reply_to stop)
       by_stop OutOfMemory here = record { stands = stays (here (beside_of d s)); carries = carries_same d old new load (told_by old new s before after changed); rose = rose_still old new s before after changed.there changed.later changed.disk_sets }

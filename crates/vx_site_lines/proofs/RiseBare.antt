@@ -64,6 +64,7 @@ use Rattle.vx_yard.proofs.Lists.{get-set_same, set_twice}
 use Rattle.vx_yard.proofs.NamedSite.{fact_of}
 use Rattle.vx_yard.proofs.NoteSite.{comes_same, one_left}
 use Rattle.vx_yard.proofs.OneSite.{Changed, Comes, beside_same, role_off, rose_at, stands_still, told_by}
+use Rattle.vx_yard.proofs.OverGroup.{noted_none}
 use Rattle.vx_site_lines.proofs.RawSite.{bare_at, bare_sure}
 use Rattle.vx_site_lines.proofs.RiseLeads.{Replaced, never_told}
 use Rattle.vx_yard.proofs.RawSites.{bare_set, raw_site}
@@ -98,6 +99,9 @@ module _ {R : Type 0} {g : Ghosts R} where
     unfused : n.fuse ≡ NoFuse
     unfused = (bare_at (beside_of d s) n before stood bare).2
 
+    none_noted : n.group ≡ None
+    none_noted = (bare_at (beside_of d s) n before stood bare).3
+
     -- ---- it stays bare
 
     module _ (new : Yard R g) (replaced : Replaced old new s after) (at : SiteStands (beside_of d s) n after) where
@@ -126,7 +130,7 @@ module _ {R : Type 0} {g : Ghosts R} where
         next = d;
         fails = fails;
         done = recover_done (IsTold new) d d s name fails said number ends;
-        stands = stands_still d d old new s before after stands below changed still (λ first. first) refl facts_still;
+        stands = stands_still d d old new s before after stands below changed still (λ first. first) (λ _. noted_none (beside_of d s) n n after at none_noted) refl facts_still;
         carries = carries_same d old new load told_was;
         rose = rose;
       }
@@ -139,7 +143,7 @@ module _ {R : Type 0} {g : Ghosts R} where
         done = recover_done (IsTold new) d (recounted d d.world) s name [] (Refused NoConfig) number
             (one_left (IsTold new) d (Recover name) s first_choice (RecoverAt s None) (refused d.world NoConfig) (Refused NoConfig) (recounted d d.world).world (bare_events d s name number bare) refl
             (bare_step d.world s None below bare) refl refl);
-        stands = stands_still d (recounted d d.world) old new s before after stands below changed (comes_counted d s after still) (λ first. first) refl facts_still;
+        stands = stands_still d (recounted d d.world) old new s before after stands below changed (comes_counted d s after still) (λ first. first) (λ _. noted_none (beside_of d s) n n after at none_noted) refl facts_still;
         carries = λ carries. carries_on d (recounted d d.world) old new carries load refl (λ i. refl) (λ i. feeds_same (d.world.nodes i) (d.world.nodes i) refl) told_was;
         rose = rose_here;
       }
@@ -205,7 +209,7 @@ module _ {R : Type 0} {g : Ghosts R} where
       beside_now = record { links = row_links row d.world.sites; headers = d.world.headers s; doubt = None }
 
       none : k.group ≡ None
-      none = found.same.group ∙ (bare_at (beside_of d s) n before stood bare).3
+      none = found.same.group ∙ none_noted
 
       apart : is_over_group k ≡ false
       apart = none_apart k none
@@ -245,7 +249,7 @@ module _ {R : Type 0} {g : Ghosts R} where
         plain = plain_of s next row fits_now effect_now.is.links;
         again = found_again s d.world.sites state.links fine;
         whole = whole_now;
-        apart = apart;
+        none = none;
         rests = refl;
         stands = stands_now;
         failing = fails_then n k before after found.same.failing same (stands.failing s before below there);

@@ -66,7 +66,7 @@ use Rattle.vx_site_lines.proofs.RiseSite.{ComesUp, SeesDisks, up_carries, up_sta
 use Rattle.vx_site_lines.proofs.RiseWorlds.{behind_disks, own_gathering, own_headers, own_is, own_links, own_node, own_packets, own_session, own_sites, own_view}
 use Rattle.vx_yard.proofs.Rows.{fact_like, fact_same}
 use Rattle.vx_diskset.proofs.GroupStands.{none_apart}
-use Rattle.vx_yard.proofs.OverGroup.{begins_apart}
+use Rattle.vx_yard.proofs.OverGroup.{begins_apart, noted_none}
 
 module _ {R : Type 0} {g : Ghosts R} where
   -- the disk set of a site is another, and the rest of the yard is as it was
@@ -167,7 +167,7 @@ module _ {R : Type 0} {g : Ghosts R} where
         stands_next = up_stands mid next old new s ring came.node row f state used before after stands below_mid changed up (sees came.node came.same) is needs facts_are
 
         view : rises.view ≡ linked_view last.world s
-        view = rises.shows next stands_next (omega (arith, below_mid, up.effect.site.sites)) (over_is came.node (next.world.nodes s) up.effect.is.node up.apart) ∙ own_view taken s d.world last
+        view = rises.shows next stands_next (omega (arith, below_mid, up.effect.site.sites)) (over_is came.node (next.world.nodes s) up.effect.is.node (none_apart came.node up.none)) ∙ own_view taken s d.world last
 
         told_leads : LeadsFrom mid d (Recover name) said old new
         told_leads = record {
@@ -226,7 +226,7 @@ module _ {R : Type 0} {g : Ghosts R} where
         found_stands = up_stands mid found_next old new s ring found_node found_row f state used before after stands below_mid changed found_up found_sees found_is found_needs facts_are
 
         found_view : rises.view ≡ linked_view found_last.world s
-        found_view = rises.shows found_next found_stands (omega (arith, below_mid, found_up.effect.site.sites)) (over_is found_node (found_next.world.nodes s) found_up.effect.is.node found_up.apart) ∙ own_view taken s d.world found_last
+        found_view = rises.shows found_next found_stands (omega (arith, below_mid, found_up.effect.site.sites)) (over_is found_node (found_next.world.nodes s) found_up.effect.is.node (none_apart found_node found_up.none)) ∙ own_view taken s d.world found_last
 
         untold_leads : LeadsFrom mid d (Recover name) said old new
         untold_leads = record {
@@ -273,7 +273,7 @@ module _ {R : Type 0} {g : Ghosts R} where
       stays at =
           stands_still mid mid old new s before after stands below_mid changed_down
           (comes_same mid s after stands.links at (fails_then m m before after refl same (stands.failing s before below_mid there)) (fuse_none m refl)
-          (role_off (beside_of mid s) m m after at off)) (λ first. first) refl facts_still
+          (role_off (beside_of mid s) m m after at off)) (λ first. first) (λ _. noted_none (beside_of mid s) m m after at apart) refl facts_still
 
       -- so the line ended, with no change or with failed calls alone
       down_leads : (fails : Fails) (said : Said) → Ends (IsTold new) d (Recover name) s fails said mid → SiteStands (beside_of mid s) m after → RoseAll fails (count_of old) (count_of new)
@@ -354,7 +354,8 @@ module _ {R : Type 0} {g : Ghosts R} where
           fails = (s, disk) ∷ [];
           done = recover_done (IsTold new) d begun_next s name ((s, disk) ∷ []) (Refused (Device disk)) number (begun_ends (IsTold new) d h s c taken name number from disk);
           stands = stands_still mid begun_next old new s before after stands below_mid changed_down begun_comes
-              (λ _. begins_apart s (beside_of begun_next s) (begun_next.world.nodes s) after begun_comes.stands (over_is begun (begun_next.world.nodes s) eff.is.node (none_apart begun apart))) (fact_stays mid.world begun_next.world s (none_apart (mid.world.nodes s) apart) (over_is begun (begun_next.world.nodes s) eff.is.node (none_apart begun apart)) begun_fact) facts_still;
+              (λ _. begins_apart s (beside_of begun_next s) (begun_next.world.nodes s) after begun_comes.stands (over_is begun (begun_next.world.nodes s) eff.is.node (none_apart begun apart)))
+              (λ _. noted_none (beside_of begun_next s) (begun_next.world.nodes s) (begun_next.world.nodes s) after begun_comes.stands (ap (λ (n : Node). n.group) eff.is.node ∙ apart)) (fact_stays mid.world begun_next.world s (none_apart (mid.world.nodes s) apart) (over_is begun (begun_next.world.nodes s) eff.is.node (none_apart begun apart)) begun_fact) facts_still;
           carries = carries_node s mid begun_next begun old new load eff.site eff.sent eff.gathering eff.is.node refl refl refl told_was;
           rose = rose_at old new s disk before after changed_down rose;
         }

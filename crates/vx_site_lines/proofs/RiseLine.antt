@@ -292,7 +292,7 @@ module _ {R : Type 0} {g : Ghosts R} where
         plain = plain_of s (own_disks taken s d.world last) row told_fits told_effect.is.links;
         again = restarted_again s h.world.sites (h.world.links s) (fit_h.rows s) (come_back (h.world.nodes s));
         whole = whole_of (beside_of mid s) k came.same came.whole came.stands;
-        apart = apart_of k came.same;
+        none = none_of k came.same;
         rests = ap (λ (n : Node). n.fed_by) (came.is told) ∙ stands.links.rests s down ∙ ap (λ (n : Node). n.other) (sym (came.is told));
         stands = subst (λ (b : KeptBeside). SiteStands b k after) (beside_is row told_kept) came.stands;
         failing = fails_of k came.same;
@@ -390,7 +390,7 @@ module _ {R : Type 0} {g : Ghosts R} where
         plain = plain_of s (own_disks taken s d.world last_found) row_found untold_fits untold_effect.is.links;
         again = found_again s mid.world.sites state.links fine;
         whole = whole_of (beside_now row_found) k_found disks_same came.whole stands_now;
-        apart = apart_of k_found disks_same;
+        none = none_of k_found disks_same;
         rests = refl;
         stands = stands_now;
         failing = fails_of k_found disks_same;

@@ -46,7 +46,8 @@ use Rattle.vx_yard.proofs.Lists.{get-set_other, get-set_same, length-set}
 use Rattle.vx_yard.proofs.OneSite.{Changed, Comes, stands_at, told_by}
 use Rattle.vx_yard.proofs.Rows.{fact_from, fact_same, row_links_same}
 use Rattle.vx_site_lines.proofs.Apart.{fact_at, over_is}
-use Rattle.vx_yard.proofs.OverGroup.{begins_apart}
+use Rattle.vx_diskset.proofs.GroupStands.{none_apart}
+use Rattle.vx_yard.proofs.OverGroup.{begins_apart, noted_none}
 
 -- each of these links goes by the log, or by nothing yet
 abbrev pub AllPlain : (ℕ → Link) → Type 0
@@ -155,7 +156,7 @@ module _ {R : Type 0} {g : Ghosts R} where
     pub plain : AllPlain row
     pub again : IsAgain row
     pub whole : IsWhole k ring
-    pub apart : is_over_group k ≡ false
+    pub none : k.group ≡ None
     pub rests : k.fed_by ≡ k.other
     pub stands : SiteStands (record { links = row_links row mid.world.sites; headers = mid.world.headers s; doubt = None }) k after
     pub failing : FailsAs k after
@@ -185,8 +186,9 @@ module _ {R : Type 0} {g : Ghosts R} where
     pub up_stands : new.facts.items ≡ slice_set old.facts.items s (risen_facts state k.safe ring used f) → StandsFor e new
     up_stands facts =
         stands_at mid e old new s (risen_facts state k.safe ring used f) before after stands below changed comes
-        (λ _. begins_apart s (beside_of e s) (e.world.nodes s) after comes.stands (over_is k (e.world.nodes s) up.effect.is.node up.apart))
-        (fact_at e.world s (risen_facts state k.safe ring used f) (over_is k (e.world.nodes s) up.effect.is.node up.apart)
+        (λ _. begins_apart s (beside_of e s) (e.world.nodes s) after comes.stands (over_is k (e.world.nodes s) up.effect.is.node (none_apart k up.none)))
+        (λ _. noted_none (beside_of e s) (e.world.nodes s) (e.world.nodes s) after comes.stands (ap (λ (n : Node). n.group) up.effect.is.node ∙ up.none))
+        (fact_at e.world s (risen_facts state k.safe ring used f) (over_is k (e.world.nodes s) up.effect.is.node (none_apart k up.none))
         (ap (λ (x : State). risen_facts x k.safe ring used f) is ∙ risen_fact_is k row mid.world.sites ring used f up.whole sees up.plain up.again needs
         ∙ sym (fact_same k (e.world.nodes s) row (e.world.links s) mid.world.sites e.world.sites up.effect.is.node up.effect.is.links up.effect.site.sites))) facts
 

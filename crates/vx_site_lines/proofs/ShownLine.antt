@@ -114,7 +114,7 @@ module _ {R : Type 0} {g : Ghosts R} where
             works = tt;
             calls = tt;
           };
-          stands = stays_for d old new s before after stands read.seat.below changed alone keeps gave.stands facts;
+          stands = stays_for d old new s before after stands read.seat.below changed alone keeps gave.stands read.none facts;
           carries = carries_same d old new load (told_by old new s before after changed);
           rose = rose_still old new s before after changed.there changed.later changed.disk_sets;
         }

@@ -30,6 +30,7 @@ use Rattle.vx_script.specs.declared.line.ScriptLine.TheVariants.{Site}
 use Rattle.vx_diskset.specs.Asked.{FailsAs, FusedAs}
 use Rattle.vx_diskset.specs.DiskSets.{FitIs}
 use Rattle.vx_diskset.specs.Holds.{KeptBeside, KeptSite, beside_of, doubt_of, row_links}
+use Rattle.vx_diskset.specs.Noted.{NotedAt}
 use Rattle.vx_diskset.specs.Stands.{IsUnused, RoleIs, SiteStands}
 use Rattle.vx_diskset.specs.declared.disk_set.DiskSet.{DiskSet}
 use Rattle.vx_effects.proofs.Fitting.{fit_happened}
@@ -63,6 +64,7 @@ use Rattle.vx_yard.proofs.Kept.{many_sites}
 use Rattle.vx_yard.proofs.Lists.{get-set_other, length-set}
 use Rattle.vx_yard.proofs.NoteSite.{one_left, only_left}
 use Rattle.vx_yard.proofs.OneSite.{Changed, at_set, rose_at, told_by}
+use Rattle.vx_yard.proofs.OverGroup.{noted_none}
 use Rattle.vx_yard.proofs.Carrying.{SameLoad, carries_more, carries_same}
 use Rattle.vx_yard.proofs.Rows.{fact_same, row_links_same}
 use Rattle.vx_yard.proofs.SiteEvents.{first_choice}
@@ -218,8 +220,8 @@ site_outcome w files name disks blocks free =
 module _ {R : Type 0} {g : Ghosts R} where
   -- the yard with another disk set of a number that no site had
   stands_more : (d e : Doubted) (old new : Yard R g) (n : Node) (f : SiteFacts) (before after : DiskSet R g) → StandsFor d old → d.world.sites < 8 → AddsSite d e n → LinksFit e → Changed old new d.world.sites before after
-      → SiteStands (beside_of e d.world.sites) n after → FailsAs n after → FusedAs n after → is_origin n.role ≡ true → n.state ≡ IsBare → f ≡ fact_over e.world d.world.sites → new.facts.items ≡ old.facts.items ++ f ∷ [] → StandsFor e new
-  stands_more d e old new n f before after stands few adds links changed here failing fuse role bare fact facts = record {
+      → SiteStands (beside_of e d.world.sites) n after → FailsAs n after → FusedAs n after → is_origin n.role ≡ true → n.state ≡ IsBare → n.group ≡ None → f ≡ fact_over e.world d.world.sites → new.facts.items ≡ old.facts.items ++ f ∷ [] → StandsFor e new
+  stands_more d e old new n f before after stands few adds links changed here failing fuse role bare none fact facts = record {
     facts = facts ∙ ap (λ (fs : List SiteFacts). fs ++ f ∷ []) stands.facts ∙ ap (λ (x : SiteFacts). facts_over d.world ++ x ∷ []) fact ∙ sym (facts_more d e n adds stands.links);
     disk_sets = subst (λ es. SitesAgree e es) (sym changed.disk_sets) (record {
       eight = length-set old.disk_sets.items s after ∙ stands.disk_sets.eight;
@@ -240,6 +242,8 @@ module _ {R : Type 0} {g : Ghosts R} where
         (λ (same : i ≡ s). subst (λ (k : ℕ). BeginsFirst k (e.world.nodes k)) (sym same) (subst (λ (m : Node). BeginsFirst s m) (sym adds.node) (λ made none. absurd (made bare))))
         (λ apart. subst (λ (m : Node). BeginsFirst i m) (sym (adds.nodes i apart)) (stands.first i (less i apart inside)))
         (cases_eq i s);
+    noted = λ i x inside is. at_set (λ j y. NotedAt (e.world.nodes j) y) old.disk_sets.items s after within (noted_none (beside_of e s) n (e.world.nodes s) after here none) i x (there i x is)
+        (λ apart was. subst (λ (m : Node). NotedAt m x) (sym (adds.nodes i apart)) (stands.noted i x (less i apart inside) was));
     doubts = λ i a is. doubted i a is;
     failing = λ i x inside is. at_set (λ j y. FailsAs (e.world.nodes j) y) old.disk_sets.items s after within (subst (λ (m : Node). FailsAs m after) (sym adds.node) failing) i x (there i x is)
         (λ apart was. subst (λ (m : Node). FailsAs m x) (sym (adds.nodes i apart)) (stands.failing i x (less i apart inside) was));
@@ -293,7 +297,7 @@ module _ {R : Type 0} {g : Ghosts R} where
         };
         carries = carries_more d e n old new load adds (λ up. bare_up up) (told_by old new d.world.sites before after changed_there);
         stands = stands_more d e old new n (bare_facts name disks blocks) before after stands (omega (arith, may.few_sites, many)) adds (site_fits d name disks blocks at stands.links) changed_there
-            (fits (beside_of e d.world.sites) name) (record { told = λ x at u on. absurd (never_true on) }) (fused_none n after refl) refl refl
+            (fits (beside_of e d.world.sites) name) (record { told = λ x at u on. absurd (never_true on) }) (fused_none n after refl) refl refl refl
             (fact_at e.world d.world.sites (bare_facts name disks blocks) (over_is n (e.world.nodes d.world.sites) adds.node refl)
             (sym (fact_same n (e.world.nodes d.world.sites) (d.world.links d.world.sites) (e.world.links d.world.sites) e.world.sites e.world.sites adds.node (λ k. refl) refl))) facts;
         rose = rose_still old new d.world.sites before after changed_there.there changed_there.later changed_there.disk_sets;

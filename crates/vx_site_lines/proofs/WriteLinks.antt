@@ -68,6 +68,7 @@ use Rattle.vx_yard.proofs.LinkLines.{listed}
 use Rattle.vx_yard.proofs.Lists.{get-set_same}
 use Rattle.vx_yard.proofs.NoteSite.{changes_one, comes_one, with_one}
 use Rattle.vx_yard.proofs.OneSite.{Changed, role_kept, rose_at, stands_at, told_by}
+use Rattle.vx_yard.proofs.OverGroup.{noted_none}
 use Rattle.vx_yard.proofs.RawSites.{raw_site, raw_told}
 use Rattle.vx_yard.proofs.Rows.{fact_like, fact_same}
 use Rattle.vx_yard.proofs.SiteEvents.{first_choice, keeps_k}
@@ -260,6 +261,7 @@ module _ {R : Type 0} {g : Ghosts R} where
         (written_comes d s x after stands.links can wrote.2 (fails_behind (beside_of d s) n before after stood (answer_by waited number) burns n refl fits)
         (fuse_spent (beside_of d s) n before after stood (answer_by waited number) burns x written lit) kind)
         (λ first. subst (λ (q : Node). BeginsFirst s q) (sym eff.is.node) (begins_like s n (logged n x) (λ bare. bare) refl refl refl refl first))
+        (λ _. noted_none (beside_of d s) (logged n x) (e.world.nodes s) after wrote.2 to.none)
         (fact_at e.world s f' (over_is (logged n x) (e.world.nodes s) eff.is.node to.apart) shown) facts)
         (carries_node s d e (logged n x) old new load eff.site eff.sent eff.gathering eff.is.node refl refl refl (told_by old new s before after changed))
         (rose_still old new s before after changed.there changed.later changed.disk_sets))
@@ -288,6 +290,7 @@ module _ {R : Type 0} {g : Ghosts R} where
         (half_comes d s x disk after stands.links can wrote.0 (fails_behind (beside_of d s) n before after stood (Refused (Device disk)) under.burns n refl fits)
         (fuse_burned (beside_of d s) n before after stood (Refused (Device disk)) under.burns (halted_with n x disk) refl (λ a b burnt. device_passes IsLogged (size_in before) disk a b burnt) lit) kind)
         (λ first. subst (λ (q : Node). BeginsFirst s q) (sym eff.is.node) (begins_like s n (halted_with n x disk) (λ bare. bare) refl refl refl refl first))
+        (λ _. noted_none (beside_of d s) (halted_with n x disk) (e.world.nodes s) after wrote.0 to.none)
         (fact_at e.world s f' (over_is (halted_with n x disk) (e.world.nodes s) eff.is.node to.apart) shown) facts)
         (carries_node s d e (halted_with n x disk) old new load eff.site eff.sent eff.gathering eff.is.node refl refl refl (told_by old new s before after changed))
         (rose_at old new s disk before after changed wrote.1)
@@ -315,6 +318,7 @@ module _ {R : Type 0} {g : Ghosts R} where
         (fails_behind (beside_of d s) n before after stood (Refused (Limit Number MOST_NUMBER)) burns (worked n) refl fits)
         (fuse_burned (beside_of d s) n before after stood (Refused (Limit Number MOST_NUMBER)) burns (worked n) refl (λ a b burnt. limit_passes IsLogged (size_in before) a b burnt) lit) kind)
         (λ first. subst (λ (q : Node). BeginsFirst s q) (sym (at_place d.world.nodes s (worked n))) (begins_like s n (worked n) (λ bare. bare) refl refl refl refl first))
+        (λ _. noted_none (beside_of d s) (worked n) (e.world.nodes s) after wrote.2 to.none)
         (fact_at e.world s f' (over_is (worked n) (e.world.nodes s) (at_place d.world.nodes s (worked n)) to.apart) shown) facts)
         (carries_node s d e (worked n) old new load (changes_one d s (worked n)) refl refl (at_place d.world.nodes s (worked n)) refl refl refl (told_by old new s before after changed))
         (rose_still old new s before after changed.there changed.later changed.disk_sets))
@@ -348,6 +352,7 @@ module _ {R : Type 0} {g : Ghosts R} where
             (cut_comes d s x count after stands.links can least most stays (fails_behind (beside_of d s) n before after stood (Refused Off) under.burns n refl fits))
             (λ first. subst (λ (q : Node). BeginsFirst s q) (sym eff.is.node)
             (begins_like s n (crashed (half_begun n x) count) (λ bare. never_bare n to.can.up bare) refl refl refl refl first))
+            (λ _. noted_none (sure_of (itself (beside_of d s) (half_begun n x))) (fell_to (half_begun n x) (half_begun n x) count) (e.world.nodes s) after stays to.none)
             (fact_at e.world s f' (over_is (crashed (half_begun n x) count) (e.world.nodes s) eff.is.node to.apart)
             (noted ∙ ap down_fact (some_same (sym at ∙ to.seat.fact)) ∙ cut_fact d s x count stands.links can least most)) facts)
             (carries_let s d e old new gone (omega (arith, to.seat.below, stands.disk_sets.few)) eff.site eff.sent eff.gathering (λ up. down_up (sym (ap (λ (q : Node). q.state) eff.is.node) ∙ up))
