@@ -36,6 +36,8 @@ use Rattle.vx_yard.proofs.FailsStay.{alone_keeps, fails_then}
 use Rattle.vx_yard.proofs.FuseStays.{fused_on}
 use Rattle.vx_yard.proofs.NoteSite.{comes_same}
 use Rattle.vx_yard.proofs.OneSite.{Changed, stands_still}
+use Rattle.vx_events.specs.RvgViews.{is_over_rvg}
+use Rattle.vx_yard.proofs.OverGroup.{noted_off}
 
 open_behind : (n m : Node) (source : ℕ) (x : Write) → (m ≡ n) ⊎ (m ≡ with_write n source x) → IsOpen n → IsOpen m
 open_behind n m source x one opens = ⊎_elim (λ is. subst (λ (k : Node). IsOpen k) (sym is) opens) (λ is. subst (λ (k : Node). IsOpen k) (sym is) opens) one
@@ -46,6 +48,7 @@ module _ {R : Type 0} {g : Ghosts R} where
     pub below : t < d.world.sites
     pub changed : Changed old new t before after
     pub role : RoleIs (d.world.nodes t) after
+    pub off : is_over_rvg (d.world.nodes t) ≡ false
     pub handed : Handed old new t feeder a
     pub took : TookTo d.world number p k (beside_of d t) after feeder was a old.flight new.flight said
     pub exact : IsTold new → DeliveredTo (delivered d.world number (packet_at d.world.packets number)) (beside_of d t) t after feeder a new.flight said
@@ -58,8 +61,8 @@ module _ {R : Type 0} {g : Ghosts R} where
     behind_ignored there facts =
         let here = subst (λ (i : ℕ). IsBehind d number p k old new before after feeder was a IsIgnored i) (sym to) there in
         ⊎_elim
-        (λ tells. exact_ignored d number p k x old new before after stands here.below here.changed alone here.role feeder a at message here.handed (here.exact tells) facts)
-        (λ untold. found_ignored d number p k x old new before after stands here.below here.changed alone here.role feeder a at message here.handed untold was here.took facts)
+        (λ tells. exact_ignored d number p k x old new before after stands here.below here.changed alone here.role here.off feeder a at message here.handed (here.exact tells) facts)
+        (λ untold. found_ignored d number p k x old new before after stands here.below here.changed alone here.role here.off feeder a at message here.handed untold was here.took facts)
         (all_told new.disk_sets.items)
 
     pub behind_taken : (last : ℕ) → IsBehind d number p k old new before after feeder was a IsTaken t → ((m : Node) → SiteStands (beside_of d t) m after → IsOpen m → last ≡ length m.log)
@@ -73,20 +76,21 @@ module _ {R : Type 0} {g : Ghosts R} where
         ⊎_elim
         (λ tells.
         let is = here.exact tells in
-        exact_taken d number p k x old new before after stands here.below here.changed alone here.role feeder a at message here.handed last is here.receives here.none
+        exact_taken d number p k x old new before after stands here.below here.changed alone here.role here.off feeder a at message here.handed last is here.receives here.none
         (many m is.stands (open_behind (d.world.nodes p.target) m p.source x (node_behind d.world p x number k at message) opens)) shown)
-        (λ untold. found_taken d number p k x old new before after stands here.below here.changed alone here.role feeder a at message here.handed untold last was here.took here.none many shown)
+        (λ untold. found_taken d number p k x old new before after stands here.below here.changed alone here.role here.off feeder a at message here.handed untold last was here.took here.none many shown)
         (all_told new.disk_sets.items)
 
   -- want of memory: nothing was done
-  pub behind_short : (d : Doubted) (line : ScriptLine) (old new : Yard R g) (before after : DiskSet R g) (t : ℕ) (r : Result Said OutOfMemory) (e : OutOfMemory) → r ≡ Err e → StandsFor d old → t < d.world.sites → Changed old new t before after → LeavesAlone before after → RoleIs (d.world.nodes t) after
+  pub behind_short : (d : Doubted) (line : ScriptLine) (old new : Yard R g) (before after : DiskSet R g) (t : ℕ) (r : Result Said OutOfMemory) (e : OutOfMemory) → r ≡ Err e → StandsFor d old → t < d.world.sites → Changed old new t before after → LeavesAlone before after → RoleIs (d.world.nodes t) after → is_over_rvg (d.world.nodes t) ≡ false
       → ((beside : KeptBeside) (n : Node) → SiteStands beside n before → SiteStands beside n after) → new.facts.items ≡ old.facts.items → SameLoad old new → (IsTold new → IsTold old) → LeadsIs d line old new r
-  behind_short d line old new before after t r e is stands below changed alone role on facts load told =
+  behind_short d line old new before after t r e is stands below changed alone role off on facts load told =
       let n : Node = d.world.nodes t in
       subst (λ (x : Result Said OutOfMemory). LeadsIs d line old new x) (sym is) (record {
         stands = stands_still d d old new t before after stands below changed
             (comes_same d t after stands.links (on (beside_of d t) n (stands.disk_sets.sites t before below changed.there)) (fails_then n n before after refl (alone_keeps before after alone) (stands.failing t before below changed.there))
-            (fused_on Untouched n n n.fuse before after refl (λ a b same left. subst (λ (z : Option (ℕ × ℕ)). LeftAs n.fuse z) (sym same.fuse) left) alone.told (stands.fuses t before below changed.there)) role) (λ first. first) refl facts;
+            (fused_on Untouched n n n.fuse before after refl (λ a b same left. subst (λ (z : Option (ℕ × ℕ)). LeftAs n.fuse z) (sym same.fuse) left) alone.told (stands.fuses t before below changed.there)) role) (λ first. first)
+            (λ _. noted_off (beside_of d t) n n after (on (beside_of d t) n (stands.disk_sets.sites t before below changed.there)) off) refl facts;
         carries = carries_same d old new load told;
         rose = rose_still old new t before after changed.there changed.later changed.disk_sets;
       })

@@ -27,6 +27,7 @@ use Rattle.vx_effects.specs.Facts.{fact_of, received_fact}
 use Rattle.vx_events.proofs.Places.{some_same}
 use Rattle.vx_linked.proofs.Heard.{site_apart}
 use Rattle.vx_yard.proofs.OverGroup.{set_notes}
+use Rattle.vx_events.specs.RvgViews.{is_over_rvg}
 use Rattle.vx_events.specs.declared.said.Said.TheVariants.{Ignored}
 use Rattle.vx_net.specs.Flights.{Flying}
 use Rattle.vx_order.specs.declared.facts.RvgFacts.{RvgFacts}
@@ -144,15 +145,15 @@ module _ {R : Type 0} {g : Ghosts R} where
         ignored_is d.world number p k x at message (⊎_elim (λ off. inl (inl off)) (λ origin. inr origin) (over_deaf beside (d.world.nodes p.target) s.site (deaf_above (above_in s) (sym is ∙ none)) role stands.1))
     ignored_by beside Gone b is none role stands = absurd stands
 
-    pub deaf_leads : (old new : Yard R g) (before after : DiskSet R g) (b : Bool) → StandsFor d old → p.target < d.world.sites → Changed old new p.target before after → LeavesAlone before after → Receives after b → b ≡ false → RoleIs (d.world.nodes p.target) after → SiteStands (beside_of d p.target) (d.world.nodes p.target) after
+    pub deaf_leads : (old new : Yard R g) (before after : DiskSet R g) (b : Bool) → StandsFor d old → p.target < d.world.sites → Changed old new p.target before after → LeavesAlone before after → Receives after b → b ≡ false → RoleIs (d.world.nodes p.target) after → is_over_rvg (d.world.nodes p.target) ≡ false → SiteStands (beside_of d p.target) (d.world.nodes p.target) after
         → new.facts.items ≡ old.facts.items → SameLoad old new → (IsTold new → IsTold old) → Leads d (Deliver number) Ignored old new
-    deaf_leads old new before after b stands below changed alone is none role here facts load told =
+    deaf_leads old new before after b stands below changed alone is none role off here facts load told =
         let h : Doubted = happened d (DeliverAt number) false in
         let ignored : outcome_at d number ≡ says d.world IsIgnored = ignored_by (beside_of d p.target) after b is none role here in
         let node : (outcome_at d number).world.nodes p.target ≡ d.world.nodes p.target = ap (λ (r : Outcome). r.world.nodes p.target) ignored in
         let effect = update_effect d number p k x false at message in
         let noted = worked_effect p.target d h ((outcome_at d number).world.nodes p.target) (d.world.links p.target) (d.world.headers p.target) (d.after p.target) (outcome_at d number).world.packets ((outcome_at d number).world.gathering p.target) effect in
-        leads_same d number p old new before after stands below changed alone role h ((outcome_at d number).world.nodes p.target) (outcome_at d number).world.packets ((outcome_at d number).world.gathering p.target) Ignored effect (fit_worked h p.target (fit_happened d (DeliverAt number) false tt stands.links))
+        leads_same d number p old new before after stands below changed alone role off h ((outcome_at d number).world.nodes p.target) (outcome_at d number).world.packets ((outcome_at d number).world.gathering p.target) Ignored effect (fit_worked h p.target (fit_happened d (DeliverAt number) false tt stands.links))
         (done_as (IsTold new) d number p Ignored IsIgnored at below (ap (λ (r : Outcome). r.said) ignored) refl) node (subst (λ (m : Node). SiteStands (beside_of d p.target) m after) (sym node) here) facts
         (λ carries. carries_node p.target d (worked_for h p.target) ((worked_for h p.target).world.nodes p.target) old new load noted.site (ap (λ (r : Outcome). r.world.packets) ignored) (ap (λ (r : Outcome). r.world.gathering p.target) ignored) refl
         (ap (λ (m : Node). m.state) noted.is.node ∙ ap (λ (m : Node). m.state) node) (ap (λ (m : Node). m.role) noted.is.node ∙ ap (λ (m : Node). m.role) node) (ap (λ (m : Node). m.fed_by) noted.is.node ∙ ap (λ (m : Node). m.fed_by) node) told carries)

@@ -47,6 +47,7 @@ use Rattle.vx_yard.specs.declared.yard.Yard.{Yard}
 use Rattle.vx_yard.proofs.ApplySite.{worked_effect, worked_for}
 use Rattle.vx_yard.proofs.OneSite.{Changed}
 use Rattle.vx_yard.proofs.OverGroup.{receives_apart}
+use Rattle.vx_events.specs.RvgViews.{is_over_rvg}
 use Rattle.vx_link_lines.proofs.UpdateLine.{SameSite, carries_handed, done_as, last_shown, leads_new, leads_same, left_at, same_site, stays_ignored, written_site}
 
 -- a site and its packet in another world, of which disks that tell nothing were the source
@@ -87,6 +88,7 @@ module _ {R : Type 0} {g : Ghosts R} where
     pub told : IsTold new → IsTold old
 
   module _ (d : Doubted) (number : ℕ) (p : Packet) (k : ℕ) (x : Write) (old new : Yard R g) (before after : DiskSet R g) (stands : StandsFor d old) (below : p.target < d.world.sites) (changed : Changed old new p.target before after) (alone : LeavesAlone before after) (role : RoleIs (d.world.nodes p.target) after)
+      (off : is_over_rvg (d.world.nodes p.target) ≡ false)
       (feeder : ℕ) (a : Assembled) (at : packet_at d.world.packets number ≡ Some p) (message : p.message ≡ Update k x) (handed : Handed old new p.target feeder a) where
     abbrev s : ℕ
     s = p.target
@@ -116,7 +118,7 @@ module _ {R : Type 0} {g : Ghosts R} where
     -- as the world has it, and ignored
     pub exact_ignored : DeliveredTo o (beside_of d s) s after feeder a new.flight IsIgnored → new.facts.items ≡ old.facts.items → Leads d (Deliver number) Ignored old new
     exact_ignored is facts =
-        leads_same d number p old new before after stands below changed alone role h (o.world.nodes s) o.world.packets (o.world.gathering s) Ignored effect (fit_worked h s (fit_happened d (DeliverAt number) false tt stands.links))
+        leads_same d number p old new before after stands below changed alone role off h (o.world.nodes s) o.world.packets (o.world.gathering s) Ignored effect (fit_worked h s (fit_happened d (DeliverAt number) false tt stands.links))
         (done_as (IsTold new) d number p Ignored IsIgnored at below (sym is.says) refl) (stays_ignored d.world p x number k at message (sym is.says)) is.stands facts (carried IsIgnored is)
 
     -- as the world has it, and taken
@@ -124,7 +126,7 @@ module _ {R : Type 0} {g : Ghosts R} where
         → new.facts.items ≡ slice_set old.facts.items s (received_fact last (fact_of n (d.world.links s) d.world.sites)) → Leads d (Deliver number) Taken old new
     exact_taken last is receives none many facts =
         let one = node_behind d.world p x number k at message in
-        leads_new d number p old new before after stands below changed alone role h (o.world.nodes s) o.world.packets (o.world.gathering s) Taken (received_fact last (fact_of n (d.world.links s) d.world.sites)) effect
+        leads_new d number p old new before after stands below changed alone role off h (o.world.nodes s) o.world.packets (o.world.gathering s) Taken (received_fact last (fact_of n (d.world.links s) d.world.sites)) effect
         (fit_worked h s (fit_happened d (DeliverAt number) false tt stands.links)) (done_as (IsTold new) d number p Taken IsTaken at below (sym is.says) refl) (apart_by receives) (either_site n (o.world.nodes s) p.source x one) is.stands
         (last_shown n (o.world.nodes s) (d.world.links s) d.world.sites p.source last x receives none one many) facts (carried IsTaken is)
 
@@ -143,7 +145,7 @@ module _ {R : Type 0} {g : Ghosts R} where
       given_new m o more last y sends finds fed here receives none one many facts =
           let h' : Doubted = given m o more in
           let noted = worked_effect s d h' m (d.world.links s) (d.world.headers s) (d.after s) (d.world.packets ++ more) o (given_effect d s m o more) in
-          leads_new d number p old new before after stands below changed alone role h' m (d.world.packets ++ more) o Taken (received_fact last (fact_of n (d.world.links s) d.world.sites)) (given_effect d s m o more)
+          leads_new d number p old new before after stands below changed alone role off h' m (d.world.packets ++ more) o Taken (received_fact last (fact_of n (d.world.links s) d.world.sites)) (given_effect d s m o more)
           (fit_worked h' s (fit_finds d (Deliver number) [] Taken h' finds stands.links)) (LinksFind untold h' finds (left_at d h' number p at below)) (apart_by receives) (either_site n m p.source y one) here
           (last_shown n m (d.world.links s) d.world.sites p.source last y receives none one many) facts
           (λ carries. carries_handed d (worked_for h' s) s feeder a more old new noted.site refl (sends d.world.packets carries.flight) (λ tells. absurd (untold tells)) (fed ∙ ap (λ (i : Node). i.fed_by) (sym noted.is.node))
@@ -156,7 +158,7 @@ module _ {R : Type 0} {g : Ghosts R} where
           let node : o.world.nodes s ≡ n = ap (λ (r : Outcome). r.world.nodes s) is in
           let noted = worked_effect s d h (o.world.nodes s) (d.world.links s) (d.world.headers s) (d.after s) o.world.packets (o.world.gathering s) effect in
           let packets : o.world.packets ≡ d.world.packets ++ more = ap (λ (r : Outcome). r.world.packets) is in
-          leads_same d number p old new before after stands below changed alone role h (o.world.nodes s) o.world.packets (o.world.gathering s) Ignored effect (fit_worked h s (fit_happened d (DeliverAt number) false tt stands.links))
+          leads_same d number p old new before after stands below changed alone role off h (o.world.nodes s) o.world.packets (o.world.gathering s) Ignored effect (fit_worked h s (fit_happened d (DeliverAt number) false tt stands.links))
           (done_as (IsTold new) d number p Ignored IsIgnored at below (ap (λ (r : Outcome). r.said) is) refl) node (subst (λ (m : Node). SiteStands (beside_of d s) m after) (sym node) here) facts
           (λ carries. carries_handed d (worked_for h s) s feeder a more old new noted.site packets
           (subst (λ (ps : List Packet). FlightStands ps new.flight) (sym packets) (sends d.world.packets carries.flight))
@@ -166,7 +168,7 @@ module _ {R : Type 0} {g : Ghosts R} where
       lost_leads : FindsOther d (Deliver number) [] Ignored d → SiteStands (beside_of d s) n after → feeder ≡ n.fed_by → new.flight ≡ old.flight → new.facts.items ≡ old.facts.items → Leads d (Deliver number) Ignored old new
       lost_leads finds here fed still facts =
           let noted = worked_effect s d d n (d.world.links s) (d.world.headers s) (d.after s) d.world.packets (d.world.gathering s) (same_effect d s) in
-          leads_same d number p old new before after stands below changed alone role d n d.world.packets (d.world.gathering s) Ignored (same_effect d s) (fit_worked d s stands.links)
+          leads_same d number p old new before after stands below changed alone role off d n d.world.packets (d.world.gathering s) Ignored (same_effect d s) (fit_worked d s stands.links)
           (LinksFind untold d finds (left_at d d number p at below)) refl here facts
           (λ carries. carries_handed d (worked_for d s) s feeder a [] old new noted.site (sym (append-nil d.world.packets)) (subst (λ (f : Flying). FlightStands d.world.packets f) (sym still) carries.flight)
           (λ tells. absurd (untold tells)) (fed ∙ ap (λ (i : Node). i.fed_by) (sym noted.is.node)) handed.assemblies handed.feeders handed.below handed.told carries)

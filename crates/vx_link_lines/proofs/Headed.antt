@@ -5,6 +5,7 @@ use Rattle.vx_history.proofs.Behind.{after_of}
 use Rattle.vx_history.proofs.Fuses.{burned_twice, fused_before, worked_twice}
 use Rattle.vx_history.proofs.Updates.{at_place}
 use Rattle.vx_history.specs.Doubts.{After, Doubted, crashed_as, halved, resolved_at}
+use Rattle.vx_history.specs.Groups.{GroupNode}
 use Rattle.vx_history.specs.Steps.{burned, crashed, worked}
 use Rattle.vx_history.specs.World.{Gathering, Link, Node, Volume}
 use Rattle.vx_history.specs.declared.event.Event.{Event}
@@ -21,7 +22,7 @@ use Rattle.vx_order.specs.declared.facts.RvgFacts.{RvgFacts}
 use Rattle.vx_order.specs.declared.facts.SiteFacts.{SiteFacts}
 use Rattle.vx_diskset.specs.Asked.{FailsAs, FusedAs, LeavesFuse, size_in}
 use Rattle.vx_diskset.specs.Burning.{Burnt, NoMore}
-use Rattle.vx_diskset.specs.DiskSets.{CrashedAt, halted_at}
+use Rattle.vx_diskset.specs.DiskSets.{CrashedAt, fell_to, halted_at}
 use Rattle.vx_diskset.specs.Fuses.{LeftAs}
 use Rattle.vx_diskset.specs.Holds.{KeptBeside, KeptSite, beside_of, itself, header_links, row_links, sure_of}
 use Rattle.vx_diskset.specs.Stands.{RoleIs, SiteStands}
@@ -60,7 +61,7 @@ use Rattle.vx_link_lines.proofs.HeadedWorlds as worlds
 use Rattle.vx_link_lines.proofs.HeadedWorlds.{stopped_noted}
 use Rattle.vx_yard.proofs.Lists.{get-set_same, set_same}
 use Rattle.vx_yard.proofs.OneSite.{Changed, role_off, rose_at, told_by}
-use Rattle.vx_yard.proofs.OverGroup.{none_over, begins_apart}
+use Rattle.vx_yard.proofs.OverGroup.{begins_apart, none_over, noted_none}
 use Rattle.vx_yard.proofs.RawSites.{raw_site, raw_told}
 use Rattle.vx_link_lines.proofs.Turned.{stands_turned}
 
@@ -142,6 +143,7 @@ module _ {R : Type 0} {g : Ghosts R} (note : (ℕ → Node) → ℕ → Node) (s
             (λ _. subst (λ (k : Node). BeginsFirst s k) there
             (begins_apart s (record { links = ls; headers = d.world.headers s + 1; doubt = None }) (worked m) after
             (subst (λ (k : Node). SiteStands (record { links = ls; headers = d.world.headers s + 1; doubt = None }) k after) (worked_twice m) is) (over_body n m h.like ∙ none_over n h.none)))
+            (λ _. noted_none (record { links = ls; headers = d.world.headers s + 1; doubt = None }) (worked (worked m)) (to.world.nodes s) after is (h.like.group ∙ h.none))
             (facts ∙ sym (notes.shows (behind d e).world))
             (λ a is. absurd (never_some (sym (w.is.after ∙ h.sure) ∙ is)));
         carries = carries;
@@ -182,6 +184,7 @@ module _ {R : Type 0} {g : Ghosts R} (note : (ℕ → Node) → ℕ → Node) (s
             (λ _. subst (λ (k : Node). BeginsFirst s k) there
             (begins_apart s (in_doubt (beside_of d s) (worked m) ls disk) (stopped n disk) after
             (subst (λ (k : Node). SiteStands (in_doubt (beside_of d s) (worked m) ls disk) k after) (stopped_noted n disk) is.0) (none_over n h.none)))
+            (λ _. noted_none (in_doubt (beside_of d s) (worked m) ls disk) (halted_at (worked n) disk) (to.world.nodes s) after is.0 h.none)
             (noted_there (Device disk) x x' at noted facts
             ∙ ap (λ (o : Option RvgFacts). slice_set (facts_over start.world) s (let y : SiteFacts = record (linked_fact start.world s) { rvg = o } in y)) (group_halted disk (linked_fact start.world s).rvg)
             ∙ ap (slice_set (facts_over start.world) s)
@@ -216,7 +219,7 @@ module _ {R : Type 0} {g : Ghosts R} (note : (ℕ → Node) → ℕ → Node) (s
                 fuse = subst (λ (k : Node). FusedAs k after) (sym here) (fuse_still (worked n) (Refused (Limit what most)) refl (λ x y burns. burns) calls);
                 role = role_like n (start.world.nodes s) after (ap (λ (k : Node). is_origin k.role) here) kind;
               })
-              (λ first. first)
+              (λ first. first) (λ _. noted_none (beside_of d s) (worked n) (start.world.nodes s) after is.2 h.none)
               (facts ∙ ap (slice_set old.facts.items s) noted ∙ set_same old.facts.items s x at ∙ stands.facts)
               (λ a some. absurd (never_some (sym h.sure ∙ some)));
           carries = carries_same start old new load told_then;
@@ -232,9 +235,10 @@ module _ {R : Type 0} {g : Ghosts R} (note : (ℕ → Node) → ℕ → Node) (s
     where
       by : (count : ℕ) (taken : Bool) (k : Node) (links : ℕ → Link) (ks : List KeptLink) (node_is : (resolved_at (halved d e s 0) s taken).world.nodes s ≡ k)
           (row_is : (j : ℕ) → (resolved_at (halved d e s 0) s taken).world.links s j ≡ links j) (links_are : row_links links d.world.sites ≡ ks) (least : k.safe ≤ count) (most : count ≤ length k.log)
-          → is_over_group k ≡ false → k.state ≡ IsUp → k.failing ≡ n.failing → down_fact (fact_of k links d.world.sites) ≡ down_fact (fact_of n links d.world.sites)
+          → k.group ≡ None → k.state ≡ IsUp → k.failing ≡ n.failing → down_fact (fact_of k links d.world.sites) ≡ down_fact (fact_of n links d.world.sites)
           → SiteStands (record { links = ks; headers = d.world.headers s + 1; doubt = None }) (crashed k count) after → CutFor note d e s old new
-      by count taken k links ks node_is row_is links_are least most alone up failing shown stood_there =
+      by count taken k links ks node_is row_is links_are least most none up failing shown stood_there =
+          let alone : is_over_group k ≡ false = none_over k none in
           let to : Doubted = noted_by note (crashed_as (halved d e s 0) s count taken) in
           let changes = worlds.fell_changes note s notes d e m h.row ls gathered h.effect h.kept h.sure count taken k links ks node_is row_is links_are least most in
           let node = worlds.fell_node note s notes d e m h.row ls gathered h.effect h.kept h.sure count taken k links ks node_is row_is links_are least most in
@@ -257,6 +261,7 @@ module _ {R : Type 0} {g : Ghosts R} (note : (ℕ → Node) → ℕ → Node) (s
                   })
                   (λ _. subst (λ (q : Node). BeginsFirst s q) there
                   (begins_apart s (record { links = ks; headers = d.world.headers s + 1; doubt = None }) (crashed k count) after stood_there alone))
+                  (λ _. noted_none (record { links = ks; headers = d.world.headers s + 1; doubt = None }) (crashed k count) (to.world.nodes s) after stood_there none)
                   (noted_there Off x x' at noted facts
                   ∙ ap (λ (q : Node). slice_set (facts_over start.world) s (down_fact (fact_of q (d.world.links s) d.world.sites))) here
                   ∙ ap (slice_set (facts_over start.world) s) (sym shown)
@@ -268,19 +273,20 @@ module _ {R : Type 0} {g : Ghosts R} (note : (ℕ → Node) → ℕ → Node) (s
             };
           }
 
-      itself_by : (q : KeptSite) → q ≡ itself (in_doubt (beside_of d s) (worked m) ls 0) (halted_at (worked n) 0) → (count : ℕ) → q.node.safe ≤ count → count ≤ length q.node.log → SiteStands (sure_of q) (crashed q.node count) after
+      itself_by : (q : KeptSite) → q ≡ itself (in_doubt (beside_of d s) (worked m) ls 0) (halted_at (worked n) 0) → (count : ℕ) → q.node.safe ≤ count → count ≤ length q.node.log → SiteStands (sure_of q) (fell_to (halted_at (worked n) 0) q.node count) after
           → CutFor note d e s old new
       itself_by q own =
-          subst (λ (y : KeptSite). (count : ℕ) → y.node.safe ≤ count → count ≤ length y.node.log → SiteStands (sure_of y) (crashed y.node count) after → CutFor note d e s old new) (sym own)
+          subst (λ (y : KeptSite). (count : ℕ) → y.node.safe ≤ count → count ≤ length y.node.log → SiteStands (sure_of y) (fell_to (halted_at (worked n) 0) y.node count) after → CutFor note d e s old new) (sym own)
           (λ count least most stood_there.
-          by count false (stopped n 0) (d.world.links s) (header_links d.world s) (worlds.own_node note s notes d e m h.row ls gathered h.effect h.kept h.sure) (λ j. refl) refl least most (none_over n h.none) h.opens.0 refl refl stood_there)
+          by count false (stopped n 0) (d.world.links s) (header_links d.world s) (worlds.own_node note s notes d e m h.row ls gathered h.effect h.kept h.sure) (λ j. refl) refl least most h.none h.opens.0 refl refl stood_there)
 
-      doubt_by : (q : KeptSite) → (in_doubt (beside_of d s) (worked m) ls 0).doubt ≡ Some q → (count : ℕ) → q.node.safe ≤ count → count ≤ length q.node.log → SiteStands (sure_of q) (crashed q.node count) after → CutFor note d e s old new
+      doubt_by : (q : KeptSite) → (in_doubt (beside_of d s) (worked m) ls 0).doubt ≡ Some q → (count : ℕ) → q.node.safe ≤ count → count ≤ length q.node.log → SiteStands (sure_of q) (fell_to (halted_at (worked n) 0) q.node count) after → CutFor note d e s old new
       doubt_by q other =
-          subst (λ (y : KeptSite). (count : ℕ) → y.node.safe ≤ count → count ≤ length y.node.log → SiteStands (sure_of y) (crashed y.node count) after → CutFor note d e s old new) (some_same other)
+          subst (λ (y : KeptSite). (count : ℕ) → y.node.safe ≤ count → count ≤ length y.node.log → SiteStands (sure_of y) (fell_to (halted_at (worked n) 0) y.node count) after → CutFor note d e s old new) (some_same other)
           (λ count least most stood_there.
-          by count true (stopped m 0) h.row ls (worlds.other_node note s notes d e m h.row ls gathered h.effect h.kept h.sure) (worlds.other_row note s notes d e m h.row ls gathered h.effect h.kept h.sure) h.kept least most (over_body n m h.like ∙ none_over n h.none) (h.like.state ∙ h.opens.0) h.like.failing
-          (down_alike n (stopped m 0) (d.world.links s) h.row d.world.sites h.like.name h.like.disks h.like.blocks h.like.volumes) stood_there)
+          by count true (stopped m 0) h.row ls (worlds.other_node note s notes d e m h.row ls gathered h.effect h.kept h.sure) (worlds.other_row note s notes d e m h.row ls gathered h.effect h.kept h.sure) h.kept least most (h.like.group ∙ h.none) (h.like.state ∙ h.opens.0) h.like.failing
+          (down_alike n (stopped m 0) (d.world.links s) h.row d.world.sites h.like.name h.like.disks h.like.blocks h.like.volumes)
+          (subst (λ (o : Option GroupNode). SiteStands (record { links = ls; headers = d.world.headers s + 1; doubt = None }) (let y : Node = record (crashed (stopped m 0) count) { group = o } in y) after) (sym h.like.group) stood_there))
 
   -- by what was answered
   pub headed_refused : RoleIs n after → (why : No) (x x' : SiteFacts) → Answered CrashedAt (beside_of d s) (worked n) (worked m) ls before after (Err why) → LeavesFuse NoMore (Refused why) before after → slice_get old.facts.items s ≡ Some x

@@ -73,6 +73,7 @@ use Rattle.vx_yard.proofs.LinkLines.{Relinks, carries_kept, listed, stands_kept,
 use Rattle.vx_yard.proofs.NamedSite.{SiteAt, place_at, site_at}
 use Rattle.vx_yard.proofs.NoteSite.{comes_same}
 use Rattle.vx_yard.proofs.OneSite.{Changed, role_kept, rose_at, stands_still}
+use Rattle.vx_yard.proofs.OverGroup.{noted_none}
 
 -- a link that is one stands among those that the header keeps
 among_kept : (row : ℕ → Link) (s : ℕ) (ss : List ℕ) → IsAmong s ss → (k : ℕ) × (slice_get (kept_links row ss) k ≡ Some (kept_link s (row s)))
@@ -221,14 +222,15 @@ module _ {R : Type 0} {g : Ghosts R} where
     pub feeders : new.feeders ≡ old.feeders
 
   module _ (d : Doubted) (old new : Yard R g) (s : ℕ) (before after : DiskSet R g) (stands : StandsFor d old) (carries : Carries d old) (below : s < d.world.sites) (changed : Changed old new s before after)
-      (alone : LeavesAlone before after) (on : (beside : KeptBeside) (n : Node) → SiteStands beside n before → SiteStands beside n after) (keeps : KeepsRole before after) (rests : Rests old new) (told : IsTold new → IsTold old) where
+      (alone : LeavesAlone before after) (on : (beside : KeptBeside) (n : Node) → SiteStands beside n before → SiteStands beside n after) (keeps : KeepsRole before after) (none : (d.world.nodes s).group ≡ None) (rests : Rests old new) (told : IsTold new → IsTold old) where
     middle_stands : StandsFor d (between old new)
     middle_stands =
         let n : Node = d.world.nodes s in
         stands_still d d old (between old new) s before after stands below (record { there = changed.there; later = changed.later; disk_sets = changed.disk_sets; racks = changed.racks })
         (comes_same d s after stands.links (on (beside_of d s) n (stands.disk_sets.sites s before below changed.there))
         (fails_then n n before after refl (alone_keeps before after alone) (stands.failing s before below changed.there)) (fused_on Untouched n n n.fuse before after refl (λ x y same left. subst (λ (z : Option (ℕ × ℕ)). LeftAs n.fuse z) (sym same.fuse) left) alone.told (stands.fuses s before below changed.there))
-        (role_kept d old s before after stands below changed.there keeps)) (λ first. first) refl refl
+        (role_kept d old s before after stands below changed.there keeps)) (λ first. first)
+        (λ _. noted_none (beside_of d s) n n after (on (beside_of d s) n (stands.disk_sets.sites s before below changed.there)) none) refl refl
 
     middle_carries : Carries d (between old new)
     middle_carries = record {

@@ -72,7 +72,7 @@ use Rattle.vx_diskset.specs.declared.disk_set.DiskSet.{DiskSet}
 use Rattle.vx_diskset.specs.declared.receivers.Reached.{Reached}
 use Rattle.vx_events.specs.RvgViews.{is_over_rvg}
 use Rattle.vx_yard.proofs.RawSites.{raw_told}
-use Rattle.vx_yard.proofs.OverGroup.{raw_set}
+use Rattle.vx_yard.proofs.OverGroup.{noted_off, raw_set}
 use Rattle.vx_yard.specs.Carries.{Carries}
 use Rattle.vx_yard.specs.Standing.{Leads, StandsFor}
 use Rattle.vx_yard.specs.Writes.{noted_facts}
@@ -223,7 +223,7 @@ module _ {R : Type 0} {g : Ghosts R} where
               (ap (λ (x : Node). x.name) same) (ap (λ (x : Node). x.disks) same) (ap (λ (x : Node). x.blocks) same) (ap (λ (x : Node). x.volumes) same) (ap (λ (x : Node). x.role) same) stood
               (fails_then n (worked m) before after (ap (λ (x : Node). x.failing) same) (calls_keep NoMore (DoneAt number) before after calls) (stands.failing s before here.seat.below changed.there))
               (fuse (worked m) number (ap (λ (x : Node). burned x.fuse) same) calls) (role_kept d old s before after stands here.seat.below changed.there keeps))
-              here.seat.apart (ap is_over_group eff.is.node ∙ ap is_over_group same ∙ here.seat.apart)
+              (λ _. noted_off (beside_of d s) (worked m) (e.world.nodes s) after stood (ap is_over_rvg same ∙ off)) here.seat.apart (ap is_over_group eff.is.node ∙ ap is_over_group same ∙ here.seat.apart)
               (fact_same (worked m) (e.world.nodes s) (d.world.links s) (e.world.links s) d.world.sites e.world.sites eff.is.node (λ j. eff.is.links j) eff.site.sites ∙ shown) facts;
           carries = λ carries. carries_sent s d e more old new eff.site eff.gathering (eff.sent ∙ sent)
               (subst (λ (x : Node). Feeds n x) (sym eff.is.node) (feeds_like n (worked m) (ap (λ (x : Node). x.state) same) (ap (λ (x : Node). x.role) same) (ap (λ (x : Node). x.fed_by) same)))
@@ -263,7 +263,7 @@ module _ {R : Type 0} {g : Ghosts R} where
         let within = slice_get_within old.disk_sets.items s before changed.there in
         let lacks : IsTold new → MOST_NUMBER ≤ most_stamp_at d.world s + waiting_of n
         = λ told.
-        let far = is.1 (raw_told after (raw_set (beside_of d s) (worked n) after is.2 off)
+        let far = is.1 (raw_told after (raw_set (beside_of d s) n after is.2 off)
         (told.each s after (ap (λ es. slice_get es s) changed.disk_sets ∙ get-set_same old.disk_sets.items s after within))) in omega (arith, far) in
         record {
           next = e;
@@ -281,7 +281,7 @@ module _ {R : Type 0} {g : Ghosts R} where
               (fails_then n (worked n) before after refl (calls_keep NoMore (Refused (Limit what most)) before after calls) (stands.failing s before here.seat.below changed.there))
               (fused_on (Burnt NoMore (Refused (Limit what most)) (size_in before)) n (worked n) (burned n.fuse) before after refl (λ x y burns left. left_passed n.fuse x.fuse y.fuse burns.fuse left) calls.told
               (stands.fuses s before here.seat.below changed.there)) (role_kept d old s before after stands here.seat.below changed.there keeps))
-              here.seat.apart (ap is_over_group (at_place d.world.nodes s (worked n)) ∙ here.seat.apart)
+              (λ _. noted_off (beside_of d s) n (e.world.nodes s) after is.2 off) here.seat.apart (ap is_over_group (at_place d.world.nodes s (worked n)) ∙ here.seat.apart)
               (fact_same (worked n) (e.world.nodes s) (d.world.links s) (d.world.links s) d.world.sites d.world.sites (at_place d.world.nodes s (worked n)) (λ j. refl) refl
               ∙ fact_like n (worked n) (d.world.links s) d.world.sites (fuse_fact n (burned n.fuse)) (λ j l. refl))
               (facts ∙ ap (λ (x : SiteFacts). slice_set old.facts.items s x) noted ∙ set_same old.facts.items s f at);

@@ -50,7 +50,7 @@ use Rattle.vx_events.specs.Sayings.{RepeatsSaid}
 use Rattle.vx_events.specs.declared.said.Said.{Said}
 use Rattle.vx_events.specs.declared.said.Said.TheVariants.{Done, Refused}
 use Rattle.vx_linked.proofs.PartFacts.{sets}
-use Rattle.vx_link_lines.proofs.RawParts.{none_seat}
+use Rattle.vx_link_lines.proofs.RawParts.{named_off, none_seat}
 use Rattle.vx_link_lines.specs.Headed.{NextFor, behind, noted_by}
 use Rattle.vx_events.specs.RvgSteps.{over_rvg_at}
 use Rattle.vx_yard.specs.Standing.{Leads, StandsFor}
@@ -147,7 +147,7 @@ module _ {R : Type 0} {g : Ghosts R} (d : Doubted) (old : Yard R g) (first secon
   }
 
   noted : StandsFor (noted_by (note_one s) d) old
-  noted = stands_noted d old s before stands here.below at
+  noted = stands_noted d old s before stands here.below at (named_off d old first s stands seat off)
 
   numbers : (prot : Prot) → link_events w (Set first second sync prot) ≡ event ∷ []
   numbers prot =

@@ -64,7 +64,8 @@ use Rattle.vx_yard.proofs.Lists.{get-set_other, get-set_same, length-set}
 use Rattle.vx_yard.proofs.OneSite.{Changed, Comes, stands_at, stands_still}
 use Rattle.vx_link_lines.proofs.NotedYard.{left_burned}
 use Rattle.vx_yard.proofs.FirstSites.{begins_like}
-use Rattle.vx_yard.proofs.OverGroup.{begins_apart}
+use Rattle.vx_yard.proofs.OverGroup.{begins_apart, noted_off, rvg_same}
+use Rattle.vx_events.specs.RvgViews.{is_over_rvg}
 
 -- ---- what is noted of the target
 
@@ -228,7 +229,7 @@ module _ {R : Type 0} {g : Ghosts R} where
   -- ---- the yard
 
   module _ (d : Doubted) (number : ℕ) (p : Packet) (old new : Yard R g) (before after : DiskSet R g) (stands : StandsFor d old) (below : p.target < d.world.sites) (changed : Changed old new p.target before after) (alone : LeavesAlone before after)
-      (role : RoleIs (d.world.nodes p.target) after) where
+      (role : RoleIs (d.world.nodes p.target) after) (off : is_over_rvg (d.world.nodes p.target) ≡ false) where
     abbrev s : ℕ
     s = p.target
 
@@ -264,7 +265,8 @@ module _ {R : Type 0} {g : Ghosts R} where
       done = record { ends = ends; counts = tt; works = tt; calls = tt };
       stands = stands_at d (worked_for h s) old new s f before after stands below changed (comes_by h m packets gathered eff fits same here)
           (λ _. subst (λ (q : Node). BeginsFirst s q) (sym (worked_effect s d h m (d.world.links s) (d.world.headers s) (d.after s) packets gathered eff).is.node)
-          (begins_apart s (beside_of d s) (worked m) after (stands_worked (beside_of d s) m after here) (over_site n m same ∙ apart))) (fact ∙ sym (over_apart m (d.world.links s) d.world.sites (over_site n m same ∙ apart)) ∙ sym (shown h m packets gathered eff)) facts;
+          (begins_apart s (beside_of d s) (worked m) after (stands_worked (beside_of d s) m after here) (over_site n m same ∙ apart)))
+          (λ _. noted_off (beside_of d s) m ((worked_for h s).world.nodes s) after here (rvg_same n m same.group same.volumes ∙ off)) (fact ∙ sym (over_apart m (d.world.links s) d.world.sites (over_site n m same ∙ apart)) ∙ sym (shown h m packets gathered eff)) facts;
       carries = carries;
       rose = rose_still old new s before after changed.there changed.later changed.disk_sets;
     }
@@ -280,6 +282,7 @@ module _ {R : Type 0} {g : Ghosts R} where
           (λ first. subst (λ (q : Node). BeginsFirst s q) (sym (worked_effect s d h m (d.world.links s) (d.world.headers s) (d.after s) packets gathered eff).is.node)
           (begins_like s n (worked m) (λ bare. ap (λ (q : Node). q.state) same ∙ bare) (ap (λ (q : Node). q.volumes) same) (ap (λ (q : Node). state_with q []) same) (ap (λ (q : Node). q.session) same)
           (ap (λ (q : Node). q.low) same) first))
+          (λ _. noted_off (beside_of d s) m ((worked_for h s).world.nodes s) after here (ap is_over_rvg same ∙ off))
           (shown h m packets gathered eff ∙ ap (λ (k : Node). over_of k (d.world.links s) d.world.sites) same) facts;
       carries = carries;
       rose = rose_still old new s before after changed.there changed.later changed.disk_sets;

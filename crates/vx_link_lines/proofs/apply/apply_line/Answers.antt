@@ -35,7 +35,7 @@ returns-in-Ok-clause-leads g c = λ d stands off carries.
     let s = c.site_of-site.result in
     let seat : seat_of y.facts.items c.args.name.now ≡ Some c.site_of-site.result = c.site_of-site.ensures.seat in
     let at = get_at y.disk_sets.items c.site_of-site.result c.index_mut.result.now c.site_of-site.ensures.disk_set c.index_mut.ensures.value in
-    let here = can_apply_at d y c.args.name.now c.args.to s stands c.requires.free seat in
+    let here = can_apply_at d y c.args.name.now c.args.to s stands off c.requires.free seat in
     let there = stands.disk_sets.sites s c.index_mut.result.now here.seat.below at in
     let raw = raw_seat d y c.args.name.now s c.index_mut.result.now stands seat at off in
     applied d y _ c.args.name.now c.args.to s c.index_mut.result.now c.apply.new.self stands here (record { there = at; later = c.in-Ok.ensures.later; disk_sets = refl; racks = refl }) c.in-Ok.ensures.role c.in-Ok.number
@@ -50,7 +50,7 @@ returns-in-Err-clause-leads g c = λ d stands off carries.
     let s = c.site_of-site.result in
     let seat : seat_of y.facts.items c.args.name.now ≡ Some c.site_of-site.result = c.site_of-site.ensures.seat in
     let at = get_at y.disk_sets.items c.site_of-site.result c.index_mut.result.now c.site_of-site.ensures.disk_set c.index_mut.ensures.value in
-    let here = can_apply_at d y c.args.name.now c.args.to s stands c.requires.free seat in
+    let here = can_apply_at d y c.args.name.now c.args.to s stands off c.requires.free seat in
     let there = stands.disk_sets.sites s c.index_mut.result.now here.seat.below at in
     let raw = raw_seat d y c.args.name.now s c.index_mut.result.now stands seat at off in
     apply_refused d y _ c.args.name.now c.args.to s c.index_mut.result.now c.apply.new.self stands here (record { there = at; later = c.in-Err.ensures.later; disk_sets = refl; racks = refl }) c.in-Err.ensures.role c.in-Err.no c.refused.result
@@ -65,7 +65,7 @@ returns-in-Ok-clause-called g c = λ d stands off.
     let s = c.site_of-site.result in
     let seat : seat_of y.facts.items c.args.name.now ≡ Some c.site_of-site.result = c.site_of-site.ensures.seat in
     let at = get_at y.disk_sets.items c.site_of-site.result c.index_mut.result.now c.site_of-site.ensures.disk_set c.index_mut.ensures.value in
-    let here = can_apply_at d y c.args.name.now c.args.to s stands c.requires.free seat in
+    let here = can_apply_at d y c.args.name.now c.args.to s stands off c.requires.free seat in
     let there = stands.disk_sets.sites s c.index_mut.result.now here.seat.below at in
     let raw = raw_seat d y c.args.name.now s c.index_mut.result.now stands seat at off in
     asks_at (LeavesFuse NoMore (DoneAt c.in-Ok.number)) d y _ c.args.name.now s c.index_mut.result.now c.apply.new.self stands seat at refl
@@ -77,7 +77,7 @@ returns-in-Ok-clause-asked g c = λ d stands off.
     let s = c.site_of-site.result in
     let seat : seat_of y.facts.items c.args.name.now ≡ Some c.site_of-site.result = c.site_of-site.ensures.seat in
     let at = get_at y.disk_sets.items c.site_of-site.result c.index_mut.result.now c.site_of-site.ensures.disk_set c.index_mut.ensures.value in
-    let here = can_apply_at d y c.args.name.now c.args.to s stands c.requires.free seat in
+    let here = can_apply_at d y c.args.name.now c.args.to s stands off c.requires.free seat in
     let there = stands.disk_sets.sites s c.index_mut.result.now here.seat.below at in
     let raw = raw_seat d y c.args.name.now s c.index_mut.result.now stands seat at off in
     asks_at SameFailing d y _ c.args.name.now s c.index_mut.result.now c.apply.new.self stands seat at refl
@@ -89,7 +89,7 @@ returns-in-Err-clause-called g c = λ d stands off.
     let s = c.site_of-site.result in
     let seat : seat_of y.facts.items c.args.name.now ≡ Some c.site_of-site.result = c.site_of-site.ensures.seat in
     let at = get_at y.disk_sets.items c.site_of-site.result c.index_mut.result.now c.site_of-site.ensures.disk_set c.index_mut.ensures.value in
-    let here = can_apply_at d y c.args.name.now c.args.to s stands c.requires.free seat in
+    let here = can_apply_at d y c.args.name.now c.args.to s stands off c.requires.free seat in
     let there = stands.disk_sets.sites s c.index_mut.result.now here.seat.below at in
     let raw = raw_seat d y c.args.name.now s c.index_mut.result.now stands seat at off in
     asks_at (LeavesFuse NoMore c.refused.result) d y _ c.args.name.now s c.index_mut.result.now c.apply.new.self stands seat at refl
@@ -101,7 +101,7 @@ returns-in-Err-clause-asked g c = λ d stands off.
     let s = c.site_of-site.result in
     let seat : seat_of y.facts.items c.args.name.now ≡ Some c.site_of-site.result = c.site_of-site.ensures.seat in
     let at = get_at y.disk_sets.items c.site_of-site.result c.index_mut.result.now c.site_of-site.ensures.disk_set c.index_mut.ensures.value in
-    let here = can_apply_at d y c.args.name.now c.args.to s stands c.requires.free seat in
+    let here = can_apply_at d y c.args.name.now c.args.to s stands off c.requires.free seat in
     let there = stands.disk_sets.sites s c.index_mut.result.now here.seat.below at in
     let raw = raw_seat d y c.args.name.now s c.index_mut.result.now stands seat at off in
     asks_at SameFailing d y _ c.args.name.now s c.index_mut.result.now c.apply.new.self stands seat at refl

@@ -1,5 +1,5 @@
 -- The packet of an update at its target, case by case.
-use Rattle.std.proofs.Common.{◌≡◌, ◌∙◌, ◌<◌, ℕ, ap, sym, subst, refl, arith}
+use Rattle.std.proofs.Common.{◌≡◌, ◌∙◌, ◌<◌, ℕ, ap, false, sym, subst, refl, arith}
 use Rattle.std.specs.Prelude.{Some, slice_get, slice_set}
 use Rattle.std.proofs.lemmas.Result.{err_from_is_err_and}
 use Rattle.vx_history.specs.Events.{delivered, packet_at}
@@ -21,6 +21,7 @@ use Rattle.vx_link_lines.proofs.Deaf.{deaf_leads, fact_at, last_received, none_s
 use Rattle.vx_yard.proofs.Leads.{room_receives}
 use Rattle.vx_yard.proofs.FailsStay.{alone_keeps}
 use Rattle.vx_events.specs.declared.said.Said.TheVariants.{Ignored, Refused, Taken}
+use Rattle.vx_events.specs.RvgViews.{is_over_rvg}
 use Rattle.vx_yard.specs.OfSites.{TouchesNone}
 use Rattle.vx_link_lines.proofs.DeliverCalls.{no_answer, waits_alone}
 use Rattle.vx_link_lines.proofs.RawParts.{raw_there, takes_raw}
@@ -40,7 +41,7 @@ returns-then-not-receives-clause-leads g c = λ d p k x stands off carries good 
     let place = subst (λ (i : ℕ). slice_get old.disk_sets.items i ≡ Some e) (sym to) there in
     deaf_leads d c.args.number p k x at message old old e e c.receives.result stands (subst (λ (i : ℕ). i < d.world.sites) (sym to) below)
     (record { there = place; later = later_same e; disk_sets = sym (set_same old.disk_sets.items p.target e place); racks = refl }) (alone_same e) c.receives.ensures c.if-not-receives.true
-    (subst (λ (i : ℕ). RoleIs (d.world.nodes i) e) (sym to) (stands.roles.each t e below there)) (subst (λ (i : ℕ). SiteStands (beside_of d i) (d.world.nodes i) e) (sym to) (stands.disk_sets.sites t e below there)) refl
+    (subst (λ (i : ℕ). RoleIs (d.world.nodes i) e) (sym to) (stands.roles.each t e below there)) (subst (λ (i : ℕ). is_over_rvg (d.world.nodes i) ≡ false) (sym to) off) (subst (λ (i : ℕ). SiteStands (beside_of d i) (d.world.nodes i) e) (sym to) (stands.disk_sets.sites t e below there)) refl
     (record { flight = refl; assemblies = refl; feeders = refl }) (λ tells. tells)
 
 pub returns-in_err-said-clause-told : goal.returns-in_err-said-clause-told
@@ -63,7 +64,7 @@ returns-in_err-said-clause-leads g c = λ d p k x stands off carries good at to 
     let fed = get_at old.feeders.items t c.index_mut-2.result.now c.requires.feeder c.index_mut-2.ensures.value in
     let was = get_at old.assemblies.items t c.index_mut-3.result.now c.requires.place c.index_mut-3.ensures.value in
     behind_short d (Deliver c.args.number) old _ before after t c.from_residual.result _ (err_from_is_err_and c.from_residual.result c.from_residual.ensures.1).1 stands below
-    (record { there = there; later = c.deliver_update.ensures.later; disk_sets = refl; racks = refl }) c.deliver_update.ensures.still (c.deliver_update.ensures.role.kept (d.world.nodes t) (stands.roles.each t before below there)) c.in_err-said.ensures.stands refl
+    (record { there = there; later = c.deliver_update.ensures.later; disk_sets = refl; racks = refl }) c.deliver_update.ensures.still (c.deliver_update.ensures.role.kept (d.world.nodes t) (stands.roles.each t before below there)) off c.in_err-said.ensures.stands refl
     (record {
       flight = c.in_err-said.ensures.unsent;
       assemblies = ap (λ b. slice_set old.assemblies.items t b) c.in_err-said.ensures.assembly ∙ set_same old.assemblies.items t c.index_mut-3.result.now was;
@@ -100,6 +101,7 @@ returns-in-Taken-clause-leads g c = λ d p k x stands off carries good at to bel
       below = below;
       changed = record { there = there; later = c.deliver_update.ensures.later; disk_sets = refl; racks = refl };
       role = c.deliver_update.ensures.role.kept (d.world.nodes t) role;
+      off = off;
       handed = record { assemblies = refl; feeders = refl; below = c.requires.few; told = told };
       took = subst (λ r. TookTo d.world c.args.number p k (beside_of d t) after feeder was a old.flight flight r) c.in-Taken.is took;
       exact = λ tells.
@@ -148,6 +150,7 @@ returns-in_default g c = record {
         below = below;
         changed = record { there = there; later = c.deliver_update.ensures.later; disk_sets = refl; racks = refl };
         role = c.deliver_update.ensures.role.kept (d.world.nodes t) role;
+        off = off;
         handed = record { assemblies = refl; feeders = refl; below = c.requires.few; told = told };
         took = subst (λ r. TookTo d.world c.args.number p k (beside_of d t) after feeder was a old.flight flight r) ignored took;
         exact = λ tells.

@@ -1,5 +1,5 @@
 -- A greeting or an acknowledgement at its target, case by case.
-use Rattle.std.proofs.Common.{◌≡◌, ◌⊎◌, ◌∙◌, ◌<◌, ℕ, ap, sym, subst, refl}
+use Rattle.std.proofs.Common.{◌≡◌, ◌⊎◌, ◌∙◌, ◌<◌, ℕ, ap, false, sym, subst, refl}
 use Rattle.std.specs.Prelude.{Result, Some, Err, slice_get, slice_set}
 use Rattle.std.proofs.lemmas.List.{with_items_is}
 use Rattle.vx_model.specs.declared.errors.Stop.{Stop}
@@ -16,6 +16,7 @@ use Rattle.vx_diskset.specs.Burning.{NoMore}
 use Rattle.vx_diskset.specs.Holds.{beside_of}
 use Rattle.vx_diskset.specs.Stands.{SiteStands}
 use Rattle.vx_events.specs.LinkedFacts.{link_fact, needed_by}
+use Rattle.vx_events.specs.RvgViews.{is_over_rvg}
 use Rattle.vx_events.specs.declared.said.Said.TheVariants.{Done, Ignored}
 use Rattle.vx_joins.proofs.TakesUpdate.{alone_same}
 use Rattle.vx_joins.proofs.UpdatesFit.{are_one}
@@ -48,7 +49,8 @@ returns-in_default-clause-leads g c = λ d p stands off carries good at to from 
     (λ small. c.in_default.ensures.deaf d.world p (event_for p.message) (c.deref.ensures.value ∙ stands.facts) refl to from below (subst (λ (i : ℕ). i < d.world.sites) from small)
     (λ over. over_unlinked d y c.args.target c.args.source (get_there y.disk_sets.items c.args.target c.requires.disk_set).0 stands below (get_there y.disk_sets.items c.args.target c.requires.disk_set).1 over) (listed d stands.links)
     (hears_as d c.args.number p at answers p.message answers)) in
-    unheard_stays d c.args.number p y e.0 at stands (subst (λ (i : ℕ). i < d.world.sites) (sym to) below) (subst (λ (i : ℕ). slice_get y.disk_sets.items i ≡ Some e.0) (sym to) e.1) is
+    unheard_stays d c.args.number p y e.0 at stands (subst (λ (i : ℕ). i < d.world.sites) (sym to) below) (subst (λ (i : ℕ). slice_get y.disk_sets.items i ≡ Some e.0) (sym to) e.1)
+    (subst (λ (i : ℕ). is_over_rvg (d.world.nodes i) ≡ false) (sym to) off) is
 
 pub returns-in_default-clause-told : goal.returns-in_default-clause-told
 returns-in_default-clause-told g c = λ told. told
@@ -145,7 +147,7 @@ returns-in-None-clause-leads g c = λ d p stands off carries good at to from bel
     let stop = stop_none c.in-Err.stop (sym c.refusal.ensures ∙ c.in-None.is) in
     let same : after ≡ before = c.in-Err.ensures.short (ap (λ (x : Stop). let r : Result EventSaid Stop = Err x in r) stop) in
     behind_short d (Deliver c.args.number) old _ before after t (Err (record {})) (record {}) refl stands below (record { there = there; later = c.hear-said.ensures.later; disk_sets = refl; racks = refl })
-    (subst (λ e. LeavesAlone before e) (sym same) (alone_same before)) (role_kept d old t before after stands below there c.hear-said.ensures.role)
+    (subst (λ e. LeavesAlone before e) (sym same) (alone_same before)) (role_kept d old t before after stands below there c.hear-said.ensures.role) off
     (λ beside n stood. subst (λ e. SiteStands beside n e) (sym same) stood) refl
     (record {
       flight = refl;

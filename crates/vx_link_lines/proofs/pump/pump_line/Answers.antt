@@ -74,10 +74,10 @@ returns-in-Ok-clause-leads g c = λ d stands off carries.
     (λ tells.
     let moved = moved_named d old p q s c.link_named.result.link c.pump.new.link c.pump.new.flight asks
     (c.in-Ok.ensures.pumped d asks.place stood asks.origin asks.up none asks.running ((was tells).each s before at) asks.kept asks.link_is carries.flight) in
-    pump_brings d old _ s before after stands carries asks.seat.below (record { there = at; later = c.in-Ok.ensures.later; disk_sets = refl; racks = refl }) c.in-Ok.ensures.still c.in-Ok.ensures.stands c.in-Ok.ensures.role
+    pump_brings d old _ s before after stands carries asks.seat.below (record { there = at; later = c.in-Ok.ensures.later; disk_sets = refl; racks = refl }) c.in-Ok.ensures.still c.in-Ok.ensures.stands c.in-Ok.ensures.role none
     (record { assemblies = refl; feeders = refl }) was p q c.keep_pumped.new.sites (c.keep_pumped.ensures.world d.world c.pump.new.flight (c.deref_mut.ensures.value ∙ stands.facts) moved.link moved.flight) items)
     (λ untold.
-    pump_finds d old _ s before after stands carries asks.seat.below (record { there = at; later = c.in-Ok.ensures.later; disk_sets = refl; racks = refl }) c.in-Ok.ensures.still c.in-Ok.ensures.stands c.in-Ok.ensures.role
+    pump_finds d old _ s before after stands carries asks.seat.below (record { there = at; later = c.in-Ok.ensures.later; disk_sets = refl; racks = refl }) c.in-Ok.ensures.still c.in-Ok.ensures.stands c.in-Ok.ensures.role none
     (record { assemblies = refl; feeders = refl }) was p q c.keep_pumped.new.sites untold
     (sent_named d old p q s c.link_named.result.link old.flight c.pump.new.flight asks (c.in-Ok.ensures.more (beside_of d s) (d.world.nodes s) stood))
     (c.keep_pumped.ensures.facts d.world (c.deref_mut.ensures.value ∙ stands.facts) (pumped_named d old p q s c.link_named.result.link c.pump.new.link asks (c.in-Ok.ensures.rule (beside_of d s) (d.world.nodes s) stood))) items)
@@ -99,7 +99,7 @@ returns-in-Err-clause-leads g c = λ d stands off carries.
     let stood = stands.disk_sets.sites s before asks.seat.below at in
     let none = none_seat d old p s stands c.site_of-here.ensures.seat asks.seat.apart off in
     let was = told_before es s before after at c.in-Err.ensures.later in
-    pump_stops d old _ s before after stands carries asks.seat.below (record { there = at; later = c.in-Err.ensures.later; disk_sets = refl; racks = refl }) c.in-Err.ensures.still c.in-Err.ensures.stands c.in-Err.ensures.role
+    pump_stops d old _ s before after stands carries asks.seat.below (record { there = at; later = c.in-Err.ensures.later; disk_sets = refl; racks = refl }) c.in-Err.ensures.still c.in-Err.ensures.stands c.in-Err.ensures.role none
     (record { assemblies = refl; feeders = refl }) was p q c.pump.new.flight c.in-Err.stop c.stopped.result (subst (λ (a : Action). PumpStop (d.world.nodes s) a (faults_at before) (faults_at after) c.in-Err.stop) (asked_named d old p q s c.link_named.result.link asks) (c.in-Err.ensures.stops (beside_of d s) (d.world.nodes s) stood asks.origin asks.up none asks.running))
     (λ why same other tells.
     pump_told d.world s c.link_named.result.link.site c.pump.new.link c.pump.new.flight (faults_at before) (faults_at after) c.in-Err.stop
