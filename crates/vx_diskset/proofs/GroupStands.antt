@@ -52,7 +52,7 @@ module _ (n k : Node) (like : IsLikeGroup n k) where
     unarmed = it.unarmed;
   }
 
-  up_like : (note : GroupNode) (told : Bool) (core : GroupCore) (m : Meaning) → GroupUp n note told core m → GroupUp k note told core m
+  pub up_like : (note : GroupNode) (told : Bool) (core : GroupCore) (m : Meaning) → GroupUp n note told core m → GroupUp k note told core m
   up_like note told core m it = record {
     lit = it.lit;
     noted = noted_like note it.noted;
@@ -61,7 +61,7 @@ module _ (n k : Node) (like : IsLikeGroup n k) where
     at = record { state = sym like.state ∙ it.at.state; up = it.at.up; lies = lies_as n k note core m like.disks like.blocks it.at.lies };
   }
 
-  away_like : (note : GroupNode) (agreed told : Bool) (m : Meaning) → GroupAway n note agreed told m → GroupAway k note agreed told m
+  pub away_like : (note : GroupNode) (agreed told : Bool) (m : Meaning) → GroupAway n note agreed told m → GroupAway k note agreed told m
   away_like note agreed told m it = record {
     lit = it.lit;
     agrees = it.agrees;
@@ -81,7 +81,7 @@ module _ (n k : Node) (like : IsLikeGroup n k) where
     };
   }
 
-  down_like : (note : GroupNode) (agreed told : Bool) (m : Meaning) → GroupDown n note agreed told m → GroupDown k note agreed told m
+  pub down_like : (note : GroupNode) (agreed told : Bool) (m : Meaning) → GroupDown n note agreed told m → GroupDown k note agreed told m
   down_like note agreed told m it = record {
     lit = it.lit;
     agrees = it.agrees;

@@ -25,6 +25,7 @@ pub mod OverKept
 pub mod OverPlain
 pub mod OverReads
 pub mod OverReceivers
+pub mod OverAsked
 pub mod OverAway
 pub mod OverSettles
 pub mod OverMaking
@@ -62,6 +63,7 @@ pub mod MakeRoom
 pub mod MakeSites
 pub mod Mores
 pub mod NeedLemmas
+pub mod NotedLikes
 pub mod OverGroups
 pub mod OverImports
 pub mod OverSets
@@ -86,6 +88,7 @@ pub mod WriteGroup
 pub mod WriteLeaves
 pub mod Zeroes
 pub mod OverStarting
+pub mod OverStays
 pub mod UnitsLie
 pub mod OverRising
 pub mod OverRisen

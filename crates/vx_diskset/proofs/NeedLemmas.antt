@@ -27,7 +27,6 @@ use Rattle.vx_diskset.specs.declared.over_set.OverSite.TheVariants.{Origin as Or
 use Rattle.vx_diskset.specs.DiskSets.{CanWrite}
 use Rattle.vx_diskset.specs.Needs.{HasRoom, NoneNeeds, TakesAs, hold_of, is_needing}
 use Rattle.vx_model.specs.declared.state.State.{State}
-use Rattle.vx_rvg.specs.declared.group.Rvg.{Rvg}
 use Rattle.vx_diskset.specs.Stands.{IsUpAt, StandsAlone, OverStands}
 use Rattle.vx_diskset.proofs.GroupStands.{up_has_none}
 use Rattle.vx_diskset.proofs.ExactWrite.{taken_push, taken_same}
@@ -208,13 +207,11 @@ used_is n c m above up none sound low =
 pub used_none : {beside : KeptBeside} (n : Node) (c : Core) (m : Meaning) (above : ℕ) → IsUpAt beside n c m → n.halted ≡ None → last_of c ≤ above → 0 ≡ logged_blocks (drop above n.log)
 used_none n c m above up none past = sym (ap (λ (ws : List Write). logged_blocks ws) (drop_all above n.log (omega (arith, past, up.head, up.durable none))))
 
-module _ {R : Type 0} {g : Ghosts R} where
-  -- what a link needs of a log is there
-  pub low_needed : (beside : KeptBeside) (n : Node) (rvg : Rvg R g) (k above : ℕ) (l : KeptLink) → IsUpAt beside n rvg.core (g.meaning rvg.shelf) → n.halted ≡ None → IsTrue (g.meaning rvg.shelf).tells → slice_get beside.links k ≡ Some l → is_needing l ≡ true → hold_of l ≤ above
-      → rvg.core.log.header.low ≤ above + 1
-  low_needed beside n rvg k above l up none told there needing is =
-      let stood = up.content none told in
-      let state : rvg.core.log.header.state.links ≡ beside.links = ap (λ (s : State). s.links) up.kept ∙ up.linked told in
-      let needs : NoneNeeds beside.links (stood.held.low - 1) = subst (λ (ls : List KeptLink). NoneNeeds ls (stood.held.low - 1)) state stood.needs in
-      let far = needs.each k l there needing in
-      omega (arith, far, is, stood.stands.low)
+-- what a link needs of a log is there
+pub low_needed : (beside : KeptBeside) (n : Node) (c : Core) (m : Meaning) (k above : ℕ) (l : KeptLink) → IsUpAt beside n c m → n.halted ≡ None → IsTrue m.tells → slice_get beside.links k ≡ Some l → is_needing l ≡ true → hold_of l ≤ above → c.log.header.low ≤ above + 1
+low_needed beside n c m k above l up none told there needing is =
+    let stood = up.content none told in
+    let state : c.log.header.state.links ≡ beside.links = ap (λ (s : State). s.links) up.kept ∙ up.linked told in
+    let needs : NoneNeeds beside.links (stood.held.low - 1) = subst (λ (ls : List KeptLink). NoneNeeds ls (stood.held.low - 1)) state stood.needs in
+    let far = needs.each k l there needing in
+    omega (arith, far, is, stood.stands.low)

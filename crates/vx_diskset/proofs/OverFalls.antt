@@ -105,8 +105,9 @@ module _ {R : Type 0} {g : Ghosts R} where
     fell_seen told = subst (λ (x : DiskSet R g). IsToldAt x) (sym is) (sym (told_by pick (site_in o) (site_in s) it) ∙ told)
 
     -- what its site notes of the group falls with it
-    pub fell_notes : ((n : Node) (note : GroupNode) → CutNoted n note (site_in o) → DownNoted (crashed n 0) note (site_in s)) → s.cut ≡ o.cut → OversFall e (Over s)
-    fell_notes fallen cut = subst (λ (x : DiskSet R g). OversFall x (Over s)) (sym is) (record { fallen = fallen; counts = counts_by pick (site_in o) (site_in s) it; cut = cut })
+    pub fell_notes : ((n : Node) (note : GroupNode) → CutNoted n note (site_in o) → DownNoted (crashed n 0) note (site_in s)) → ((n : Node) (note : GroupNode) → UpNoted n note (site_in o) → DownNoted (crashed n 0) note (site_in s))
+        → s.cut ≡ o.cut → OversFall e (Over s)
+    fell_notes fallen up cut = subst (λ (x : DiskSet R g). OversFall x (Over s)) (sym is) (record { fallen = fallen; up = up; counts = counts_by pick (site_in o) (site_in s) it; cut = cut })
 
     pub fell_role : ((n : Node) → RoleBy n (above_in s)) → KeepsRole e (Over s)
     fell_role role = record { kept = λ n was. role n }

@@ -53,7 +53,7 @@ units_same note next was now first last same =
 -- ---- what is noted of a site
 
 module _ {R : Type 0} {g : Ghosts R} where
-  noted_up : (beside : KeptBeside) (n : Node) (note : GroupNode) (s : OverSite R g) → OverStands beside n s → n.state ≡ IsUp → NotedOn (below_rvg n) note (below_site s) → UpNoted (below_rvg n) note (below_site s)
+  pub noted_up : (beside : KeptBeside) (n : Node) (note : GroupNode) (s : OverSite R g) → OverStands beside n s → n.state ≡ IsUp → NotedOn (below_rvg n) note (below_site s) → UpNoted (below_rvg n) note (below_site s)
   noted_up beside n note (OriginSite f) stands up it = it
   noted_up beside n note (ReceiverSite f) stands up it = it
   noted_up beside n note (GroupAway idle) stands up it = absurd (let clash : IsAway ≡ IsUp = sym stands.0 ∙ up in cc)
@@ -74,7 +74,7 @@ module _ {R : Type 0} {g : Ghosts R} where
   up_group k note (Marked rack) it = absurd it
   up_group k note Gone it = absurd it
 
-  up_noted : (k : Node) (note : GroupNode) (e : GroupSite R g) → UpNoted k note e → NotedOn k note e
+  pub up_noted : (k : Node) (note : GroupNode) (e : GroupSite R g) → UpNoted k note e → NotedOn k note e
   up_noted k note (Up laid) it = it
   up_noted k note (Deported idle) it = absurd it
   up_noted k note (Down idle) it = absurd it
@@ -103,7 +103,7 @@ module _ {R : Type 0} {g : Ghosts R} where
   has_down c k note Gone it = absurd it
 
   -- a site that crashed, as its group has it
-  down_again : (k : Node) (note : GroupNode) (e : GroupSite R g) → k.group ≡ Some note → DownNoted (crashed (below_rvg k) 0) note e → NotedOn (below_rvg (crashed k 0)) note e
+  pub down_again : (k : Node) (note : GroupNode) (e : GroupSite R g) → k.group ≡ Some note → DownNoted (crashed (below_rvg k) 0) note e → NotedOn (below_rvg (crashed k 0)) note e
   down_again k note (Up laid) is it = absurd it
   down_again k note (Deported idle) is it = absurd it
   down_again k note (Down idle) is it = record {

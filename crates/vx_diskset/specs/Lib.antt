@@ -28,5 +28,6 @@ pub mod Withdrawn
 pub mod Zeroing
 pub mod Zeros
 pub mod Works
+pub mod OverAsks
 pub mod OverKeeps
 pub mod OverStarts

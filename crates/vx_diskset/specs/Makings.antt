@@ -100,9 +100,9 @@ module _ {R : Type 0} {g : Ghosts R} where
   MakesRvgIs site n note units c old new below (Err (Refused other)) = ⊥
 
   abbrev pub below_in : DiskSet R g → GroupSite R g → GroupSite R g
-  below_in (OfGroup s) none = s.site
-  below_in (Over s) none = site_in s
-  below_in other none = none
+  below_in (OfGroup s) else_site = s.site
+  below_in (Over s) else_site = site_in s
+  below_in other else_site = else_site
 
   -- any other site is not one of a group alone, and stays as it is
   abbrev pub MadeOver : ℕ → Node → GroupNode → Units → Config → DiskSet R g → DiskSet R g → Result (Unit {0}) Stop → Type 0

@@ -35,6 +35,16 @@ below_rvg n = record n { role = Primary; volumes = []; log = []; safe = 0; halte
 abbrev pub AgreesStill : GroupNode → GroupNode → Meaning → Meaning → Type 0
 AgreesStill note next old new = note.loose ≡ false → note.begun ≡ [] → (DeviceRose old new → ⊥) → (next.loose ≡ false) × (next.begun ≡ [])
 
+-- a site whose group is noted as that of another one is
+pub record NotesAs (n m : Node) : Type 0 where
+  pub name : m.name ≡ n.name
+  pub disks : m.disks ≡ n.disks
+  pub blocks : m.blocks ≡ n.blocks
+  pub volumes : m.volumes ≡ n.volumes
+  pub group : m.group ≡ n.group
+  pub state : m.state ≡ n.state
+  pub fuse : m.fuse ≡ n.fuse
+
 -- the site of this node, whose disks crashed
 pub record FellAs (n m : Node) : Type 0 where
   pub name : m.name ≡ n.name
@@ -103,6 +113,17 @@ module _ {R : Type 0} {g : Ghosts R} where
     pub cut : cut_value new.cut ≡ cut_value old.cut
     pub each : (n : Node) (note : GroupNode) → UpNoted n note (site_in old) → UpNoted (record n { fuse = FuseSet calls }) note (site_in new)
 
+  -- the same of disk sets: of others nothing is said
+  abbrev pub OversStay : DiskSet R g → DiskSet R g → Type 0
+  OversStay (Over old) (Over new) = StaysNoted old new
+  OversStay (Over old) other = ⊥
+  OversStay old new = Unit {0}
+
+  abbrev pub OversFused : ℕ → DiskSet R g → DiskSet R g → Type 0
+  OversFused calls (Over old) (Over new) = FusesNoted calls old new
+  OversFused calls (Over old) other = ⊥
+  OversFused calls old new = Unit {0}
+
   -- So it is of disks that are below a replicated volume group, which are down behind the call exactly where it was answered 6; of others it says nothing.
   abbrev pub OversCalled : {T : Type 0} → DiskSet R g → DiskSet R g → Result T No → Type 0
   OversCalled (Over old) (Over new) r = OverCalled old new × (IsFalse (site_disks (site_in old)).down → OffIf r (site_disks (site_in new)).down)
@@ -112,6 +133,7 @@ module _ {R : Type 0} {g : Ghosts R} where
   -- the crash behind it
   pub record OverFalls (old new : OverSet R g) : Type 0 where
     pub fallen : (n : Node) (note : GroupNode) → CutNoted n note (site_in old) → DownNoted (crashed n 0) note (site_in new)
+    pub up : (n : Node) (note : GroupNode) → UpNoted n note (site_in old) → DownNoted (crashed n 0) note (site_in new)
     pub counts : (d : ℕ) → (site_disks (site_in new)).disk_faults d ≡ (site_disks (site_in old)).disk_faults d
     pub cut : new.cut ≡ old.cut
 

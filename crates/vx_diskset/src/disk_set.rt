@@ -4,7 +4,7 @@ ghost use Rattle.vx_events.specs.GroupLines.{is_over_group};
 ghost use Rattle.vx_diskset.specs.Holds.{KeptBeside};
 ghost use Rattle.vx_history.specs.World.{Node};
 ghost use Rattle.vx_diskset.specs.DiskSets.{Later};
-ghost use Rattle.vx_diskset.specs.Noted.{OversFall};
+ghost use Rattle.vx_diskset.specs.Noted.{OversFall, OversFused, OversStay};
 ghost use Rattle.vx_diskset.specs.Stands.{KeepsRole, SiteStands};
 ghost use Rattle.vx_rvg.specs.Views.{last_of};
 ghost use Rattle.vx_model.specs.declared.limits.TheConstants.{MOST_NUMBER};
@@ -84,6 +84,7 @@ impl<R: Rack> DiskSet<R> {
     pub fn fail(&mut self, disk: u64, on: bool)
         ensures stands { (beside : KeptBeside) (n : Node) → SiteStands beside n self.old → SiteStands beside n self.new }
         ensures asked { disk < units_in self.old → SetsDisk disk on self.old self.new }
+        ensures noted { OversStay self.old self.new }
         ensures role { KeepsRole self.old self.new }
         ensures later { Later self.old self.new }
     {
@@ -105,6 +106,7 @@ impl<R: Rack> DiskSet<R> {
     pub fn fuse(&mut self, calls: u64, pick: u64)
         ensures fused { (beside : KeptBeside) (n : Node) → SiteStands beside n self.old → n.state ≡ UpState → SiteStands beside (record n { fuse = FuseSet calls }) self.new }
         ensures asked { (beside : KeptBeside) (n : Node) → SiteStands beside n self.old → n.state ≡ UpState → SetsFuse calls pick self.old self.new }
+        ensures noted { OversFused calls self.old self.new }
         ensures role { KeepsRole self.old self.new }
         ensures later { Later self.old self.new }
     {

@@ -1,9 +1,12 @@
 // What is asked of the replicated volume group of a site over a disk group.
-ghost use Rattle.std.specs.Prelude.{◌≡◌, Some, option_copied, true};
+ghost use Rattle.std.specs.Prelude.{◌≡◌, ◌≤◌, IfSome, IsSome, Some, option_copied, true};
 ghost use Rattle.vx_config.specs.Checks.{is_sound};
 ghost use Rattle.vx_config.specs.declared.config.Config.{Config as ConfigValue};
 ghost use Rattle.vx_diskset.specs.Aboves.{above_in, core_of, is_receiver, site_in};
+ghost use Rattle.vx_diskset.specs.OverAsks.{UsesOver, core_last, core_session, core_state, many_received, many_waiting};
 ghost use Rattle.vx_grouped.specs.GroupSites.{site_config};
+ghost use Rattle.vx_model.specs.declared.limits.TheConstants.{MOST_NUMBER};
+ghost use Rattle.vx_srlfmt.specs.Headers.{CanSpellState};
 
 use crate::disk_set::last_in;
 use crate::room::used_in;
@@ -58,42 +61,59 @@ impl<R: Rack> OverSet<R> {
         }
     }
 
-    pub(crate) fn last(&self) -> u64 {
+    pub(crate) fn last(&self) -> u64
+        ensures is { result ≡ core_last (core_of (above_in self.now)) }
+        ensures few { result ≤ MOST_NUMBER }
+    {
         match self.core() {
             Some(core) => last_in(core),
             None => 0,
         }
     }
 
-    pub(crate) fn state(&self) -> Option<&State> {
+    pub(crate) fn state(&self) -> Option<&State>
+        ensures is { IfSome result (λ state. Some state.now ≡ core_state (core_of (above_in self.now))) }
+        ensures some { IsSome (core_of (above_in self.now)) → IsSome result }
+        ensures spelled { IfSome result (λ state. CanSpellState state.now) }
+    {
         match self.core() {
             Some(core) => Some(core.state()),
             None => None,
         }
     }
 
-    pub(crate) fn session(&self) -> u64 {
+    pub(crate) fn session(&self) -> u64
+        ensures is { result ≡ core_session (core_of (above_in self.now)) }
+        ensures few { result ≤ MOST_NUMBER }
+    {
         match self.core() {
             Some(core) => core.session(),
             None => 0,
         }
     }
 
-    pub(crate) fn used(&self, above: u64) -> Option<u64> {
+    pub(crate) fn used(&self, above: u64) -> Option<u64>
+        ensures { UsesOver (above_in self.now) above result }
+    {
         match &self.site {
             OverSite::Origin(founded) => used_in(&founded.core, above),
-            _ => None,
+            OverSite::Receiver(_) | OverSite::Deported(_) | OverSite::Down(_) | OverSite::Gone =>
+                None,
         }
     }
 
-    pub(crate) fn waiting(&self) -> u32 {
+    pub(crate) fn waiting(&self) -> u32
+        ensures { result ≡ many_waiting (above_in self.now) }
+    {
         match &self.site {
             OverSite::Receiver(founded) => founded.waiting.len(),
-            _ => 0,
+            OverSite::Origin(_) | OverSite::Deported(_) | OverSite::Down(_) | OverSite::Gone => 0,
         }
     }
 
-    pub(crate) fn received(&self) -> u64 {
+    pub(crate) fn received(&self) -> u64
+        ensures { result ≡ many_received (above_in self.now) }
+    {
         match &self.site {
             OverSite::Origin(founded) => founded.core.head(),
             OverSite::Receiver(founded) => {

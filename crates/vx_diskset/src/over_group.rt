@@ -22,7 +22,6 @@ ghost use Rattle.vx_diskset.specs.MakeSteps.{LoggedOn, MadeOn, NamedOn, RefusedO
 ghost use Rattle.vx_diskset.specs.Makings.{IsFirstSite, MadeOver, UpOrFell};
 ghost use Rattle.vx_diskset.specs.Works.{DoesMake, DoesRewrite};
 ghost use Rattle.vx_diskset.specs.declared.above.Above.TheVariants.{Origin as OriginAbove};
-ghost use Rattle.vx_disk.specs.Shelf.{Meaning};
 ghost use Rattle.vx_ground.specs.Accounts.{GroundSince, ground_state};
 ghost use Rattle.vx_ground.specs.Lifted.{laid_volumes};
 ghost use Rattle.vx_model.specs.States.{first_state};
@@ -45,7 +44,7 @@ use vx_rvg::RvgCore;
 
 // A group that stays up where its disks are, with this answer. Where its fuse ran out it crashes, and says so.
 fn stays<R: Rack>(laid: Laid<R>, why: Stop) -> (GroupSite<R>, Stop)
-    ensures since { (first : Meaning) → CalledSince first (laid_disks laid) → CalledSince first (site_disks result.0) }
+    ensures since { CalledSince (laid_disks laid) (site_disks result.0) }
     ensures told { TellsLess (laid_below laid) (site_below result.0) }
     ensures calm { UpOrFell result.0 }
     ensures stays { StaysWith laid why result.0 result.1 }

@@ -1,7 +1,6 @@
 // The room that writes take in the log of a site.
 ghost use Rattle.std.specs.Prelude.{◌≡◌, ◌≤◌, ◌<◌, ◌+◌, ◌-◌, None, Some, IfSome, IsSome, List, ℕ, drop, slice_get, true, false};
 ghost use Rattle.vx_events.specs.GroupLines.{is_over_group};
-ghost use Rattle.vx_disk.specs.Shelf.{Meaning};
 ghost use Rattle.vx_model.specs.Sites.{is_origin};
 ghost use Rattle.vx_model.specs.declared.state.KeptLink.{KeptLink};
 ghost use Rattle.vx_diskset.specs.Holds.{KeptBeside};
@@ -9,7 +8,9 @@ ghost use Rattle.vx_model.specs.declared.site.SiteState.TheVariants.{Up as UpSta
 ghost use Rattle.vx_history.specs.Events.{logged_blocks};
 ghost use Rattle.vx_history.specs.World.{Node};
 ghost use Rattle.vx_diskset.specs.Needs.{hold_of, is_needing};
-ghost use Rattle.vx_diskset.specs.Stands.{IsToldAt, IsUpAt, SiteStands};
+ghost use Rattle.vx_diskset.specs.Stands.{IsToldAt, SiteStands};
+ghost use Rattle.vx_rvg.specs.Views.{last_of};
+ghost use Rattle.vx_srl.specs.Views.{blocks_above};
 
 use crate::DiskSet;
 use vx_disk::Rack;
@@ -17,7 +18,9 @@ use vx_rvg::RvgCore;
 
 // The blocks that the numbers above one take in the log of a group, if it holds all of them.
 pub(crate) fn used_in(core: &RvgCore, above: u64) -> Option<u64>
-    ensures is { (beside : KeptBeside) (n : Node) (m : Meaning) → IsUpAt beside n core.now m → n.halted ≡ None → IfSome result (λ blocks. blocks ≡ logged_blocks (drop above n.log)) }
+    ensures low { IfSome result (λ blocks. core.now.log.header.low ≤ above + 1) }
+    ensures past { last_of core.now ≤ above → IfSome result (λ blocks. blocks ≡ 0) }
+    ensures is { above < last_of core.now → IfSome result (λ blocks. blocks ≡ blocks_above core.now.log above) }
     ensures some { core.now.log.header.low ≤ above + 1 → IsSome result }
 {
     // Numbers are above 0.

@@ -3,6 +3,7 @@ pub mod Bearing
 pub mod Blocks
 pub mod Calm
 pub mod DataNamed
+pub mod DataPlaces
 pub mod GroupStopping
 pub mod RvgStopping
 pub mod RvgEnding

@@ -30,6 +30,7 @@ use Rattle.vx_yard.proofs.Alike.{apart_place}
 use Rattle.vx_yard.specs.Standing.{IsSameSite}
 use Rattle.vx_yard.proofs.OneSite.{Comes}
 use Rattle.vx_yard.proofs.SiteEvents.{first_choice}
+use Rattle.vx_effects.proofs.Effects.{changes_then}
 
 -- the world in which a site has this node
 abbrev pub with_one : Doubted → (s : ℕ) → Node → Doubted
@@ -47,7 +48,7 @@ changes_one d s n = record {
 
 -- a node of which nothing changed but what is noted of its disks
 abbrev pub IsNoted : Node → Node → Type 0
-IsNoted n m = m ≡ record n { fuse = m.fuse; failing = m.failing }
+IsNoted n m = m ≡ record n { fuse = m.fuse; failing = m.failing; group = m.group }
 
 -- links fit as well
 fits_one : (d : Doubted) (s : ℕ) (n : Node) → IsNoted (d.world.nodes s) n → LinksFit d → LinksFit (with_one d s n)
@@ -108,6 +109,18 @@ module _ {R : Type 0} {g : Ghosts R} where
               volumes = w.volumes ∙ sym (ap (λ (m : Node). m.volumes) noted);
             });
       }
+
+  -- one thing behind another
+  pub comes_then : (d e f : Doubted) (s : ℕ) (mid after : DiskSet R g) → Comes d e s mid → Comes e f s after → Comes d f s after
+  comes_then d e f s mid after first second = record {
+    changes = changes_then s d e f first.changes second.changes;
+    links = second.links;
+    stands = second.stands;
+    failing = second.failing;
+    fuse = second.fuse;
+    role = second.role;
+    doubt = λ was a is. second.doubt (first.doubt was) a is;
+  }
 
   -- a site of which nothing is noted
   pub comes_same : (d : Doubted) (s : ℕ) (after : DiskSet R g) → LinksFit d → SiteStands (beside_of d s) (d.world.nodes s) after → FailsAs (d.world.nodes s) after → FusedAs (d.world.nodes s) after → RoleIs (d.world.nodes s) after → Comes d d s after

@@ -1,3 +1,4 @@
+pub mod AboveLines
 pub mod BothSites
 pub mod Carries
 pub mod Changes

@@ -6,7 +6,7 @@ use Rattle.vx_group.specs.declared.group_core.GroupCore.{GroupCore}
 use Rattle.vx_watched.specs.Since.{CalledSince}
 use Rattle.vx_watched.specs.Traces.{TellsLess}
 use Rattle.vx_watched.proofs.SinceLemmas.{since_none}
-use Rattle.vx_grouped.specs.GroupSites.{laid_disks, site_below, site_disks}
+use Rattle.vx_grouped.specs.GroupSites.{site_below, site_disks}
 use Rattle.vx_diskset.specs.Aboves.{AboveStays}
 use Rattle.vx_model.specs.States.{first_state}
 use Rattle.vx_diskset.specs.MakeSteps.{MadeOn, RefusedOn}
@@ -32,7 +32,7 @@ returns-then-not-may-clause-made g c = λ n note config noted up first has none 
     absurd (let clash : true ≡ false = sym here ∙ ap (λ (k : GroupCore). is_group k.inner.config.volumes c.args.units.now) c.can_name-laid.ensures.core ∙ sym c.can_name-laid.ensures.is ∙ c.if-not-may.true in cc)
 
 pub returns-then-not-may-clause-since : goal.returns-then-not-may-clause-since
-returns-then-not-may-clause-since g c = since_in c.args.group.site c.in-Up.laid c.can_name-laid.result.0 (c.stays-below.result.0) c.in-Up.is c.can_name-laid.ensures.shelf (c.stays-below.ensures.since (laid_disks c.can_name-laid.result.0) (since_none (laid_disks c.can_name-laid.result.0)))
+returns-then-not-may-clause-since g c = since_in c.args.group.site c.in-Up.laid c.can_name-laid.result.0 (c.stays-below.result.0) c.in-Up.is c.can_name-laid.ensures.shelf c.stays-below.ensures.since
 
 pub returns-then-not-may-clause-told : goal.returns-then-not-may-clause-told
 returns-then-not-may-clause-told g c = told_in c.args.group.site c.in-Up.laid c.can_name-laid.result.0 (c.stays-below.result.0) c.in-Up.is c.can_name-laid.ensures.shelf (c.stays-below.ensures.told)

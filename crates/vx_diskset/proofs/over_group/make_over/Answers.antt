@@ -49,7 +49,7 @@ pub returns-in-Err-clause-sound : goal.returns-in-Err-clause-sound
 returns-in-Err-clause-sound g c = tt
 
 pub returns-in-Err-clause-since : goal.returns-in-Err-clause-since
-returns-in-Err-clause-since g c = c.stays-below.ensures.since (laid_disks c.args.laid) c.rewrite_over-laid.ensures.since
+returns-in-Err-clause-since g c = since_both (laid_disks c.args.laid) (laid_disks c.rewrite_over-laid.result.0) (site_disks c.stays-below.result.0) c.rewrite_over-laid.ensures.since c.stays-below.ensures.since
 
 pub returns-in-Err-clause-told : goal.returns-in-Err-clause-told
 returns-in-Err-clause-told g c = λ told. c.rewrite_over-laid.ensures.told (c.stays-below.ensures.told told)

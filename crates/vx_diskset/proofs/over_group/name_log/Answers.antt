@@ -1,9 +1,9 @@
 -- The commit that names a replicated volume group.
 use Rattle.std.proofs.Common.{IsTrue, refl, subst}
 use Rattle.std.specs.Prelude.{OnOk}
-use Rattle.vx_grouped.specs.GroupSites.{laid_disks}
+use Rattle.vx_grouped.specs.GroupSites.{laid_disks, site_disks}
 use Rattle.vx_diskset.proofs.MakeStepping.{named_on, refused_name}
-use Rattle.vx_diskset.proofs.OverMaking.{sound_named}
+use Rattle.vx_diskset.proofs.OverMaking.{since_both, sound_named}
 use Rattle.vx_diskset.proofs.StaysUp.{not_true}
 use Rattle.vx_diskset.proofs.over_group.name_log.Goals as goal
 
@@ -32,7 +32,7 @@ pub returns-in-Err-clause-sound : goal.returns-in-Err-clause-sound
 returns-in-Err-clause-sound g c = tt
 
 pub returns-in-Err-clause-since : goal.returns-in-Err-clause-since
-returns-in-Err-clause-since g c = c.stays-below.ensures.since (laid_disks c.args.laid) c.name_over-laid.ensures.since
+returns-in-Err-clause-since g c = since_both (laid_disks c.args.laid) (laid_disks c.name_over-laid.result.0) (site_disks c.stays-below.result.0) c.name_over-laid.ensures.since c.stays-below.ensures.since
 
 pub returns-in-Err-clause-told : goal.returns-in-Err-clause-told
 returns-in-Err-clause-told g c = λ told. c.name_over-laid.ensures.told (c.stays-below.ensures.told told)

@@ -2,12 +2,12 @@
 use Rattle.std.proofs.Common.{◌∙◌, refl, sym}
 use Rattle.vx_disk.specs.Disks.{Crashed}
 use Rattle.vx_grouped.specs.GroupSites.{idle_disks, laid_disks}
-use Rattle.vx_watched.proofs.SinceLemmas.{since_stop}
+use Rattle.vx_watched.proofs.SinceLemmas.{since_none, since_stop}
 use Rattle.vx_diskset.proofs.over_group.stays.Goals as goal
 
 pub returns-then-is_down-clause-since : goal.returns-then-is_down-clause-since
-returns-then-is_down-clause-since g c = λ first since.
-    since_stop first (laid_disks c.args.laid) (idle_disks c.crash.result) (Crashed (laid_disks c.args.laid).size 0xffff_ffff_ffff_ffff) since (sym c.is_down.ensures ∙ c.if-is_down.true) c.crash.ensures.stopped c.crash.ensures.disks
+returns-then-is_down-clause-since g c =
+    since_stop (laid_disks c.args.laid) (laid_disks c.args.laid) (idle_disks c.crash.result) (Crashed (laid_disks c.args.laid).size 0xffff_ffff_ffff_ffff) (since_none (laid_disks c.args.laid)) (sym c.is_down.ensures ∙ c.if-is_down.true) c.crash.ensures.stopped c.crash.ensures.disks
 
 pub returns-then-is_down-clause-told : goal.returns-then-is_down-clause-told
 returns-then-is_down-clause-told g c = c.crash.ensures.told
@@ -29,7 +29,7 @@ returns-then-is_down-clause-stays g c = (
 )
 
 pub returns-clause-since : goal.returns-clause-since
-returns-clause-since g c = λ first since. since
+returns-clause-since g c = since_none (laid_disks c.args.laid)
 
 pub returns-clause-told : goal.returns-clause-told
 returns-clause-told g c = λ told. told

@@ -1,7 +1,9 @@
 -- `fail`: clause stands; the invariant of what it hands on.
-use Rattle.std.proofs.Common.{refl, subst}
+use Rattle.std.proofs.Common.{refl, subst, sym}
 use Rattle.vx_rvg.proofs.ReadStands.{rest_sound}
+use Rattle.vx_diskset.specs.Asked.{IsRawSet}
 use Rattle.vx_diskset.specs.Stands.{SiteStands}
+use Rattle.vx_diskset.proofs.OverStays.{stays_over, stays_raw}
 use Rattle.vx_diskset.proofs.RawSets.{receiver_there, up_there}
 use Rattle.vx_diskset.proofs.StartBare.{clean_read}
 use Rattle.vx_diskset.proofs.MakeGroup.{bare_still, up_still, fuse_still}
@@ -66,3 +68,24 @@ returns-in-Over-clause-role g c = set_role c.args.self.now c.in-Over.over c.fail
 
 pub returns-in-Over-clause-later : goal.returns-in-Over-clause-later
 returns-in-Over-clause-later g c = over_later c.args.self.now c.in-Over.over c.fail-in-Over.new.self c.in-Over.is c.fail-in-Over.ensures.later
+
+pub returns-in-Bare-clause-noted : goal.returns-in-Bare-clause-noted
+returns-in-Bare-clause-noted g c = stays_raw c.args.self.now _ (subst (λ e. IsRawSet e) (sym c.in-Bare.is) tt)
+
+pub returns-in-Spoiled-clause-noted : goal.returns-in-Spoiled-clause-noted
+returns-in-Spoiled-clause-noted g c = stays_raw c.args.self.now _ (subst (λ e. IsRawSet e) (sym c.in-Spoiled.is) tt)
+
+pub returns-in-Up-clause-noted : goal.returns-in-Up-clause-noted
+returns-in-Up-clause-noted g c = stays_raw c.args.self.now _ (subst (λ e. IsRawSet e) (sym c.in-Up.is) tt)
+
+pub returns-in-Receives-clause-noted : goal.returns-in-Receives-clause-noted
+returns-in-Receives-clause-noted g c = stays_raw c.args.self.now _ (subst (λ e. IsRawSet e) (sym c.in-Receives.is) tt)
+
+pub returns-in-Down-clause-noted : goal.returns-in-Down-clause-noted
+returns-in-Down-clause-noted g c = stays_raw c.args.self.now _ (subst (λ e. IsRawSet e) (sym c.in-Down.is) tt)
+
+pub returns-in-OfGroup-clause-noted : goal.returns-in-OfGroup-clause-noted
+returns-in-OfGroup-clause-noted g c = stays_raw c.args.self.now _ (subst (λ e. IsRawSet e) (sym c.in-OfGroup.is) tt)
+
+pub returns-in-Over-clause-noted : goal.returns-in-Over-clause-noted
+returns-in-Over-clause-noted g c = stays_over c.args.self.now c.in-Over.over c.fail-in-Over.new.self c.in-Over.is c.fail-in-Over.ensures.noted

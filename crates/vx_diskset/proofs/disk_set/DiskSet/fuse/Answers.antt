@@ -1,5 +1,8 @@
 -- `fuse`: clauses fused and asked.
+use Rattle.std.proofs.Common.{subst, sym}
 use Rattle.vx_history.specs.World.{FuseSet}
+use Rattle.vx_diskset.specs.Asked.{IsRawSet}
+use Rattle.vx_diskset.proofs.OverStays.{fused_over, fused_raw, fused_rest}
 use Rattle.vx_diskset.proofs.RawSets.{receiver_there, up_there}
 use Rattle.vx_diskset.proofs.Asking.{fuse_did}
 use Rattle.vx_diskset.proofs.FuseGroup.{up_fused}
@@ -50,3 +53,18 @@ returns-in-Over-clause-role g c = set_role c.args.self.now c.in-Over.over c.fuse
 
 pub returns-in-Over-clause-later : goal.returns-in-Over-clause-later
 returns-in-Over-clause-later g c = over_later c.args.self.now c.in-Over.over c.fuse-in-Over.new.self c.in-Over.is c.fuse-in-Over.ensures.later
+
+pub returns-in-Up-clause-noted : goal.returns-in-Up-clause-noted
+returns-in-Up-clause-noted g c = fused_raw c.args.calls c.args.self.now _ (subst (λ e. IsRawSet e) (sym c.in-Up.is) tt)
+
+pub returns-in-Receives-clause-noted : goal.returns-in-Receives-clause-noted
+returns-in-Receives-clause-noted g c = fused_raw c.args.calls c.args.self.now _ (subst (λ e. IsRawSet e) (sym c.in-Receives.is) tt)
+
+pub returns-in-OfGroup-clause-noted : goal.returns-in-OfGroup-clause-noted
+returns-in-OfGroup-clause-noted g c = fused_raw c.args.calls c.args.self.now _ (subst (λ e. IsRawSet e) (sym c.in-OfGroup.is) tt)
+
+pub returns-in-Over-clause-noted : goal.returns-in-Over-clause-noted
+returns-in-Over-clause-noted g c = fused_over c.args.calls c.args.self.now c.in-Over.over c.fuse-in-Over.new.self c.in-Over.is c.fuse-in-Over.ensures.noted
+
+pub returns-in_default-clause-noted : goal.returns-in_default-clause-noted
+returns-in_default-clause-noted g c = fused_rest c.args.calls c.args.self.now c.args.self.now c.in_default.not-Over

@@ -1,0 +1,82 @@
+-- What a site notes of its group below a replicated volume group, past calls and lines that leave the group alone, and past its crash.
+use Rattle.std.proofs.Common.{◌≡◌, ◌∙◌, ℕ, ap, refl, subst, sym}
+use Rattle.std.specs.Prelude.{Option, Some}
+use Rattle.vx_disk.specs.declared.shelf.Shelf.{Ghosts}
+use Rattle.vx_grouped.specs.GroupSites.{idle_below, idle_disks, laid_below, laid_disks}
+use Rattle.vx_grouped.specs.SetFuses.{HasFuse}
+use Rattle.vx_grouped.specs.declared.group_site.GroupSite.{GroupSite}
+use Rattle.vx_grouped.specs.declared.group_site.GroupSite.TheVariants.{Up, Deported, Down, Marked, Gone}
+use Rattle.vx_history.specs.Groups.{GroupNode}
+use Rattle.vx_history.specs.Steps.{crashed}
+use Rattle.vx_history.specs.World.{Fuse, FuseSet, Node}
+use Rattle.vx_model.specs.declared.site.SiteState.TheVariants.{Up as IsUp}
+use Rattle.vx_model.specs.declared.units.Units.{Units}
+use Rattle.vx_diskset.specs.Aboves.{InsideOf, site_in}
+use Rattle.vx_diskset.specs.GroupSets.{cut_value}
+use Rattle.vx_diskset.specs.Holds.{KeptBeside}
+use Rattle.vx_diskset.specs.Layouts.{units_by, units_of}
+use Rattle.vx_diskset.specs.Noted.{FellAs, FusesNoted, NotedAt, NotedOn, NotesAs, OverFalls, SiteNoted, StaysNoted, below_rvg}
+use Rattle.vx_diskset.specs.Stands.{SiteStands}
+use Rattle.vx_diskset.specs.declared.disk_set.DiskSet.TheVariants.{Over}
+use Rattle.vx_diskset.specs.declared.group_set.CutWrite.{CutWrite}
+use Rattle.vx_diskset.specs.declared.over_set.OverSet.{OverSet}
+use Rattle.vx_diskset.proofs.GroupStands.{IsLikeGroup, away_like, down_like, up_like}
+use Rattle.vx_diskset.proofs.OverNoted.{down_again, noted_up, up_noted}
+
+module _ (n m : Node) (like : NotesAs n m) where
+  like_below : IsLikeGroup (below_rvg n) (below_rvg m)
+  like_below = record {
+    state = sym like.state;
+    disks = sym like.disks;
+    blocks = sym like.blocks;
+    group = sym like.group;
+    none = λ none. record { role = refl; volumes = refl; log = refl; safe = refl; running = refl };
+    fuse = λ disks has. subst (λ (f : Fuse). HasFuse f disks) (sym like.fuse) has;
+    unfused = λ none. like.fuse ∙ none;
+  }
+
+  units_as : units_of n ≡ units_of m
+  units_as = ap (λ (o : Option GroupNode). units_by o n.disks) (sym like.group) ∙ ap (λ (d : ℕ). units_by m.group d) (sym like.disks)
+
+  module _ {R : Type 0} {g : Ghosts R} where
+    pub on_like : (note : GroupNode) (s : GroupSite R g) → NotedOn (below_rvg n) note s → NotedOn (below_rvg m) note s
+    on_like note (Up laid) it = up_like (below_rvg n) (below_rvg m) like_below note (laid_below laid).tells laid.core (laid_disks laid) it
+    on_like note (Deported idle) it = away_like (below_rvg n) (below_rvg m) like_below note idle.agreed (idle_below idle).tells (idle_disks idle) it
+    on_like note (Down idle) it = down_like (below_rvg n) (below_rvg m) like_below note idle.agreed (idle_below idle).tells (idle_disks idle) it
+    on_like note (Marked rack) it = absurd it
+    on_like note Gone it = absurd it
+
+    site_like : (note : GroupNode) (o : OverSet R g) → SiteNoted n note (Over o) → SiteNoted m note (Over o)
+    site_like note o it = (on_like note (site_in o) it.0, it.1, subst (λ (u : Units). InsideOf u note) units_as it.2)
+
+    -- by another node that has all by which a group is noted
+    pub noted_as : (o : OverSet R g) → NotedAt n (Over o) → NotedAt m (Over o)
+    noted_as o noted note is = site_like note o (noted note (sym like.group ∙ is))
+
+    -- behind a call that leaves the note as it is
+    pub noted_stays : (o s : OverSet R g) → StaysNoted o s → NotedAt n (Over o) → NotedAt m (Over s)
+    noted_stays o s stays noted note is =
+        let was = noted note (sym like.group ∙ is) in
+        site_like note s (stays.each (below_rvg n) note was.0, stays.cut ∙ was.1, was.2)
+
+-- behind one that sets the fuse of a site that is up
+pub noted_fused : {R : Type 0} {g : Ghosts R} (beside : KeptBeside) (n m : Node) (calls : ℕ) (like : NotesAs (record n { fuse = FuseSet calls }) m) (o s : OverSet R g) → SiteStands beside n (Over o) → n.state ≡ IsUp → FusesNoted calls o s
+    → NotedAt n (Over o) → NotedAt m (Over s)
+noted_fused beside n m calls like o s stands up fuses noted note is =
+    let was = noted note (sym like.group ∙ is) in
+    site_like (record n { fuse = FuseSet calls }) m like note s (
+      up_noted (below_rvg (record n { fuse = FuseSet calls })) note (site_in s) (fuses.each (below_rvg n) note (noted_up beside n note o.site stands.1 up was.0)),
+      fuses.cut ∙ was.1,
+      was.2,
+    )
+
+-- behind the crash
+pub noted_fell : {R : Type 0} {g : Ghosts R} (beside : KeptBeside) (n m : Node) (like : FellAs n m) (o s : OverSet R g) → SiteStands beside n (Over o) → n.state ≡ IsUp → OverFalls o s → NotedAt n (Over o) → NotedAt m (Over s)
+noted_fell beside n m like o s stands up falls noted note is =
+    let has = sym like.group ∙ is in
+    let was = noted note has in
+    site_like (crashed n 0) m (record { name = like.name; disks = like.disks; blocks = like.blocks; volumes = like.volumes; group = like.group; state = like.state; fuse = like.fuse }) note s (
+      down_again n note (site_in s) has (falls.up (below_rvg n) note (noted_up beside n note o.site stands.1 up was.0)),
+      ap (λ (c : Option CutWrite). cut_value c) falls.cut ∙ was.1,
+      was.2,
+    )
