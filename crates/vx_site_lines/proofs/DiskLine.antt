@@ -1,6 +1,6 @@
 -- What a line that makes a disk fail, or ends that, comes to.
 use Rattle.std.proofs.Common.{◌≡◌, ℕ, Bool, false, List, [], ap, sym, subst, refl}
-use Rattle.std.specs.Prelude.{None, Some, slice_get}
+use Rattle.std.specs.Prelude.{None, Option, Some, slice_get}
 use Rattle.vx_history.specs.Doubts.{Doubted}
 use Rattle.vx_history.specs.World.{with_node}
 use Rattle.vx_history.specs.World.{Node, updated}
@@ -12,7 +12,6 @@ use Rattle.vx_events.specs.declared.said.Said.TheVariants.{Done}
 use Rattle.vx_yard.specs.declared.yard.Yard.{Yard}
 use Rattle.vx_events.specs.Facts.{seat_of, site_number}
 use Rattle.vx_events.specs.Failing.{is_failing, made_fail}
-use Rattle.vx_events.specs.RvgSteps.{over_rvg_at}
 use Rattle.vx_events.specs.StepsOver.{over_group_at}
 use Rattle.vx_yard.proofs.CrashLine.{rose_still}
 use Rattle.vx_yard.proofs.FailsStay.{failing_fact}
@@ -42,8 +41,15 @@ use Rattle.vx_grouped.specs.declared.group_site.GroupSite.TheVariants.{Up as Gro
 use Rattle.vx_site_lines.proofs.Apart.{fact_stays, over_is}
 use Rattle.vx_diskset.proofs.Laying.{raw_in}
 use Rattle.vx_yard.proofs.FirstSites.{begins_like}
-use Rattle.vx_yard.proofs.OverGroup.{noted_none}
-use Rattle.vx_yard.proofs.RawSites.{ungrouped_at, ungrouped_site}
+use Rattle.vx_yard.proofs.NotedSets.{noted_stay}
+use Rattle.vx_diskset.specs.Aboves.{site_in}
+use Rattle.vx_diskset.specs.Noted.{NotedAt, NotedOn, OversStay, below_rvg}
+use Rattle.vx_history.specs.Groups.{GroupNode}
+
+-- a site that notes one
+note_of : (o : Option GroupNode) → (o ≡ None → ⊥) → (note : GroupNode) × (o ≡ Some note)
+note_of None some = absurd (some refl)
+note_of (Some note) some = (note, refl)
 
 module _ {R : Type 0} {g : Ghosts R} where
   -- those of a group have as many
@@ -54,30 +60,37 @@ module _ {R : Type 0} {g : Ghosts R} where
   group_units n (Marked rack) h = h.units
   group_units n GroupGone h = absurd h
 
-  units_at : (beside : KeptBeside) (n : Node) (e : DiskSet R g) → n.group ≡ None → SiteStands beside n e → units_in e ≡ n.disks
-  units_at beside n (Bare rack) none h = h.bare.fitted.units
-  units_at beside n (Spoiled rack) none h = h.fitted.units
-  units_at beside n (Up rvg) none h = (raw_in n (g.meaning rvg.shelf) h.0.0 h.1.lies).units
-  units_at beside n (Receives site) none h = (raw_in n (g.meaning site.rvg.shelf) h.0.0 h.1.lies).units
-  units_at beside n (Down rack) none h = h.lies.units
-  units_at beside n (OfGroup s) none h = group_units n s.site h.stands
-  units_at beside n (Over s) none h = absurd (h.0.0 none)
-  units_at beside n Gone none h = absurd h
+  over_units : (n : Node) (note : GroupNode) (e : GroupSite R g) → NotedOn (below_rvg n) note e → (site_disks e).units ≡ n.disks
+  over_units n note (GroupUp group) h = h.at.lies.units
+  over_units n note (GroupDeported rack) h = h.away.lies.units
+  over_units n note (GroupDown rack) h = h.away.lies.units
+  over_units n note (Marked rack) h = absurd h
+  over_units n note GroupGone h = absurd h
+
+  units_at : (beside : KeptBeside) (n : Node) (e : DiskSet R g) → NotedAt n e → SiteStands beside n e → units_in e ≡ n.disks
+  units_at beside n (Bare rack) noted h = h.bare.fitted.units
+  units_at beside n (Spoiled rack) noted h = h.fitted.units
+  units_at beside n (Up rvg) noted h = (raw_in n (g.meaning rvg.shelf) h.0.0 h.1.lies).units
+  units_at beside n (Receives site) noted h = (raw_in n (g.meaning site.rvg.shelf) h.0.0 h.1.lies).units
+  units_at beside n (Down rack) noted h = h.lies.units
+  units_at beside n (OfGroup s) noted h = group_units n s.site h.stands
+  units_at beside n (Over s) noted h = let has = note_of n.group h.0.0 in over_units n has.0 (site_in s) (noted has.0 has.1).0
+  units_at beside n Gone noted h = absurd h
 
   -- the disk that the line names is one of the site's
-  pub disk_set_so : (d : Doubted) (old : Yard R g) (name : List ℕ) (disk : ℕ) (state : DiskState) (on : Bool) (s : ℕ) (before after : DiskSet R g) → StandsFor d old → over_group_at d.world name ≡ false → over_rvg_at d.world name ≡ false → IsFree old (Disk name disk state)
+  pub disk_set_so : (d : Doubted) (old : Yard R g) (name : List ℕ) (disk : ℕ) (state : DiskState) (on : Bool) (s : ℕ) (before after : DiskSet R g) → StandsFor d old → over_group_at d.world name ≡ false → IsFree old (Disk name disk state)
       → seat_of old.facts.items name ≡ Some s → on ≡ is_failing state → slice_get old.disk_sets.items s ≡ Some before → (disk < units_in before → SetsDisk disk on before after) → SetsDisk disk (is_failing state) before after
-  disk_set_so d old name disk state on s before after stands apart rvg free seat is there did =
+  disk_set_so d old name disk state on s before after stands apart free seat is there did =
       let here = named_at d old name s stands apart seat in
       let may = disk_may old.facts.items (in_files old) name disk state free in
       let fact = fact_named d old name s here seat may.0 in
-      let units = units_at (beside_of d s) (d.world.nodes s) before (ungrouped_site d.world name s here.number (ungrouped_at d.world name apart rvg)) (stands.disk_sets.sites s before here.below there) in
+      let units = units_at (beside_of d s) (d.world.nodes s) before (stands.noted s before here.below there) (stands.disk_sets.sites s before here.below there) in
       subst (λ (b : Bool). SetsDisk disk b before after) is (did (omega (arith, may.1, units, ap (λ (f : SiteFacts). f.disks) fact)))
 
-  pub disk_leads : (d : Doubted) (old new : Yard R g) (name : List ℕ) (disk : ℕ) (state : DiskState) (s : ℕ) (before after : DiskSet R g) → StandsFor d old → over_group_at d.world name ≡ false → over_rvg_at d.world name ≡ false → seat_of old.facts.items name ≡ Some s
-      → Changed old new s before after → KeepsRole before after → ((beside : KeptBeside) (n : Node) → SiteStands beside n before → SiteStands beside n after) → SetsDisk disk (is_failing state) before after
+  pub disk_leads : (d : Doubted) (old new : Yard R g) (name : List ℕ) (disk : ℕ) (state : DiskState) (s : ℕ) (before after : DiskSet R g) → StandsFor d old → over_group_at d.world name ≡ false → seat_of old.facts.items name ≡ Some s
+      → Changed old new s before after → KeepsRole before after → OversStay before after → ((beside : KeptBeside) (n : Node) → SiteStands beside n before → SiteStands beside n after) → SetsDisk disk (is_failing state) before after
       → new.facts ≡ old.facts → SameLoad old new → Leads d (Disk name disk state) Done old new
-  disk_leads d old new name disk state s before after stands apart rvg is changed role keeps sets facts load =
+  disk_leads d old new name disk state s before after stands apart is changed role noted keeps sets facts load =
       let seat = named_at d old name s stands apart is in
       let over = apart_at d old name s stands apart is in
       let on : Bool = is_failing state in
@@ -100,7 +113,8 @@ module _ {R : Type 0} {g : Ghosts R} where
             (record { told = λ x at u fails. set_on disk on (disks_told before) (disks_told after) m.failing (stands.failing s before seat.below changed.there).told sets x at u fails })
             (fused_set m n before after disk on refl sets (stands.fuses s before seat.below changed.there)) (role_kept d old s before after stands seat.below changed.there role))
             (λ first. subst (λ (x : Node). BeginsFirst s x) (sym (at_place d.world.nodes s n)) (begins_like s m n (λ bare. bare) refl refl refl refl first))
-            (λ _. noted_none (beside_of d s) m ((with_one d s n).world.nodes s) after (keeps (beside_of d s) m there) (ungrouped_site d.world name s seat.number (ungrouped_at d.world name apart rvg)))
+            (λ was. subst (λ (x : Node). NotedAt x after) (sym (at_place d.world.nodes s n))
+            (noted_stay (beside_of d s) m n before after (record { name = refl; disks = refl; blocks = refl; volumes = refl; group = refl; state = refl; fuse = refl }) there (keeps (beside_of d s) m there) noted was))
             (fact_stays d.world (with_one d s n).world s over (over_is n ((with_one d s n).world.nodes s) (at_place d.world.nodes s n) over)
             (fact_same n ((with_one d s n).world.nodes s) (d.world.links s) (d.world.links s) d.world.sites d.world.sites (at_place d.world.nodes s n) (λ k. refl) refl
             ∙ fact_like m n (d.world.links s) d.world.sites (failing_fact m failing) (λ k l. refl)))

@@ -9,7 +9,6 @@ use Rattle.vx_diskset.specs.declared.disk_set.DiskSet.{DiskSet}
 use Rattle.vx_events.specs.declared.said.Said.TheVariants.{Done}
 use Rattle.vx_yard.specs.declared.yard.Yard.{Yard}
 use Rattle.vx_events.specs.Facts.{seat_of, site_number}
-use Rattle.vx_events.specs.RvgSteps.{over_rvg_at}
 use Rattle.vx_events.specs.StepsOver.{over_group_at}
 use Rattle.vx_yard.specs.Working.{IsFree}
 use Rattle.vx_yard.specs.Yards.{in_files}
@@ -37,8 +36,8 @@ use Rattle.vx_yard.proofs.Rows.{fact_like, fact_same}
 use Rattle.vx_yard.proofs.Carrying.{SameLoad, carries_node}
 use Rattle.vx_site_lines.proofs.Apart.{fact_stays, over_is, state_placed}
 use Rattle.vx_yard.proofs.FirstSites.{begins_like}
-use Rattle.vx_yard.proofs.OverGroup.{noted_none}
-use Rattle.vx_yard.proofs.RawSites.{ungrouped_at, ungrouped_site}
+use Rattle.vx_yard.proofs.NotedSets.{noted_lit}
+use Rattle.vx_diskset.specs.Noted.{NotedAt, OversFused}
 
 module _ {R : Type 0} {g : Ghosts R} where
   -- the site of such a line is up
@@ -47,11 +46,11 @@ module _ {R : Type 0} {g : Ghosts R} where
       let may = fuse_may old.facts.items (in_files old) name calls pick free in
       state_placed d old name s stands seat may.0 ∙ may.1
 
-  pub fuse_leads : (d : Doubted) (old new : Yard R g) (name : List ℕ) (calls pick s : ℕ) (before after : DiskSet R g) → StandsFor d old → over_group_at d.world name ≡ false → over_rvg_at d.world name ≡ false → IsFree old (Fuse name calls pick) → seat_of old.facts.items name ≡ Some s
-      → Changed old new s before after → KeepsRole before after → ((beside : KeptBeside) (n : Node) → SiteStands beside n before → n.state ≡ IsUp → SiteStands beside (record n { fuse = FuseSet calls }) after)
+  pub fuse_leads : (d : Doubted) (old new : Yard R g) (name : List ℕ) (calls pick s : ℕ) (before after : DiskSet R g) → StandsFor d old → over_group_at d.world name ≡ false → IsFree old (Fuse name calls pick) → seat_of old.facts.items name ≡ Some s
+      → Changed old new s before after → KeepsRole before after → OversFused calls before after → ((beside : KeptBeside) (n : Node) → SiteStands beside n before → n.state ≡ IsUp → SiteStands beside (record n { fuse = FuseSet calls }) after)
       → ((beside : KeptBeside) (n : Node) → SiteStands beside n before → n.state ≡ IsUp → SetsFuse calls pick before after)
       → new.facts ≡ old.facts → SameLoad old new → Leads d (Fuse name calls pick) Done old new
-  fuse_leads d old new name calls pick s before after stands apart rvg free is changed keeps fuses asked facts load =
+  fuse_leads d old new name calls pick s before after stands apart free is changed keeps noted fuses asked facts load =
       let seat = named_at d old name s stands apart is in
       let over = apart_at d old name s stands apart is in
       let m : Node = d.world.nodes s in
@@ -76,7 +75,8 @@ module _ {R : Type 0} {g : Ghosts R} where
             (λ x y set left. subst (λ (z : Option (ℕ × ℕ)). HasLeft calls z) (sym set.1) (omega arith)) sets (stands.fuses s before seat.below changed.there))
             (role_kept d old s before after stands seat.below changed.there keeps))
             (λ first. subst (λ (x : Node). BeginsFirst s x) (sym (at_place d.world.nodes s n)) (begins_like s m n (λ bare. bare) refl refl refl refl first))
-            (λ _. noted_none (beside_of d s) n ((with_one d s n).world.nodes s) after (fuses (beside_of d s) m there up) (ungrouped_site d.world name s seat.number (ungrouped_at d.world name apart rvg)))
+            (λ was. subst (λ (x : Node). NotedAt x after) (sym (at_place d.world.nodes s n))
+            (noted_lit (beside_of d s) m n calls before after (record { name = refl; disks = refl; blocks = refl; volumes = refl; group = refl; state = refl; fuse = refl }) there up (fuses (beside_of d s) m there up) noted was))
             (fact_stays d.world (with_one d s n).world s over (over_is n ((with_one d s n).world.nodes s) (at_place d.world.nodes s n) over)
             (fact_same n ((with_one d s n).world.nodes s) (d.world.links s) (d.world.links s) d.world.sites d.world.sites (at_place d.world.nodes s n) (λ k. refl) refl
             ∙ fact_like m n (d.world.links s) d.world.sites (fuse_fact m (FuseSet calls)) (λ k l. refl)))

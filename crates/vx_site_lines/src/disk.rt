@@ -2,7 +2,6 @@
 ghost use Rattle.std.specs.Prelude.{◌≡◌, false};
 ghost use Rattle.vx_history.specs.Doubts.{Doubted};
 ghost use Rattle.vx_script.specs.declared.line.ScriptLine.TheVariants.{Disk};
-ghost use Rattle.vx_events.specs.RvgSteps.{is_for_rvg};
 ghost use Rattle.vx_events.specs.StepsOver.{is_for_group};
 ghost use Rattle.vx_yard.specs.OfSites.{AsAsked};
 ghost use Rattle.vx_yard.specs.Standing.{Leads, StandsFor};
@@ -19,8 +18,8 @@ use vx_yard::Yard;
 pub fn set_disk<R: Rack>(yard: &mut Yard<R>, name: &Name, disk: u64, state: DiskWord) -> Said
     requires kept { IsYardKept yard.old }
     requires free { IsFree yard.old (Disk name.now disk state) }
-    ensures leads { (d : Doubted) → StandsFor d yard.old → is_for_group d.world (Disk name.now disk state) ≡ false → is_for_rvg d.world (Disk name.now disk state) ≡ false → Leads d (Disk name.now disk state) result yard.old yard.new }
-    ensures asked { (d : Doubted) → StandsFor d yard.old → is_for_group d.world (Disk name.now disk state) ≡ false → is_for_rvg d.world (Disk name.now disk state) ≡ false → AsAsked d.world (Disk name.now disk state) yard.old yard.new }
+    ensures leads { (d : Doubted) → StandsFor d yard.old → is_for_group d.world (Disk name.now disk state) ≡ false → Leads d (Disk name.now disk state) result yard.old yard.new }
+    ensures asked { (d : Doubted) → StandsFor d yard.old → is_for_group d.world (Disk name.now disk state) ≡ false → AsAsked d.world (Disk name.now disk state) yard.old yard.new }
     ensures told { IsTold yard.new → IsTold yard.old }
     ensures files { in_files yard.new ≡ in_files yard.old }
 {

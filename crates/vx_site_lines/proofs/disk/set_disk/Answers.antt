@@ -20,19 +20,19 @@ returns-clause-told g c =
     (get_at disk_sets c.site_of-site.result c.index_mut.result.now c.site_of-site.ensures.disk_set c.index_mut.ensures.value) c.fail.ensures.later
 
 pub returns-clause-leads : goal.returns-clause-leads
-returns-clause-leads g c = λ d stands apart rvg.
+returns-clause-leads g c = λ d stands apart.
     let disk_sets = c.args.yard.now.disk_sets.items in
     let is : seat_of c.args.yard.now.facts.items c.args.name.now ≡ Some c.site_of-site.result = c.site_of-site.ensures.seat in
     let at = get_at disk_sets c.site_of-site.result c.index_mut.result.now c.site_of-site.ensures.disk_set c.index_mut.ensures.value in
-    disk_leads d c.args.yard.now _ c.args.name.now c.args.disk c.args.state c.site_of-site.result c.index_mut.result.now c.fail.new.self stands apart rvg is
-    (record { there = at; later = c.fail.ensures.later; disk_sets = refl; racks = refl }) c.fail.ensures.role c.fail.ensures.stands
-    (disk_set_so d c.args.yard.now c.args.name.now c.args.disk c.args.state c.is_failing.result c.site_of-site.result c.index_mut.result.now c.fail.new.self stands apart rvg c.requires.free is c.is_failing.ensures at c.fail.ensures.asked) refl (record { flight = refl; assemblies = refl; feeders = refl })
+    disk_leads d c.args.yard.now _ c.args.name.now c.args.disk c.args.state c.site_of-site.result c.index_mut.result.now c.fail.new.self stands apart is
+    (record { there = at; later = c.fail.ensures.later; disk_sets = refl; racks = refl }) c.fail.ensures.role c.fail.ensures.noted c.fail.ensures.stands
+    (disk_set_so d c.args.yard.now c.args.name.now c.args.disk c.args.state c.is_failing.result c.site_of-site.result c.index_mut.result.now c.fail.new.self stands apart c.requires.free is c.is_failing.ensures at c.fail.ensures.asked) refl (record { flight = refl; assemblies = refl; feeders = refl })
 
 pub returns-clause-asked : goal.returns-clause-asked
-returns-clause-asked g c = λ d stands apart rvg.
+returns-clause-asked g c = λ d stands apart.
     let disk_sets = c.args.yard.now.disk_sets.items in
     let is : seat_of c.args.yard.now.facts.items c.args.name.now ≡ Some c.site_of-site.result = c.site_of-site.ensures.seat in
     let at = get_at disk_sets c.site_of-site.result c.index_mut.result.now c.site_of-site.ensures.disk_set c.index_mut.ensures.value in
     disk_asks d c.args.yard.now _ c.args.name.now c.args.disk c.args.state c.site_of-site.result c.index_mut.result.now c.fail.new.self stands is
     (record { there = at; later = c.fail.ensures.later; disk_sets = refl; racks = refl })
-    (disk_set_so d c.args.yard.now c.args.name.now c.args.disk c.args.state c.is_failing.result c.site_of-site.result c.index_mut.result.now c.fail.new.self stands apart rvg c.requires.free is c.is_failing.ensures at c.fail.ensures.asked)
+    (disk_set_so d c.args.yard.now c.args.name.now c.args.disk c.args.state c.is_failing.result c.site_of-site.result c.index_mut.result.now c.fail.new.self stands apart c.requires.free is c.is_failing.ensures at c.fail.ensures.asked)

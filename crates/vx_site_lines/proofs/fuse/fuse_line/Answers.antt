@@ -20,12 +20,12 @@ returns-clause-told g c =
     (get_at disk_sets c.site_of-site.result c.index_mut.result.now c.site_of-site.ensures.disk_set c.index_mut.ensures.value) c.fuse.ensures.later
 
 pub returns-clause-leads : goal.returns-clause-leads
-returns-clause-leads g c = λ d stands apart rvg.
+returns-clause-leads g c = λ d stands apart.
     let disk_sets = c.args.yard.now.disk_sets.items in
     let is : seat_of c.args.yard.now.facts.items c.args.name.now ≡ Some c.site_of-site.result = c.site_of-site.ensures.seat in
     let at = get_at disk_sets c.site_of-site.result c.index_mut.result.now c.site_of-site.ensures.disk_set c.index_mut.ensures.value in
-    fuse_leads d c.args.yard.now _ c.args.name.now c.args.calls c.args.pick c.site_of-site.result c.index_mut.result.now c.fuse.new.self stands apart rvg c.requires.free is
-    (record { there = at; later = c.fuse.ensures.later; disk_sets = refl; racks = refl }) c.fuse.ensures.role c.fuse.ensures.fused c.fuse.ensures.asked refl
+    fuse_leads d c.args.yard.now _ c.args.name.now c.args.calls c.args.pick c.site_of-site.result c.index_mut.result.now c.fuse.new.self stands apart c.requires.free is
+    (record { there = at; later = c.fuse.ensures.later; disk_sets = refl; racks = refl }) c.fuse.ensures.role c.fuse.ensures.noted c.fuse.ensures.fused c.fuse.ensures.asked refl
     (record { flight = refl; assemblies = refl; feeders = refl })
 
 pub returns-clause-asked : goal.returns-clause-asked
