@@ -5,7 +5,6 @@ use Rattle.vx_model.specs.declared.no.No.TheVariants.{Device, Down as IsOff}
 use Rattle.vx_history.specs.Doubts.{Doubted}
 use Rattle.vx_history.specs.Groups.{GroupNode}
 use Rattle.vx_history.specs.Stops.{IsFused, IsOpen}
-use Rattle.vx_history.specs.Steps.{burned}
 use Rattle.vx_history.specs.World.{Fuse, FuseLit, FuseSet, NoFuse, Node, World, with_node}
 use Rattle.vx_history.specs.declared.event.Event.TheVariants.{Crash as CrashAt}
 use Rattle.vx_order.specs.declared.facts.VolumeFacts.{VolumeFacts}
@@ -89,7 +88,9 @@ SaysOver n note other said = said ≡ other
 abbrev pub lit_over : (old new : Fuse) → Fuse
 lit_over old NoFuse = NoFuse
 lit_over old (FuseSet calls) = FuseSet calls
-lit_over old (FuseLit most) = burned old
+lit_over NoFuse (FuseLit most) = FuseLit most
+lit_over (FuseSet calls) (FuseLit most) = FuseLit calls
+lit_over (FuseLit calls) (FuseLit most) = FuseLit calls
 
 -- the world v behind a line that began in the world w, in which the site has this note of its group
 abbrev pub noting_over : (w v : World) → (s : ℕ) → GroupNode → World
