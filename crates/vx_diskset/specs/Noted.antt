@@ -31,9 +31,9 @@ use Rattle.vx_diskset.specs.declared.disk_set.DiskSet.TheVariants.{OfGroup, Over
 abbrev pub below_rvg : Node → Node
 below_rvg n = record n { role = Primary; volumes = []; log = []; safe = 0; halted = None }
 
--- Where imports agreed, and nothing was begun, it is so behind calls in which none failed.
+-- where imports agreed, and nothing was begun, it is so behind the calls, or one of them failed
 abbrev pub AgreesStill : GroupNode → GroupNode → Meaning → Meaning → Type 0
-AgreesStill note next old new = note.loose ≡ false → note.begun ≡ [] → (DeviceRose old new → ⊥) → (next.loose ≡ false) × (next.begun ≡ [])
+AgreesStill note next old new = (note.loose ≡ false → note.begun ≡ [] → (next.loose ≡ false) × (next.begun ≡ [])) ⊎ DeviceRose old new
 
 -- a site whose group is noted as that of another one is
 pub record NotesAs (n m : Node) : Type 0 where
