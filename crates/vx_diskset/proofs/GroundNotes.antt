@@ -1,7 +1,9 @@
 -- What a site notes of its group behind calls of which there is an account, whatever it notes of the volumes.
-use Rattle.std.proofs.Common.{◌≡◌, ◌∙◌, ◌⊎◌, inl, inr, ℕ, ◌<◌, Bool, true, false, not, IsTrue, IsFalse, List, [], ◌∷◌, ◌++◌, ap, refl, subst, sym}
-use Rattle.std.specs.Prelude.{if◌then◌else◌}
-use Rattle.vx_disk.specs.Shelf.{Each, Image}
+use Rattle.std.proofs.Common.{◌≡◌, ◌∙◌, ◌⊎◌, inl, inr, zero, suc, ℕ, ◌<◌, Bool, true, false, not, IsTrue, IsFalse, List, [], ◌∷◌, ◌++◌, ap, arith, refl, subst, sym}
+use Rattle.std.specs.Prelude.{◌^◌, if◌then◌else◌}
+use Rattle.std.proofs.lemmas.Bool.{cases_lt}
+use Rattle.vx_disk.specs.Counts.{Rose}
+use Rattle.vx_disk.specs.Shelf.{Each, Image, Meaning}
 use Rattle.vx_disk.specs.declared.shelf.Shelf.{Ghosts}
 use Rattle.vx_history.specs.Groups.{BlockMay, GroupNode, NoteWorks}
 use Rattle.vx_history.specs.World.{Node}
@@ -17,7 +19,9 @@ use Rattle.vx_group.specs.declared.group_core.GroupCore.{GroupCore}
 use Rattle.vx_group.specs.declared.inner.Inner.{Inner}
 use Rattle.vx_watched.specs.Since.{CalledSince}
 use Rattle.vx_watched.specs.Traces.{TellsLess}
-use Rattle.vx_ground.specs.Accounts.{GroundSince, ground_state}
+use Rattle.vx_events.specs.RvgWorks.{NoteAgrees}
+use Rattle.vx_ground.specs.Accounts.{DisksQuiet, GroundSince, ground_state}
+use Rattle.vx_ground.proofs.AccountLemmas.{rose_or}
 use Rattle.vx_groupmaps.specs.Loading.{DeviceRose}
 use Rattle.vx_ground.specs.Lifted.{laid_volumes}
 use Rattle.vx_grouped.specs.GroupNotes.{GroupLies, ImagesAre, is_sure, noted_config}
@@ -55,7 +59,29 @@ sure_of : (sure : Bool) → not sure ≡ false → sure ≡ true
 sure_of true is = refl
 sure_of false is = absurd (let wrong : true ≡ false = is in cc)
 
+-- ---- whether a call failed on one of the first disks
+
+rose_within : (m m' : Meaning) (n : ℕ) → DeviceRose m m' ⊎ ((u : ℕ) → u < n → Rose (m.disk_faults u) (m'.disk_faults u) → ⊥)
+rose_within m m' zero = inr (λ u low rose. omega (arith, low))
+rose_within m m' (suc n) = elim (rose_or (m.disk_faults n) (m'.disk_faults n)) [
+  | inl rose ↦ inl (record { disk = n; rose = rose })
+  | inr none ↦ elim (rose_within m m' n) [
+    | inl some ↦ inl some
+    | inr less ↦ inr (λ u low rose. elim (cases_lt u n) [
+      | inl below ↦ less u below rose
+      | inr above ↦
+          let same : u ≡ n = omega (arith, low, above) in
+          none (subst (λ (k : ℕ). Rose (m.disk_faults k) (m'.disk_faults k)) same rose)
+    ])
+  ]
+]
+
 -- ---- the group of a site that noted `was` before the calls; `base` is what it notes of the volumes behind them
+
+-- by what the note says of imports
+pub calm_by : (note next : GroupNode) (old new : Meaning) → AgreesStill note next old new → (NoteAgrees note → NoteAgrees next) ⊎ DeviceRose old new
+calm_by note next old new (inl keeps) = inl (λ agrees. let so = keeps agrees.loose agrees.begun in record { loose = so.0; begun = so.1 })
+calm_by note next old new (inr some) = inr some
 
 module _ {R : Type 0} {g : Ghosts R} (site : Node) (was base : GroupNode) (x : Config) (old new : Laid R g) (up : GroupUp site was (laid_below old).tells old.core (laid_disks old))
     (ground : GroundSince (record (ground_state old.core) { config = x }) (laid_disks old) (ground_state new.core) (laid_disks new)) (since : CalledSince (laid_disks old) (laid_disks new)) (less : TellsLess (laid_below old) (laid_below new))
@@ -94,12 +120,18 @@ module _ {R : Type 0} {g : Ghosts R} (site : Node) (was base : GroupNode) (x : C
     holds = record { size = size; has = may };
   }
 
-  -- where imports agreed they do, but where a call failed
-  pub ground_agrees : IsFalse (laid_disks new).down → AgreesStill was next (laid_disks old) (laid_disks new)
-  ground_agrees is tight none quiet =
+  agrees_then : IsFalse (laid_disks new).down → DisksQuiet (laid_disks old) (laid_disks new) → was.loose ≡ false → was.begun ≡ [] → (next.loose ≡ false) × (next.begun ≡ [])
+  agrees_then is quiet tight none =
       let sure : is_sure new.core ≡ true =
       ground.sure (sure_by old.core.inner.committed old.core.held (up.at.lies.committed tight none) (up.at.lies.images.free tight none)) quiet (λ down. let wrong : false ≡ true = sym is ∙ down in cc) in
       (ap not sure, ap (λ (b : Bool). if b then [] else noted_config new.core.inner.config ∷ base.begun) sure)
+
+  -- where imports agreed they do, or a call failed
+  pub ground_agrees : IsFalse (laid_disks new).down → AgreesStill was next (laid_disks old) (laid_disks new)
+  ground_agrees is = elim (rose_within (laid_disks old) (laid_disks new) (2 ^ 32)) [
+    | inl rose ↦ inr rose
+    | inr quiet ↦ inl (agrees_then is (record { none = quiet }))
+  ]
 
   module _ (spells : HasSpelling (at_serial 0 new.core.inner.config)) where
     -- its disks are up

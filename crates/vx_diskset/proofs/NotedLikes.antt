@@ -15,13 +15,27 @@ use Rattle.vx_diskset.specs.Aboves.{InsideOf, site_in}
 use Rattle.vx_diskset.specs.GroupSets.{cut_value}
 use Rattle.vx_diskset.specs.Holds.{KeptBeside}
 use Rattle.vx_diskset.specs.Layouts.{units_by, units_of}
-use Rattle.vx_diskset.specs.Noted.{FellAs, FusesNoted, NotedAt, NotedOn, NotesAs, OverFalls, SiteNoted, StaysNoted, below_rvg}
+use Rattle.vx_diskset.specs.Asked.{IsRawSet}
+use Rattle.vx_diskset.specs.Noted.{FellAs, FusesNoted, NotedAt, NotedOn, NotesAs, OverFalls, OversFall, OversFused, OversStay, SiteNoted, StaysNoted, below_rvg}
 use Rattle.vx_diskset.specs.Stands.{SiteStands}
-use Rattle.vx_diskset.specs.declared.disk_set.DiskSet.TheVariants.{Over}
+use Rattle.vx_diskset.specs.declared.disk_set.DiskSet.{DiskSet}
+use Rattle.vx_diskset.specs.declared.disk_set.DiskSet.TheVariants.{Bare, Spoiled, Up as UpSet, Receives, Down as DownSet, OfGroup, Over, Gone as GoneSet}
 use Rattle.vx_diskset.specs.declared.group_set.CutWrite.{CutWrite}
 use Rattle.vx_diskset.specs.declared.over_set.OverSet.{OverSet}
 use Rattle.vx_diskset.proofs.GroupStands.{IsLikeGroup, away_like, down_like, up_like}
 use Rattle.vx_diskset.proofs.OverNoted.{down_again, noted_up, up_noted}
+
+module _ {R : Type 0} {g : Ghosts R} where
+  -- of disks that are not below a replicated volume group nothing is said
+  pub noted_apart : (m : Node) (e : DiskSet R g) → IsRawSet e → NotedAt m e
+  noted_apart m (Bare rack) apart = tt
+  noted_apart m (Spoiled rack) apart = tt
+  noted_apart m (UpSet rvg) apart = tt
+  noted_apart m (Receives s) apart = tt
+  noted_apart m (DownSet rack) apart = tt
+  noted_apart m (OfGroup s) apart = tt
+  noted_apart m (Over s) apart = absurd apart
+  noted_apart m GoneSet apart = tt
 
 module _ (n m : Node) (like : NotesAs n m) where
   like_below : IsLikeGroup (below_rvg n) (below_rvg m)
@@ -53,30 +67,81 @@ module _ (n m : Node) (like : NotesAs n m) where
     pub noted_as : (o : OverSet R g) → NotedAt n (Over o) → NotedAt m (Over o)
     noted_as o noted note is = site_like note o (noted note (sym like.group ∙ is))
 
-    -- behind a call that leaves the note as it is
-    pub noted_stays : (o s : OverSet R g) → StaysNoted o s → NotedAt n (Over o) → NotedAt m (Over s)
-    noted_stays o s stays noted note is =
+    over_stays : (o s : OverSet R g) → StaysNoted o s → NotedAt n (Over o) → NotedAt m (Over s)
+    over_stays o s stays noted note is =
         let was = noted note (sym like.group ∙ is) in
         site_like note s (stays.each (below_rvg n) note was.0, stays.cut ∙ was.1, was.2)
 
--- behind one that sets the fuse of a site that is up
-pub noted_fused : {R : Type 0} {g : Ghosts R} (beside : KeptBeside) (n m : Node) (calls : ℕ) (like : NotesAs (record n { fuse = FuseSet calls }) m) (o s : OverSet R g) → SiteStands beside n (Over o) → n.state ≡ IsUp → FusesNoted calls o s
-    → NotedAt n (Over o) → NotedAt m (Over s)
-noted_fused beside n m calls like o s stands up fuses noted note is =
-    let was = noted note (sym like.group ∙ is) in
-    site_like (record n { fuse = FuseSet calls }) m like note s (
-      up_noted (below_rvg (record n { fuse = FuseSet calls })) note (site_in s) (fuses.each (below_rvg n) note (noted_up beside n note o.site stands.1 up was.0)),
-      fuses.cut ∙ was.1,
-      was.2,
-    )
+    -- behind a call that leaves the note as it is
+    pub noted_stays : (e new : DiskSet R g) → OversStay e new → NotedAt n e → NotedAt m new
+    noted_stays (Over o) (Over s) stays noted = over_stays o s stays noted
+    noted_stays (Over o) (Bare rack) stays noted = absurd stays
+    noted_stays (Over o) (Spoiled rack) stays noted = absurd stays
+    noted_stays (Over o) (UpSet rvg) stays noted = absurd stays
+    noted_stays (Over o) (Receives s) stays noted = absurd stays
+    noted_stays (Over o) (DownSet rack) stays noted = absurd stays
+    noted_stays (Over o) (OfGroup s) stays noted = absurd stays
+    noted_stays (Over o) GoneSet stays noted = absurd stays
+    noted_stays (Bare rack) new stays noted = noted_apart m new stays
+    noted_stays (Spoiled rack) new stays noted = noted_apart m new stays
+    noted_stays (UpSet rvg) new stays noted = noted_apart m new stays
+    noted_stays (Receives s) new stays noted = noted_apart m new stays
+    noted_stays (DownSet rack) new stays noted = noted_apart m new stays
+    noted_stays (OfGroup s) new stays noted = noted_apart m new stays
+    noted_stays GoneSet new stays noted = noted_apart m new stays
 
--- behind the crash
-pub noted_fell : {R : Type 0} {g : Ghosts R} (beside : KeptBeside) (n m : Node) (like : FellAs n m) (o s : OverSet R g) → SiteStands beside n (Over o) → n.state ≡ IsUp → OverFalls o s → NotedAt n (Over o) → NotedAt m (Over s)
-noted_fell beside n m like o s stands up falls noted note is =
-    let has = sym like.group ∙ is in
-    let was = noted note has in
-    site_like (crashed n 0) m (record { name = like.name; disks = like.disks; blocks = like.blocks; volumes = like.volumes; group = like.group; state = like.state; fuse = like.fuse }) note s (
-      down_again n note (site_in s) has (falls.up (below_rvg n) note (noted_up beside n note o.site stands.1 up was.0)),
-      ap (λ (c : Option CutWrite). cut_value c) falls.cut ∙ was.1,
-      was.2,
-    )
+module _ {R : Type 0} {g : Ghosts R} (beside : KeptBeside) (n m : Node) where
+  over_fused : (calls : ℕ) (like : NotesAs (record n { fuse = FuseSet calls }) m) (o s : OverSet R g) → SiteStands beside n (Over o) → n.state ≡ IsUp → FusesNoted calls o s → NotedAt n (Over o) → NotedAt m (Over s)
+  over_fused calls like o s stands up fuses noted note is =
+      let was = noted note (sym like.group ∙ is) in
+      site_like (record n { fuse = FuseSet calls }) m like note s (
+        up_noted (below_rvg (record n { fuse = FuseSet calls })) note (site_in s) (fuses.each (below_rvg n) note (noted_up beside n note o.site stands.1 up was.0)),
+        fuses.cut ∙ was.1,
+        was.2,
+      )
+
+  -- behind one that sets the fuse of a site that is up
+  pub noted_fused : (calls : ℕ) (like : NotesAs (record n { fuse = FuseSet calls }) m) (e new : DiskSet R g) → SiteStands beside n e → n.state ≡ IsUp → OversFused calls e new → NotedAt n e → NotedAt m new
+  noted_fused calls like (Over o) (Over s) stands up fused noted = over_fused calls like o s stands up fused noted
+  noted_fused calls like (Over o) (Bare rack) stands up fused noted = absurd fused
+  noted_fused calls like (Over o) (Spoiled rack) stands up fused noted = absurd fused
+  noted_fused calls like (Over o) (UpSet rvg) stands up fused noted = absurd fused
+  noted_fused calls like (Over o) (Receives s) stands up fused noted = absurd fused
+  noted_fused calls like (Over o) (DownSet rack) stands up fused noted = absurd fused
+  noted_fused calls like (Over o) (OfGroup s) stands up fused noted = absurd fused
+  noted_fused calls like (Over o) GoneSet stands up fused noted = absurd fused
+  noted_fused calls like (Bare rack) new stands up fused noted = noted_apart m new fused
+  noted_fused calls like (Spoiled rack) new stands up fused noted = noted_apart m new fused
+  noted_fused calls like (UpSet rvg) new stands up fused noted = noted_apart m new fused
+  noted_fused calls like (Receives s) new stands up fused noted = noted_apart m new fused
+  noted_fused calls like (DownSet rack) new stands up fused noted = noted_apart m new fused
+  noted_fused calls like (OfGroup s) new stands up fused noted = noted_apart m new fused
+  noted_fused calls like GoneSet new stands up fused noted = noted_apart m new fused
+
+  over_fell : (like : FellAs n m) (o s : OverSet R g) → SiteStands beside n (Over o) → n.state ≡ IsUp → OverFalls o s → NotedAt n (Over o) → NotedAt m (Over s)
+  over_fell like o s stands up falls noted note is =
+      let has = sym like.group ∙ is in
+      let was = noted note has in
+      site_like (crashed n 0) m (record { name = like.name; disks = like.disks; blocks = like.blocks; volumes = like.volumes; group = like.group; state = like.state; fuse = like.fuse }) note s (
+        down_again n note (site_in s) has (falls.up (below_rvg n) note (noted_up beside n note o.site stands.1 up was.0)),
+        ap (λ (c : Option CutWrite). cut_value c) falls.cut ∙ was.1,
+        was.2,
+      )
+
+  -- behind the crash
+  pub noted_fell : (like : FellAs n m) (e new : DiskSet R g) → SiteStands beside n e → n.state ≡ IsUp → OversFall e new → NotedAt n e → NotedAt m new
+  noted_fell like (Over o) (Over s) stands up fell noted = over_fell like o s stands up fell noted
+  noted_fell like (Over o) (Bare rack) stands up fell noted = absurd fell
+  noted_fell like (Over o) (Spoiled rack) stands up fell noted = absurd fell
+  noted_fell like (Over o) (UpSet rvg) stands up fell noted = absurd fell
+  noted_fell like (Over o) (Receives s) stands up fell noted = absurd fell
+  noted_fell like (Over o) (DownSet rack) stands up fell noted = absurd fell
+  noted_fell like (Over o) (OfGroup s) stands up fell noted = absurd fell
+  noted_fell like (Over o) GoneSet stands up fell noted = absurd fell
+  noted_fell like (Bare rack) new stands up fell noted = noted_apart m new fell
+  noted_fell like (Spoiled rack) new stands up fell noted = noted_apart m new fell
+  noted_fell like (UpSet rvg) new stands up fell noted = noted_apart m new fell
+  noted_fell like (Receives s) new stands up fell noted = noted_apart m new fell
+  noted_fell like (DownSet rack) new stands up fell noted = noted_apart m new fell
+  noted_fell like (OfGroup s) new stands up fell noted = noted_apart m new fell
+  noted_fell like GoneSet new stands up fell noted = noted_apart m new fell

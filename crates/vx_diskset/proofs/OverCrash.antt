@@ -166,7 +166,7 @@ module _ {R : Type 0} {g : Ghosts R} where
 
   -- ---- what a crash kept
 
-  pub record FellAs (beside : KeptBeside) (n : Node) (idle : Idle R g) : Type 0 where
+  pub record FellShown (beside : KeptBeside) (n : Node) (idle : Idle R g) : Type 0 where
     pub kept : KeptSite
     pub is : (kept ≡ itself beside n) ⊎ (beside.doubt ≡ Some kept)
     pub ground : SameGround kept.node n
@@ -186,7 +186,7 @@ module _ {R : Type 0} {g : Ghosts R} where
     own : SameGround n n
     own = record { units = refl; disks = refl; blocks = refl }
 
-    fell_itself : (j : Image) (x : Config) → (idle_disks idle).now j → finds (laid_disks l) j ≡ Found x → HasWrites beside n (shown volumes_config x j) → FellAs beside n idle
+    fell_itself : (j : Image) (x : Config) → (idle_disks idle).now j → finds (laid_disks l) j ≡ Found x → HasWrites beside n (shown volumes_config x j) → FellShown beside n idle
     fell_itself j x now is has =
         let writes = writes_itself n (shown volumes_config x j) has in
         record {
@@ -199,7 +199,7 @@ module _ {R : Type 0} {g : Ghosts R} where
           rests = rests_by (itself beside n) n l idle good own stop law rack kept held.lies held.low held.begun here j x now is writes;
         }
 
-    fell_besides : (j : Image) (x : Config) → (idle_disks idle).now j → finds (laid_disks l) j ≡ Found x → HasDoubted beside.doubt (shown volumes_config x j) → FellAs beside n idle
+    fell_besides : (j : Image) (x : Config) → (idle_disks idle).now j → finds (laid_disks l) j ≡ Found x → HasDoubted beside.doubt (shown volumes_config x j) → FellShown beside n idle
     fell_besides j x now is has =
         let d = doubted beside.doubt (shown volumes_config x j) has in
         let k : KeptSite = d.0 in
@@ -214,7 +214,7 @@ module _ {R : Type 0} {g : Ghosts R} where
           rests = rests_by k n l idle good (over.1 k d.1) stop law rack kept may.lies may.low may.begun here j x now is d.2;
         }
 
-    fell_by : (b : Bool) → (idle_ready idle).tells ≡ b → FellAs beside n idle
+    fell_by : (b : Bool) → (idle_ready idle).tells ≡ b → FellShown beside n idle
     fell_by true tells =
         let it = law.image ((ready_under idle.agreed idle.rack).tells tells) in
         let j : Image = it.0 in

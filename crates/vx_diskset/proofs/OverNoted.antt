@@ -204,15 +204,15 @@ module _ {R : Type 0} {g : Ghosts R} where
   overs_raw (Over s) new r raw = absurd raw
   overs_raw GoneSet new r raw = tt
 
-  falls_raw : (e new : DiskSet R g) → IsRawSet e → OversFall e new
-  falls_raw (Bare rack) new raw = tt
-  falls_raw (Spoiled rack) new raw = tt
-  falls_raw (UpSet rvg) new raw = tt
-  falls_raw (Receives s) new raw = tt
-  falls_raw (DownSet rack) new raw = tt
-  falls_raw (OfGroup s) new raw = tt
-  falls_raw (Over s) new raw = absurd raw
-  falls_raw GoneSet new raw = tt
+  falls_raw : (e new : DiskSet R g) → IsRawSet e → IsRawSet new → OversFall e new
+  falls_raw (Bare rack) new raw apart = apart
+  falls_raw (Spoiled rack) new raw apart = apart
+  falls_raw (UpSet rvg) new raw apart = apart
+  falls_raw (Receives s) new raw apart = apart
+  falls_raw (DownSet rack) new raw apart = apart
+  falls_raw (OfGroup s) new raw apart = apart
+  falls_raw (Over s) new raw apart = absurd raw
+  falls_raw GoneSet new raw apart = apart
 
   not_over : (e : DiskSet R g) → ((s : OverSet R g) → e ≡ Over s → ⊥) → IsRawSet e
   not_over (Bare rack) never = tt
@@ -224,11 +224,11 @@ module _ {R : Type 0} {g : Ghosts R} where
   not_over (Over s) never = absurd (never s refl)
   not_over GoneSet never = tt
 
-  pub falls_rest : (e new : DiskSet R g) → ((s : OverSet R g) → e ≡ Over s → ⊥) → OversFall e new
-  falls_rest e new never = falls_raw e new (not_over e never)
+  pub falls_rest : (e : DiskSet R g) → ((s : OverSet R g) → e ≡ Over s → ⊥) → OversFall e e
+  falls_rest e never = falls_raw e e (not_over e never) (not_over e never)
 
-  pub falls_as : (e new : DiskSet R g) → IsRawSet e → OversFall e new
-  falls_as e new raw = falls_raw e new raw
+  pub falls_as : (e new : DiskSet R g) → IsRawSet e → IsRawSet new → OversFall e new
+  falls_as e new raw apart = falls_raw e new raw apart
 
   down_still : (n : Node) (note : GroupNode) (s : OverSet R g) → UpNoted (below_rvg n) note (site_in s) → (site_disks (site_in s)).down ≡ false
   down_still n note s up = by (site_disks (site_in s)).down refl

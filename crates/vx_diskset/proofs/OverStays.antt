@@ -12,15 +12,15 @@ module _ {R : Type 0} {g : Ghosts R} where
   pub put_there : (P : DiskSet R g → DiskSet R g → Type 0) (was old mid new : DiskSet R g) → was ≡ old → new ≡ mid → P was mid → P old new
   put_there P was old mid new taken back it = subst (λ (x : DiskSet R g). P old x) (sym back) (subst (λ (x : DiskSet R g). P x mid) taken it)
 
-  pub stays_raw : (e new : DiskSet R g) → IsRawSet e → OversStay e new
-  stays_raw (Bare rack) new raw = tt
-  stays_raw (Spoiled rack) new raw = tt
-  stays_raw (Up rvg) new raw = tt
-  stays_raw (Receives s) new raw = tt
-  stays_raw (Down rack) new raw = tt
-  stays_raw (OfGroup s) new raw = tt
-  stays_raw (Over s) new raw = absurd raw
-  stays_raw Gone new raw = tt
+  pub stays_raw : (e new : DiskSet R g) → IsRawSet e → IsRawSet new → OversStay e new
+  stays_raw (Bare rack) new raw apart = apart
+  stays_raw (Spoiled rack) new raw apart = apart
+  stays_raw (Up rvg) new raw apart = apart
+  stays_raw (Receives s) new raw apart = apart
+  stays_raw (Down rack) new raw apart = apart
+  stays_raw (OfGroup s) new raw apart = apart
+  stays_raw (Over s) new raw apart = absurd raw
+  stays_raw Gone new raw apart = apart
 
   pub stays_same : (e : DiskSet R g) → OversStay e e
   stays_same (Bare rack) = tt
@@ -35,25 +35,25 @@ module _ {R : Type 0} {g : Ghosts R} where
   pub stays_over : (e : DiskSet R g) (old new : OverSet R g) → e ≡ Over old → StaysNoted old new → OversStay e (Over new)
   stays_over e old new is it = subst (λ (x : DiskSet R g). OversStay x (Over new)) (sym is) it
 
-  pub fused_raw : (calls : ℕ) (e new : DiskSet R g) → IsRawSet e → OversFused calls e new
-  fused_raw calls (Bare rack) new raw = tt
-  fused_raw calls (Spoiled rack) new raw = tt
-  fused_raw calls (Up rvg) new raw = tt
-  fused_raw calls (Receives s) new raw = tt
-  fused_raw calls (Down rack) new raw = tt
-  fused_raw calls (OfGroup s) new raw = tt
-  fused_raw calls (Over s) new raw = absurd raw
-  fused_raw calls Gone new raw = tt
+  pub fused_raw : (calls : ℕ) (e new : DiskSet R g) → IsRawSet e → IsRawSet new → OversFused calls e new
+  fused_raw calls (Bare rack) new raw apart = apart
+  fused_raw calls (Spoiled rack) new raw apart = apart
+  fused_raw calls (Up rvg) new raw apart = apart
+  fused_raw calls (Receives s) new raw apart = apart
+  fused_raw calls (Down rack) new raw apart = apart
+  fused_raw calls (OfGroup s) new raw apart = apart
+  fused_raw calls (Over s) new raw apart = absurd raw
+  fused_raw calls Gone new raw apart = apart
 
-  pub fused_rest : (calls : ℕ) (e new : DiskSet R g) → ((s : OverSet R g) → e ≡ Over s → ⊥) → OversFused calls e new
-  fused_rest calls (Bare rack) new never = tt
-  fused_rest calls (Spoiled rack) new never = tt
-  fused_rest calls (Up rvg) new never = tt
-  fused_rest calls (Receives s) new never = tt
-  fused_rest calls (Down rack) new never = tt
-  fused_rest calls (OfGroup s) new never = tt
-  fused_rest calls (Over s) new never = absurd (never s refl)
-  fused_rest calls Gone new never = tt
+  pub fused_rest : (calls : ℕ) (e : DiskSet R g) → ((s : OverSet R g) → e ≡ Over s → ⊥) → OversFused calls e e
+  fused_rest calls (Bare rack) never = tt
+  fused_rest calls (Spoiled rack) never = tt
+  fused_rest calls (Up rvg) never = tt
+  fused_rest calls (Receives s) never = tt
+  fused_rest calls (Down rack) never = tt
+  fused_rest calls (OfGroup s) never = tt
+  fused_rest calls (Over s) never = absurd (never s refl)
+  fused_rest calls Gone never = tt
 
   pub fused_over : (calls : ℕ) (e : DiskSet R g) (old new : OverSet R g) → e ≡ Over old → FusesNoted calls old new → OversFused calls e (Over new)
   fused_over calls e old new is it = subst (λ (x : DiskSet R g). OversFused calls x (Over new)) (sym is) it

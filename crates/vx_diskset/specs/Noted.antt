@@ -18,6 +18,7 @@ use Rattle.vx_grouped.specs.declared.group_site.GroupSite.TheVariants.{Up, Depor
 use Rattle.vx_diskset.specs.Aboves.{InsideOf, IsInside, above_in, site_in}
 use Rattle.vx_watched.specs.Since.{CalledSince}
 use Rattle.vx_watched.specs.Traces.{TellsLess}
+use Rattle.vx_diskset.specs.Asked.{IsRawSet}
 use Rattle.vx_diskset.specs.Burning.{OffIf}
 use Rattle.vx_diskset.specs.Holds.{KeptBeside}
 use Rattle.vx_diskset.specs.Layouts.{units_of}
@@ -31,9 +32,9 @@ use Rattle.vx_diskset.specs.declared.disk_set.DiskSet.TheVariants.{OfGroup, Over
 abbrev pub below_rvg : Node → Node
 below_rvg n = record n { role = Primary; volumes = []; log = []; safe = 0; halted = None }
 
--- Where imports agreed, and nothing was begun, it is so behind calls in which none failed.
+-- where imports agreed, and nothing was begun, it is so behind the calls, or one of them failed
 abbrev pub AgreesStill : GroupNode → GroupNode → Meaning → Meaning → Type 0
-AgreesStill note next old new = note.loose ≡ false → note.begun ≡ [] → (DeviceRose old new → ⊥) → (next.loose ≡ false) × (next.begun ≡ [])
+AgreesStill note next old new = (note.loose ≡ false → note.begun ≡ [] → (next.loose ≡ false) × (next.begun ≡ [])) ⊎ DeviceRose old new
 
 -- a site whose group is noted as that of another one is
 pub record NotesAs (n m : Node) : Type 0 where
@@ -113,16 +114,16 @@ module _ {R : Type 0} {g : Ghosts R} where
     pub cut : cut_value new.cut ≡ cut_value old.cut
     pub each : (n : Node) (note : GroupNode) → UpNoted n note (site_in old) → UpNoted (record n { fuse = FuseSet calls }) note (site_in new)
 
-  -- the same of disk sets: of others nothing is said
+  -- the same of disk sets: those that are not below a replicated volume group stay apart from one
   abbrev pub OversStay : DiskSet R g → DiskSet R g → Type 0
   OversStay (Over old) (Over new) = StaysNoted old new
   OversStay (Over old) other = ⊥
-  OversStay old new = Unit {0}
+  OversStay old new = IsRawSet new
 
   abbrev pub OversFused : ℕ → DiskSet R g → DiskSet R g → Type 0
   OversFused calls (Over old) (Over new) = FusesNoted calls old new
   OversFused calls (Over old) other = ⊥
-  OversFused calls old new = Unit {0}
+  OversFused calls old new = IsRawSet new
 
   -- So it is of disks that are below a replicated volume group, which are down behind the call exactly where it was answered 6; of others it says nothing.
   abbrev pub OversCalled : {T : Type 0} → DiskSet R g → DiskSet R g → Result T No → Type 0
@@ -140,4 +141,4 @@ module _ {R : Type 0} {g : Ghosts R} where
   abbrev pub OversFall : DiskSet R g → DiskSet R g → Type 0
   OversFall (Over old) (Over new) = OverFalls old new
   OversFall (Over old) other = ⊥
-  OversFall old new = Unit {0}
+  OversFall old new = IsRawSet new

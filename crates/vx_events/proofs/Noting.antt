@@ -50,6 +50,18 @@ like_disks v s failing group = record {
   gathering = λ i. refl;
 }
 
+pub like_site : (v : World) (s : ℕ) (failing : ℕ → Bool) (group : Option GroupNode) (fuse : Fuse)
+    → IsLike v (with_node v s (record (v.nodes s) { failing = failing; group = group; fuse = fuse }))
+like_site v s failing group fuse = record {
+  sites = refl;
+  nodes = all_updated (λ i (n : Node). n ≡ record (v.nodes i) { fuse = n.fuse; failing = n.failing; group = n.group }) v.nodes s (record (v.nodes s) { failing = failing; group = group; fuse = fuse }) refl (λ k _. refl);
+  links = λ p q. record { linked = refl; same = λ _. refl };
+  lines = λ l. refl;
+  packets = refl;
+  promised = refl;
+  gathering = λ i. refl;
+}
+
 line_noted : (s : ℕ) (line : ScriptLine) (v : World) → IsLike v (noted s line v)
 line_noted s (DiskLine site disk state) v = like_disks v s (updated (v.nodes s).failing disk (is_failing state)) (v.nodes s).group
 line_noted s (FuseLine site calls pick) v = like_noted v s (FuseSet calls)

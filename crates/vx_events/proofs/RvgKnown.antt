@@ -22,7 +22,7 @@ use Rattle.vx_events.specs.Known.{MayDarken}
 use Rattle.vx_events.specs.RvgBack.{FindsNoRvg, FindsPlain, FindsRvg, GetsRvg, GroupCutOff, GroupHeld, GroupUnfound, HadRvg, IsLeftBack, KeptLost, LogCut, LogFails, LogLacks, RestsWithRvg, RvgBack, RvgFinds, RvgUp, fuse_left}
 use Rattle.vx_events.specs.RvgMakes.{IsLeftRvg, MakesRvg, RvgCut, RvgDone, RvgFails, RvgLacks, units_at}
 use Rattle.vx_events.specs.RvgNotes.{NotesNarrowed}
-use Rattle.vx_events.specs.RvgOver.{EndsOrShows, NotesLine, OverRvg, OverRvgBy, ShowFails, ShowsAny, TakesOr, is_below, is_inside}
+use Rattle.vx_events.specs.RvgOver.{EndsOrShows, NotesLine, OverRvg, OverRvgBy, ShowFails, ShowsAny, TakesOr, is_below, is_inside, lit_over, noting_over}
 use Rattle.vx_events.specs.RvgWorks.{FuseRanOut, NotesWork, WorksAs}
 use Rattle.vx_events.specs.declared.said.Said.{Said}
 
@@ -33,6 +33,9 @@ of_note w s next is known = ap (λ (o : Option GroupNode). (unwrap_or o no_note)
 
 pub noted_here : (v : World) (s : ℕ) (next : GroupNode) → ((noting v s next).nodes s).group ≡ Some next
 noted_here v s next = ap (λ (n : Node). n.group) (at_place v.nodes s (record (v.nodes s) { group = Some next }))
+
+pub noted_over_here : (w v : World) (s : ℕ) (next : GroupNode) → ((noting_over w v s next).nodes s).group ≡ Some next
+noted_over_here w v s next = ap (λ (n : Node). n.group) (at_place v.nodes s (record (v.nodes s) { group = Some next; fuse = lit_over (w.nodes s).fuse (v.nodes s).fuse }))
 
 back_note : (s : ℕ) (line : ScriptLine) (taken : Bool) (next : GroupNode) (before last new : Doubted) → IsLeftBack s line taken next before last new → next.dark ≡ false
     → (note_at (new.world.nodes s)).dark ≡ false
@@ -130,7 +133,7 @@ module _ (told : Type 0) (tells : told) (d : Doubted) (s : ℕ) (known : (note_a
   shows_known true line (ShowsAny site volume start count bytes is are got size left) = subst (λ (w : World). (note_at (w.nodes s)).dark ≡ false) (sym left.world) known
   shows_known true line (ShowFails disk are has says left) = subst (λ (w : World). (note_at (w.nodes s)).dark ≡ false) (sym left.world) known
   shows_known false line h =
-      of_note new.world s h.next (ap (λ (w : World). (w.nodes s).group) h.left.world ∙ noted_here h.middle.world s h.next) (line_dark (FuseRanOut (d.world.nodes s) h.inner) line h.next h.notes)
+      of_note new.world s h.next (ap (λ (w : World). (w.nodes s).group) h.left.world ∙ noted_over_here d.world h.middle.world s h.next) (line_dark (FuseRanOut (d.world.nodes s) h.inner) line h.next h.notes)
 
   back_or_known : (line : ScriptLine) → (MayDarken here line said → ⊥) → RvgBack told d line s fails said new ⊎ RvgFinds told d line s fails said new
       → (note_at (new.world.nodes s)).dark ≡ false

@@ -14,7 +14,6 @@ use Rattle.vx_script.specs.declared.line.ScriptLine.{ScriptLine}
 use Rattle.vx_script.specs.declared.line.ScriptLine.TheVariants.{Apply, GroupInit, GroupDeport, GroupImport, Volume, PlexDetach, PlexAttach, Disk, Crash, Fuse, Recover, Write, Put, Read, Show, Status}
 use Rattle.vx_events.proofs.KnownLaws.{left_note, never}
 use Rattle.vx_events.proofs.RvgEnding.{never_found}
-use Rattle.vx_events.proofs.RvgKnown.{noted_here}
 use Rattle.vx_events.proofs.RvgStays.{back_group, but_group, each_group, not_below}
 use Rattle.vx_events.specs.Doubts.{IsAs}
 use Rattle.vx_events.specs.Fails.{Fails}
@@ -27,6 +26,7 @@ use Rattle.vx_events.specs.RvgOver.{EndsOrShows, NotesLine, OverRvg, OverRvgBy, 
 use Rattle.vx_events.specs.RvgViews.{is_over_rvg}
 use Rattle.vx_events.specs.RvgWorks.{FuseRanOut, NoneFailed, NoteAgrees}
 use Rattle.vx_events.specs.declared.said.Said.{Said}
+use Rattle.vx_events.proofs.RvgKnown.{noted_over_here}
 
 -- ---- notes
 
@@ -138,7 +138,7 @@ module _ (told : Type 0) (tells : told) (d : Doubted) (s : ℕ) (fails : Fails) 
   shows_agree true line (ShowFails disk are has says left) = unchanged left
   shows_agree false line h =
       let runs : FuseRanOut (d.world.nodes s) h.inner → ⊥ = λ off. dry (off.0, subst (λ (r : Said). SaysOver (d.world.nodes s) h.next r said) off.1 h.says) in
-      agrees_at (new.world.nodes s) h.next (ap (λ (w : World). (w.nodes s).group) h.left.world ∙ noted_here h.middle.world s h.next)
+      agrees_at (new.world.nodes s) h.next (ap (λ (w : World). (w.nodes s).group) h.left.world ∙ noted_over_here d.world h.middle.world s h.next)
       (line_agrees (FuseRanOut (d.world.nodes s) h.inner) runs line h.next h.notes)
 
   back_or : (line : ScriptLine) → RvgBack told d line s fails said new ⊎ RvgFinds told d line s fails said new → NoteAgrees (note_at (new.world.nodes s))

@@ -1,6 +1,6 @@
 -- How a line of links or packets ends where a site of it is over a group of disks with a replicated volume group: as between raw sets, but that disks may fail
 -- which a mirror bears, and that such a site notes what the line made of its group.
-use Rattle.std.specs.Prelude.{◌≡◌, ◌==◌, ◌||◌, ℕ, Bool, true, false, ◌++◌, Option, Some, None, IsSome, if◌then◌else◌}
+use Rattle.std.specs.Prelude.{◌≡◌, ◌==◌, ◌||◌, ◌*◌, ℕ, Bool, true, false, ◌++◌, Option, Some, None, IsSome, if◌then◌else◌}
 use Rattle.std.specs.List.{AllByRecursion}
 use Rattle.vx_history.specs.Doubts.{Doubted}
 use Rattle.vx_history.specs.Events.{packet_at}
@@ -11,7 +11,7 @@ use Rattle.vx_script.specs.declared.line.ScriptLine.TheVariants.{Deliver, Link, 
 use Rattle.vx_events.specs.Doubts.{IsAs}
 use Rattle.vx_events.specs.Facts.{site_number}
 use Rattle.vx_events.specs.Fails.{Fails}
-use Rattle.vx_events.specs.Fuses.{NeedsCalls}
+use Rattle.vx_events.specs.Fuses.{MayPass, header_calls}
 use Rattle.vx_events.specs.GroupNotes.{note_at}
 use Rattle.vx_events.specs.LinkEnds.{LinkEnds}
 use Rattle.vx_events.specs.RvgViews.{is_over_rvg}
@@ -73,6 +73,16 @@ NeedsLogs w (Link p s sync prot) said = said ≡ Done → NeedsFirst (w.nodes (s
 NeedsLogs w (Set p s sync prot) said = said ≡ Done → NeedsFirst (w.nodes (site_number w p))
 NeedsLogs w other said = Unit {0}
 
+-- the fuse of a site lets as many calls pass as the line makes, where it is done: below a replicated volume group nothing is said of their number
+abbrev pub PassesRaw : ℕ → Node → Type 0
+PassesRaw calls n = is_over_rvg n ≡ false → MayPass calls n.fuse
+
+abbrev pub NeedsPasses : World → ScriptLine → Said → Type 0
+NeedsPasses w (Link p s sync prot) said =
+    said ≡ Done → PassesRaw (2 * header_calls) (w.nodes (site_number w p)) × PassesRaw (2 * header_calls) (w.nodes (site_number w s))
+NeedsPasses w (Set p s sync prot) said = said ≡ Done → PassesRaw header_calls (w.nodes (site_number w p))
+NeedsPasses w other said = Unit {0}
+
 -- the failed calls that the line bears: each is one of a disk of a site at which it works, and which is over a group
 abbrev pub AreBorneThere : World → ScriptLine → Fails → Type 0
 AreBorneThere w line fails = AllByRecursion (λ (f : ℕ × ℕ). (works_at w line f.0 ≡ true) × IsSome (w.nodes f.0).group) fails
@@ -89,4 +99,4 @@ pub record LinksOver (told : Type 0) (d : Doubted) (line : ScriptLine) (fails : 
   pub notes : (i : ℕ) → is_over_rvg (d.world.nodes i) ≡ true → NotesThere (works_at d.world line i) (FuseRanOut (d.world.nodes i) said) i fails (note_at (d.world.nodes i)) (next i)
   pub left : IsAs middle (noting_each d.world next middle.world) new
   pub works : NeedsLogs d.world line said
-  pub calls : NeedsCalls d.world line said
+  pub calls : NeedsPasses d.world line said

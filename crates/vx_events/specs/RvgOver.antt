@@ -5,7 +5,7 @@ use Rattle.vx_model.specs.declared.no.No.TheVariants.{Device, Down as IsOff}
 use Rattle.vx_history.specs.Doubts.{Doubted}
 use Rattle.vx_history.specs.Groups.{GroupNode}
 use Rattle.vx_history.specs.Stops.{IsFused, IsOpen}
-use Rattle.vx_history.specs.World.{Node, World}
+use Rattle.vx_history.specs.World.{Fuse, FuseLit, FuseSet, NoFuse, Node, World, with_node}
 use Rattle.vx_history.specs.declared.event.Event.TheVariants.{Crash as CrashAt}
 use Rattle.vx_order.specs.declared.facts.VolumeFacts.{VolumeFacts}
 use Rattle.vx_order.specs.declared.facts.VolumeKind.{VolumeKind}
@@ -82,6 +82,20 @@ abbrev pub SaysOver : Node → GroupNode → Said → Said → Type 0
 SaysOver n note (Shown view) said = said ≡ Shown (over_disks n note view)
 SaysOver n note other said = said ≡ other
 
+-- ---- fuses
+
+-- A fuse that is lit behind a line. How many calls a line makes on the disks below a replicated volume group is not said: the fuse has no more left than before.
+abbrev pub lit_over : (old new : Fuse) → Fuse
+lit_over old NoFuse = NoFuse
+lit_over old (FuseSet calls) = FuseSet calls
+lit_over NoFuse (FuseLit most) = FuseLit most
+lit_over (FuseSet calls) (FuseLit most) = FuseLit calls
+lit_over (FuseLit calls) (FuseLit most) = FuseLit calls
+
+-- the world v behind a line that began in the world w, in which the site has this note of its group
+abbrev pub noting_over : (w v : World) → (s : ℕ) → GroupNode → World
+noting_over w v s note = with_node v s (record (v.nodes s) { group = Some note; fuse = lit_over (w.nodes s).fuse (v.nodes s).fuse })
+
 -- ---- ends
 
 -- A line on the replicated volume group or on the site. Some failed calls were borne; by the others the line ended, as at a raw set.
@@ -96,7 +110,7 @@ pub record EndsOver (told : Type 0) (d : Doubted) (line : ScriptLine) (s : ℕ) 
   pub next : GroupNode
   pub notes : NotesLine (FuseRanOut (d.world.nodes s) inner) s fails line (note_at (d.world.nodes s)) next
   pub says : SaysOver (d.world.nodes s) next inner said
-  pub left : IsAs middle (noting middle.world s next) new
+  pub left : IsAs middle (noting_over d.world middle.world s next) new
 
 -- The fuse of the disks ran out in a line on the group alone. Where a disk halted the replicated volume group, the crash may keep the write that it ended.
 pub record CutBelow (d : Doubted) (line : ScriptLine) (s : ℕ) (fails : Fails) (said : Said) (new : Doubted) : Type 0 where

@@ -19,7 +19,8 @@ use Rattle.vx_diskset.specs.GroupCalls.{config_in}
 use Rattle.vx_diskset.specs.Holds.{beside_of}
 use Rattle.vx_diskset.specs.Makings.{IsFirstSite}
 use Rattle.vx_diskset.specs.Noted.{NotedOn, SiteNoted}
-use Rattle.vx_diskset.specs.Stands.{IsGroupSet, SiteStands, noted_cut}
+use Rattle.vx_diskset.specs.GroupSets.{noted_cut}
+use Rattle.vx_diskset.specs.Stands.{IsGroupSet, SiteStands}
 use Rattle.vx_diskset.specs.declared.disk_set.DiskSet.{DiskSet}
 use Rattle.vx_order.specs.Order.{line_refusal}
 use Rattle.vx_order.specs.declared.facts.SiteFacts.{SiteFacts}

@@ -1,5 +1,5 @@
 -- A yard behind an event that writes one header of the log of a site, by what the call on its disks answered.
-use Rattle.std.proofs.Common.{◌≡◌, ◌∙◌, ⊎_elim, ◌+◌, ◌<◌, ◌≤◌, ℕ, Bool, true, false, List, [], ◌∷◌, length, map, ap, sym, subst, refl, arith}
+use Rattle.std.proofs.Common.{◌≡◌, ◌∙◌, ⊎_elim, ◌+◌, ◌<◌, ◌≤◌, ℕ, Bool, true, false, List, [], ◌∷◌, length, ap, sym, subst, refl, arith}
 use Rattle.std.specs.Prelude.{Option, Some, None, slice_get, slice_set, Ok, Err}
 use Rattle.vx_history.proofs.Behind.{after_of}
 use Rattle.vx_history.proofs.Fuses.{burned_twice, fused_before, worked_twice}
@@ -31,7 +31,6 @@ use Rattle.vx_events.proofs.Places.{never_some, some_same}
 use Rattle.vx_events.specs.Effects.{ChangesNode}
 use Rattle.vx_events.specs.LinkedFacts.{linked_fact}
 use Rattle.vx_events.specs.StepsOver.{facts_over}
-use Rattle.vx_events.specs.Facts.{volume_fact}
 use Rattle.vx_events.specs.declared.said.Said.{Said}
 use Rattle.vx_events.specs.declared.said.Said.TheVariants.{Done, Refused}
 use Rattle.vx_effects.proofs.Effects.{changes_same}
@@ -79,12 +78,18 @@ facts_there d e s n row changes below alone node links =
     ∙ over_apart n row d.world.sites alone)
 
 -- a site that went down shows nothing of what a header says
-down_alike : (n m : Node) (a b : ℕ → Link) (sites : ℕ) → m.name ≡ n.name → m.disks ≡ n.disks → m.blocks ≡ n.blocks → m.volumes ≡ n.volumes → down_fact (fact_of m b sites) ≡ down_fact (fact_of n a sites)
-down_alike n m a b sites name disks blocks volumes =
-    ap (λ (x : List ℕ). down_fact (let y : SiteFacts = record (fact_of m b sites) { name = x } in y)) name
-    ∙ ap (λ (x : ℕ). down_fact (let y : SiteFacts = record (fact_of m b sites) { name = n.name; disks = x } in y)) disks
-    ∙ ap (λ (x : ℕ). down_fact (let y : SiteFacts = record (fact_of m b sites) { name = n.name; disks = n.disks; blocks = x } in y)) blocks
-    ∙ ap (λ (x : List Volume). down_fact (let y : SiteFacts = record (fact_of m b sites) { name = n.name; disks = n.disks; blocks = n.blocks; volumes = map volume_fact x } in y)) volumes
+abbrev down_with : (n : Node) (row : ℕ → Link) (sites : ℕ) → (name : List ℕ) → (disks blocks : ℕ) → List Volume → Option GroupNode → SiteFacts
+down_with n row sites name disks blocks volumes group =
+    down_fact (fact_of (let k : Node = record n { name = name; disks = disks; blocks = blocks; volumes = volumes; group = group } in k) row sites)
+
+down_alike : (n m : Node) (a b : ℕ → Link) (sites : ℕ) → m.name ≡ n.name → m.disks ≡ n.disks → m.blocks ≡ n.blocks → m.volumes ≡ n.volumes → m.group ≡ n.group
+    → down_fact (fact_of m b sites) ≡ down_fact (fact_of n a sites)
+down_alike n m a b sites name disks blocks volumes group =
+    ap (λ (x : List ℕ). down_with n a sites x m.disks m.blocks m.volumes m.group) name
+    ∙ ap (λ (x : ℕ). down_with n a sites n.name x m.blocks m.volumes m.group) disks
+    ∙ ap (λ (x : ℕ). down_with n a sites n.name n.disks x m.volumes m.group) blocks
+    ∙ ap (λ (x : List Volume). down_with n a sites n.name n.disks n.blocks x m.group) volumes
+    ∙ ap (λ (x : Option GroupNode). down_with n a sites n.name n.disks n.blocks n.volumes x) group
 
 module _ {R : Type 0} {g : Ghosts R} (note : (ℕ → Node) → ℕ → Node) (s : ℕ) (notes : NotesAt s note) (d : Doubted) (e : Event) (m : Node) (ls : List KeptLink) (gathered : Option Gathering)
     (h : IsHeader d e s m ls gathered) (old new : Yard R g) (before after : DiskSet R g) (stands : StandsFor (noted_by note d) old) (below : s < d.world.sites) (changed : Changed old new s before after) where
@@ -285,7 +290,7 @@ module _ {R : Type 0} {g : Ghosts R} (note : (ℕ → Node) → ℕ → Node) (s
           subst (λ (y : KeptSite). (count : ℕ) → y.node.safe ≤ count → count ≤ length y.node.log → SiteStands (sure_of y) (fell_to (halted_at (worked n) 0) y.node count) after → CutFor note d e s old new) (some_same other)
           (λ count least most stood_there.
           by count true (stopped m 0) h.row ls (worlds.other_node note s notes d e m h.row ls gathered h.effect h.kept h.sure) (worlds.other_row note s notes d e m h.row ls gathered h.effect h.kept h.sure) h.kept least most (h.like.group ∙ h.none) (h.like.state ∙ h.opens.0) h.like.failing
-          (down_alike n (stopped m 0) (d.world.links s) h.row d.world.sites h.like.name h.like.disks h.like.blocks h.like.volumes)
+          (down_alike n (stopped m 0) (d.world.links s) h.row d.world.sites h.like.name h.like.disks h.like.blocks h.like.volumes h.like.group)
           (subst (λ (o : Option GroupNode). SiteStands (record { links = ls; headers = d.world.headers s + 1; doubt = None }) (let y : Node = record (crashed (stopped m 0) count) { group = o } in y) after) (sym h.like.group) stood_there))
 
   -- by what was answered

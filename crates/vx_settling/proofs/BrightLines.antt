@@ -13,7 +13,7 @@ use Rattle.vx_script.specs.declared.line.ScriptLine.TheVariants.{GroupImport, Re
 use Rattle.vx_events.proofs.KnownLaws.{group_known, left_note}
 use Rattle.vx_events.proofs.RvgEnding.{never_found}
 use Rattle.vx_events.proofs.RvgFull.{brings_found}
-use Rattle.vx_events.proofs.RvgKnown.{back_known_too, making_known, narrowed_dark, noted_here, over_known, works_dark}
+use Rattle.vx_events.proofs.RvgKnown.{back_known_too, making_known, narrowed_dark, over_known, works_dark, noted_over_here}
 use Rattle.vx_events.proofs.RvgStays.{back_group}
 use Rattle.vx_events.proofs.RvgTests.{gained_note}
 use Rattle.vx_events.specs.Doubts.{IsAs, run_as, with_disks}
@@ -32,7 +32,7 @@ use Rattle.vx_events.specs.RvgBack.{GetsRvg, GroupCutOff, GroupHeld, GroupUnfoun
 use Rattle.vx_events.specs.RvgLinks.{AllKnown, LinksOver, NotesThere, links_rvg, noting_each, works_at}
 use Rattle.vx_events.specs.RvgMakes.{IsLeftRvg, MakesRvg, RvgCut, RvgDone, RvgFails, RvgLacks, noting_in, units_at}
 use Rattle.vx_events.specs.RvgNotes.{volume_events}
-use Rattle.vx_events.specs.RvgOver.{EndsOrShows, OverRvg, OverRvgBy, ShowFails, ShowsAny, TakesOr, is_below, is_inside}
+use Rattle.vx_events.specs.RvgOver.{EndsOrShows, OverRvg, OverRvgBy, ShowFails, ShowsAny, TakesOr, is_below, is_inside, lit_over, noting_over}
 use Rattle.vx_events.specs.RvgSteps.{AsBefore, FoundOne, FullBy, Gained, StepFull, WorksAbove, WorksBeside, WorksFull, is_for_rvg, rvg_place}
 use Rattle.vx_events.specs.RvgViews.{is_over_rvg}
 use Rattle.vx_events.specs.RvgWorks.{FuseRanOut}
@@ -40,7 +40,7 @@ use Rattle.vx_events.specs.StepsOver.{WorksOver, group_place, is_for_group, refu
 use Rattle.vx_events.specs.declared.said.Said.{Said}
 use Rattle.vx_events.specs.declared.said.Said.TheVariants.{Refused}
 use Rattle.vx_settling.specs.Brights.{AllBright, IsBright, IsHeldDown}
-use Rattle.vx_settling.proofs.Brights.{as_bright, crashed_bright, disks_bright, group_noted_bright, halved_bright, link_noted_bright, noted_bright, noting_bright, run_bright, runs_bright, worked_bright}
+use Rattle.vx_settling.proofs.Brights.{as_bright, crashed_bright, disks_bright, group_noted_bright, halved_bright, link_noted_bright, noted_bright, noting_bright, run_bright, runs_bright, worked_bright, node_bright}
 
 -- ---- what a line leaves
 
@@ -193,10 +193,12 @@ module _ (told : Type 0) (tells : told) (d : Doubted) (b : AllBright d) (fails :
   shows_bright false line s here h =
       let middle : AllBright h.middle = ends_bright (IsKnown told (note_at (d.world.nodes s))) (tells, b.sites s) d line (place_of d.world line) h.ending h.inner h.middle b h.ends in
       let known : h.next.dark ≡ false = next_bright (new.world.nodes s) h.next (over_group h.middle s h.next h.left) here in
-      as_bright h.middle (noting h.middle.world s h.next) new h.left (noting_bright h.middle.world s h.next known middle.sites) middle
+      let u : World = h.middle.world in
+      as_bright h.middle (noting_over d.world u s h.next) new h.left
+      (node_bright u s (record (u.nodes s) { group = Some h.next; fuse = lit_over (d.world.nodes s).fuse (u.nodes s).fuse }) known middle.sites) middle
     where
-      over_group : (middle : Doubted) (s : ℕ) (next : GroupNode) → IsAs middle (noting middle.world s next) new → (new.world.nodes s).group ≡ Some next
-      over_group middle s next left = ap (λ (w : World). (w.nodes s).group) left.world ∙ noted_here middle.world s next
+      over_group : (middle : Doubted) (s : ℕ) (next : GroupNode) → IsAs middle (noting_over d.world middle.world s next) new → (new.world.nodes s).group ≡ Some next
+      over_group middle s next left = ap (λ (w : World). (w.nodes s).group) left.world ∙ noted_over_here d.world middle.world s next
 
   takes_bright : (line : ScriptLine) (s : ℕ) → (IsHeldDown line said → ⊥) → (BringsUp line → (note_at (d.world.nodes s)).loose ≡ false) → IsBright (new.world.nodes s)
       → TakesOr told d line s fails said new → AllBright new

@@ -41,7 +41,7 @@ use Rattle.vx_grouped.specs.declared.group_site.GroupSite.TheVariants.{Up as Gro
 use Rattle.vx_site_lines.proofs.Apart.{fact_stays, over_is}
 use Rattle.vx_diskset.proofs.Laying.{raw_in}
 use Rattle.vx_yard.proofs.FirstSites.{begins_like}
-use Rattle.vx_yard.proofs.NotedSets.{noted_stay}
+use Rattle.vx_diskset.proofs.NotedLikes.{noted_stays}
 use Rattle.vx_diskset.specs.Aboves.{site_in}
 use Rattle.vx_diskset.specs.Noted.{NotedAt, NotedOn, OversStay, below_rvg}
 use Rattle.vx_history.specs.Groups.{GroupNode}
@@ -114,7 +114,7 @@ module _ {R : Type 0} {g : Ghosts R} where
             (fused_set m n before after disk on refl sets (stands.fuses s before seat.below changed.there)) (role_kept d old s before after stands seat.below changed.there role))
             (λ first. subst (λ (x : Node). BeginsFirst s x) (sym (at_place d.world.nodes s n)) (begins_like s m n (λ bare. bare) refl refl refl refl first))
             (λ was. subst (λ (x : Node). NotedAt x after) (sym (at_place d.world.nodes s n))
-            (noted_stay (beside_of d s) m n before after (record { name = refl; disks = refl; blocks = refl; volumes = refl; group = refl; state = refl; fuse = refl }) there (keeps (beside_of d s) m there) noted was))
+            (noted_stays m n (record { name = refl; disks = refl; blocks = refl; volumes = refl; group = refl; state = refl; fuse = refl }) before after noted was))
             (fact_stays d.world (with_one d s n).world s over (over_is n ((with_one d s n).world.nodes s) (at_place d.world.nodes s n) over)
             (fact_same n ((with_one d s n).world.nodes s) (d.world.links s) (d.world.links s) d.world.sites d.world.sites (at_place d.world.nodes s n) (λ k. refl) refl
             ∙ fact_like m n (d.world.links s) d.world.sites (failing_fact m failing) (λ k l. refl)))

@@ -36,7 +36,7 @@ use Rattle.vx_yard.proofs.Rows.{fact_like, fact_same}
 use Rattle.vx_yard.proofs.Carrying.{SameLoad, carries_node}
 use Rattle.vx_site_lines.proofs.Apart.{fact_stays, over_is, state_placed}
 use Rattle.vx_yard.proofs.FirstSites.{begins_like}
-use Rattle.vx_yard.proofs.NotedSets.{noted_lit}
+use Rattle.vx_diskset.proofs.NotedLikes.{noted_fused}
 use Rattle.vx_diskset.specs.Noted.{NotedAt, OversFused}
 
 module _ {R : Type 0} {g : Ghosts R} where
@@ -76,7 +76,7 @@ module _ {R : Type 0} {g : Ghosts R} where
             (role_kept d old s before after stands seat.below changed.there keeps))
             (λ first. subst (λ (x : Node). BeginsFirst s x) (sym (at_place d.world.nodes s n)) (begins_like s m n (λ bare. bare) refl refl refl refl first))
             (λ was. subst (λ (x : Node). NotedAt x after) (sym (at_place d.world.nodes s n))
-            (noted_lit (beside_of d s) m n calls before after (record { name = refl; disks = refl; blocks = refl; volumes = refl; group = refl; state = refl; fuse = refl }) there up (fuses (beside_of d s) m there up) noted was))
+            (noted_fused (beside_of d s) m n calls (record { name = refl; disks = refl; blocks = refl; volumes = refl; group = refl; state = refl; fuse = refl }) before after there up noted was))
             (fact_stays d.world (with_one d s n).world s over (over_is n ((with_one d s n).world.nodes s) (at_place d.world.nodes s n) over)
             (fact_same n ((with_one d s n).world.nodes s) (d.world.links s) (d.world.links s) d.world.sites d.world.sites (at_place d.world.nodes s n) (λ k. refl) refl
             ∙ fact_like m n (d.world.links s) d.world.sites (fuse_fact m (FuseSet calls)) (λ k l. refl)))

@@ -23,7 +23,6 @@ pub mod NamedSite
 pub mod NewYard
 pub mod NoteSite
 pub mod NotedFew
-pub mod NotedSets
 pub mod OfSites
 pub mod OneSite
 pub mod OverGroup

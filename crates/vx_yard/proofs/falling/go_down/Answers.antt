@@ -3,9 +3,9 @@ use Rattle.std.proofs.Common.{refl}
 use Rattle.vx_yard.proofs.ChangeSite.{told_before}
 use Rattle.vx_yard.proofs.Lists.{get_at}
 use Rattle.vx_diskset.proofs.KeepsFailing.{failing_stopped}
+use Rattle.vx_diskset.proofs.NotedLikes.{noted_fell}
 use Rattle.vx_diskset.specs.Holds.{beside_of}
 use Rattle.vx_yard.proofs.CrashSite.{falls}
-use Rattle.vx_yard.proofs.NotedSets.{noted_down}
 use Rattle.vx_yard.proofs.falling.go_down.Goals as goal
 
 pub returns-clause-told : goal.returns-clause-told
@@ -36,7 +36,7 @@ returns-clause-falls g c = λ d stands below up.
     (record { there = at; later = c.crash_in.ensures.later; disk_sets = refl; racks = refl })
     (c.crash_in.ensures.crashed (beside_of d s) (d.world.nodes s) stood up) (c.crash_in.ensures.durable (beside_of d s) (d.world.nodes s) stood up)
     (failing_stopped c.args.pick before c.crash_in.new.place c.crash_in.ensures.stopped)
-    (λ m fell was. noted_down (beside_of d s) (d.world.nodes s) m before c.crash_in.new.place fell stood up (c.crash_in.ensures.crashed (beside_of d s) (d.world.nodes s) stood up) c.crash_in.ensures.fallen was) c.go_down.ensures refl
+    (λ m fell was. noted_fell (beside_of d s) (d.world.nodes s) m fell before c.crash_in.new.place stood up c.crash_in.ensures.fallen was) c.go_down.ensures refl
     (record { flight = refl; assemblies = c.let_go.ensures; feeders = refl })
 
 pub returns-clause-asked : goal.returns-clause-asked

@@ -130,16 +130,16 @@ returns-in-Receives-clause-seen g c = λ told.
     subst (λ e. IsToldAt e) (sym c.in-Receives.is) (subst (λ r. IsTrue (g.R.Shelf.meaning r).tells) (c.into_shelf-rack-in-Receives.ensures ∙ ap (λ r. r.shelf) c.into_rvg.ensures) (sym c.crash-in-Receives.ensures.stopped.tells ∙ told))
 
 pub returns-in-Up-clause-fallen : goal.returns-in-Up-clause-fallen
-returns-in-Up-clause-fallen g c = falls_as c.args.self _ (subst (λ e. IsRawSet e) (sym c.in-Up.is) tt)
+returns-in-Up-clause-fallen g c = falls_as c.args.self _ (subst (λ e. IsRawSet e) (sym c.in-Up.is) tt) tt
 
 pub returns-in-Receives-clause-fallen : goal.returns-in-Receives-clause-fallen
-returns-in-Receives-clause-fallen g c = falls_as c.args.self _ (subst (λ e. IsRawSet e) (sym c.in-Receives.is) tt)
+returns-in-Receives-clause-fallen g c = falls_as c.args.self _ (subst (λ e. IsRawSet e) (sym c.in-Receives.is) tt) tt
 
 pub returns-in-OfGroup-clause-fallen : goal.returns-in-OfGroup-clause-fallen
-returns-in-OfGroup-clause-fallen g c = falls_as c.args.self _ (subst (λ e. IsRawSet e) (sym c.in-OfGroup.is) tt)
+returns-in-OfGroup-clause-fallen g c = falls_as c.args.self _ (subst (λ e. IsRawSet e) (sym c.in-OfGroup.is) tt) tt
 
 pub returns-in-Over-clause-fallen : goal.returns-in-Over-clause-fallen
 returns-in-Over-clause-fallen g c = fell_notes c.args.pick c.args.self c.in-Over.over c.crash-in-Over.result c.in-Over.is c.crash-in-Over.ensures.stopped c.crash-in-Over.ensures.fallen c.crash-in-Over.ensures.noted c.crash-in-Over.ensures.cut
 
 pub returns-in_default-clause-fallen : goal.returns-in_default-clause-fallen
-returns-in_default-clause-fallen g c = falls_rest c.args.self c.args.self c.in_default.not-Over
+returns-in_default-clause-fallen g c = falls_rest c.args.self c.in_default.not-Over

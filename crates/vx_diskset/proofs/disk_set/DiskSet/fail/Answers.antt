@@ -70,22 +70,22 @@ pub returns-in-Over-clause-later : goal.returns-in-Over-clause-later
 returns-in-Over-clause-later g c = over_later c.args.self.now c.in-Over.over c.fail-in-Over.new.self c.in-Over.is c.fail-in-Over.ensures.later
 
 pub returns-in-Bare-clause-noted : goal.returns-in-Bare-clause-noted
-returns-in-Bare-clause-noted g c = stays_raw c.args.self.now _ (subst (λ e. IsRawSet e) (sym c.in-Bare.is) tt)
+returns-in-Bare-clause-noted g c = stays_raw c.args.self.now _ (subst (λ e. IsRawSet e) (sym c.in-Bare.is) tt) tt
 
 pub returns-in-Spoiled-clause-noted : goal.returns-in-Spoiled-clause-noted
-returns-in-Spoiled-clause-noted g c = stays_raw c.args.self.now _ (subst (λ e. IsRawSet e) (sym c.in-Spoiled.is) tt)
+returns-in-Spoiled-clause-noted g c = stays_raw c.args.self.now _ (subst (λ e. IsRawSet e) (sym c.in-Spoiled.is) tt) tt
 
 pub returns-in-Up-clause-noted : goal.returns-in-Up-clause-noted
-returns-in-Up-clause-noted g c = stays_raw c.args.self.now _ (subst (λ e. IsRawSet e) (sym c.in-Up.is) tt)
+returns-in-Up-clause-noted g c = stays_raw c.args.self.now _ (subst (λ e. IsRawSet e) (sym c.in-Up.is) tt) tt
 
 pub returns-in-Receives-clause-noted : goal.returns-in-Receives-clause-noted
-returns-in-Receives-clause-noted g c = stays_raw c.args.self.now _ (subst (λ e. IsRawSet e) (sym c.in-Receives.is) tt)
+returns-in-Receives-clause-noted g c = stays_raw c.args.self.now _ (subst (λ e. IsRawSet e) (sym c.in-Receives.is) tt) tt
 
 pub returns-in-Down-clause-noted : goal.returns-in-Down-clause-noted
-returns-in-Down-clause-noted g c = stays_raw c.args.self.now _ (subst (λ e. IsRawSet e) (sym c.in-Down.is) tt)
+returns-in-Down-clause-noted g c = stays_raw c.args.self.now _ (subst (λ e. IsRawSet e) (sym c.in-Down.is) tt) tt
 
 pub returns-in-OfGroup-clause-noted : goal.returns-in-OfGroup-clause-noted
-returns-in-OfGroup-clause-noted g c = stays_raw c.args.self.now _ (subst (λ e. IsRawSet e) (sym c.in-OfGroup.is) tt)
+returns-in-OfGroup-clause-noted g c = stays_raw c.args.self.now _ (subst (λ e. IsRawSet e) (sym c.in-OfGroup.is) tt) tt
 
 pub returns-in-Over-clause-noted : goal.returns-in-Over-clause-noted
 returns-in-Over-clause-noted g c = stays_over c.args.self.now c.in-Over.over c.fail-in-Over.new.self c.in-Over.is c.fail-in-Over.ensures.noted

@@ -55,16 +55,16 @@ pub returns-in-Over-clause-later : goal.returns-in-Over-clause-later
 returns-in-Over-clause-later g c = over_later c.args.self.now c.in-Over.over c.fuse-in-Over.new.self c.in-Over.is c.fuse-in-Over.ensures.later
 
 pub returns-in-Up-clause-noted : goal.returns-in-Up-clause-noted
-returns-in-Up-clause-noted g c = fused_raw c.args.calls c.args.self.now _ (subst (λ e. IsRawSet e) (sym c.in-Up.is) tt)
+returns-in-Up-clause-noted g c = fused_raw c.args.calls c.args.self.now _ (subst (λ e. IsRawSet e) (sym c.in-Up.is) tt) tt
 
 pub returns-in-Receives-clause-noted : goal.returns-in-Receives-clause-noted
-returns-in-Receives-clause-noted g c = fused_raw c.args.calls c.args.self.now _ (subst (λ e. IsRawSet e) (sym c.in-Receives.is) tt)
+returns-in-Receives-clause-noted g c = fused_raw c.args.calls c.args.self.now _ (subst (λ e. IsRawSet e) (sym c.in-Receives.is) tt) tt
 
 pub returns-in-OfGroup-clause-noted : goal.returns-in-OfGroup-clause-noted
-returns-in-OfGroup-clause-noted g c = fused_raw c.args.calls c.args.self.now _ (subst (λ e. IsRawSet e) (sym c.in-OfGroup.is) tt)
+returns-in-OfGroup-clause-noted g c = fused_raw c.args.calls c.args.self.now _ (subst (λ e. IsRawSet e) (sym c.in-OfGroup.is) tt) tt
 
 pub returns-in-Over-clause-noted : goal.returns-in-Over-clause-noted
 returns-in-Over-clause-noted g c = fused_over c.args.calls c.args.self.now c.in-Over.over c.fuse-in-Over.new.self c.in-Over.is c.fuse-in-Over.ensures.noted
 
 pub returns-in_default-clause-noted : goal.returns-in_default-clause-noted
-returns-in_default-clause-noted g c = fused_rest c.args.calls c.args.self.now c.args.self.now c.in_default.not-Over
+returns-in_default-clause-noted g c = fused_rest c.args.calls c.args.self.now c.in_default.not-Over
