@@ -22,6 +22,7 @@ pub mod OverDisks
 pub mod OverFalls
 pub mod OverFrames
 pub mod OverKept
+pub mod OverLikes
 pub mod OverPlain
 pub mod OverReads
 pub mod OverReceivers
@@ -89,6 +90,7 @@ pub mod WriteLeaves
 pub mod Zeroes
 pub mod OverStarting
 pub mod OverStays
+pub mod UnderCalling
 pub mod UnitsLie
 pub mod OverRising
 pub mod OverRisen

@@ -25,6 +25,7 @@ use Rattle.vx_diskset.specs.declared.disk_set.DiskSet.{DiskSet}
 use Rattle.vx_diskset.specs.declared.disk_set.DiskSet.TheVariants.{Over}
 use Rattle.vx_diskset.specs.declared.over_set.OverSet.{OverSet}
 use Rattle.vx_diskset.proofs.OverGroups.{may_by}
+use Rattle.vx_diskset.proofs.UnderCalling.{under_fell}
 
 module _ {R : Type 0} {g : Ghosts R} where
   pub fell_of : (pick : ℕ) (a b : Laid R g) (idle : Idle R g) → b ≡ a → LaidFell pick b idle → LaidFell pick a idle
@@ -107,7 +108,7 @@ module _ {R : Type 0} {g : Ghosts R} where
     -- what its site notes of the group falls with it
     pub fell_notes : ((n : Node) (note : GroupNode) → CutNoted n note (site_in o) → DownNoted (crashed n 0) note (site_in s)) → ((n : Node) (note : GroupNode) → UpNoted n note (site_in o) → DownNoted (crashed n 0) note (site_in s))
         → s.cut ≡ o.cut → OversFall e (Over s)
-    fell_notes fallen up cut = subst (λ (x : DiskSet R g). OversFall x (Over s)) (sym is) (record { fallen = fallen; up = up; counts = counts_by pick (site_in o) (site_in s) it; cut = cut })
+    fell_notes fallen up cut = subst (λ (x : DiskSet R g). OversFall x (Over s)) (sym is) (record { fallen = fallen; up = up; counts = counts_by pick (site_in o) (site_in s) it; cut = cut; calls = under_fell pick (site_in o) (site_in s) it })
 
     pub fell_role : ((n : Node) → RoleBy n (above_in s)) → KeepsRole e (Over s)
     fell_role role = record { kept = λ n was. role n }

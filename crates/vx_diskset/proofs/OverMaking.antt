@@ -7,7 +7,7 @@ use Rattle.vx_disk.specs.Moves.{Nowhere}
 use Rattle.vx_disk.specs.Racks.{IsRack}
 use Rattle.vx_disk.specs.Shelf.{Goes, Meaning, Nothing as NoValue}
 use Rattle.vx_disk.specs.declared.shelf.Shelf.{Ghosts}
-use Rattle.vx_watched.specs.Since.{CalledSince, DisksGo, FuseGoes, fuse_calls, is_rack}
+use Rattle.vx_watched.specs.Since.{CalledSince, fuse_calls}
 use Rattle.vx_group.proofs.HoldLemmas.{wide_shape}
 use Rattle.vx_ground.specs.Lifted.{laid_volumes}
 use Rattle.vx_grouped.specs.GroupSites.{laid_below, laid_disks, site_below, site_disks}
@@ -34,28 +34,10 @@ use Rattle.vx_diskset.specs.declared.group_set.GroupSet.{GroupSet}
 use Rattle.vx_diskset.proofs.GroupCalling.{IsSettled, OnGroup, failing_risen, fuse_risen, has_group, later_risen, rises_called}
 use Rattle.vx_diskset.proofs.OverCalling.{has_over}
 use Rattle.vx_diskset.proofs.OverFrames.{frame_sound}
+use Rattle.vx_diskset.proofs.UnderCalling.{told_both}
 use Rattle.vx_diskset.proofs.UnitsLie.{units_large, units_placed}
 
 -- ---- calls behind others
-
-not_both : (b : Bool) → IsTrue b → IsFalse b → ⊥
-not_both true is off = let clash : true ≡ false = off in cc
-not_both false is off = let clash : false ≡ true = is in cc
-
-stayed_up : (b c : Bool) → (IsTrue b → IsTrue c) → IsFalse c → IsFalse b
-stayed_up true c falls up = absurd (not_both c (falls refl) up)
-stayed_up false c falls up = refl
-
-fuse_both : (f g h : Option (ℕ × ℕ)) → FuseGoes f g → FuseGoes g h → FuseGoes f h
-fuse_both f g h one two = record { set = two.set ∙ one.set; left = (let a = one.left in let b = two.left in omega (arith, a, b)); pick = two.pick ∙ one.pick }
-
-both_go : (b c : Bool) (x y z : Disks) → (IsTrue b → IsTrue c) → DisksGo b x y → DisksGo c y z → DisksGo c x z
-both_go b c x y z falls one two = record { failing = λ u. two.failing u ∙ one.failing u; fuse = λ up. fuse_both x.fuse y.fuse z.fuse (one.fuse (stayed_up b c falls up)) (two.fuse up) }
-
-told_both : (first mid new : Option Disks) (b c : Bool) → (IsTrue b → IsTrue c) → is_rack new ≡ is_rack mid → ((o n : Disks) → first ≡ Some o → mid ≡ Some n → DisksGo b o n) → ((o n : Disks) → mid ≡ Some o → new ≡ Some n → DisksGo c o n)
-    → (o n : Disks) → first ≡ Some o → new ≡ Some n → DisksGo c o n
-told_both first None new b c falls rack one two o n is now = absurd (let clash : true ≡ false = sym (ap (λ (d : Option Disks). is_rack d) now) ∙ rack in cc)
-told_both first (Some y) new b c falls rack one two o n is now = both_go b c o y n falls (one o y is refl) (two y n refl now)
 
 pub since_both : (first mid last : Meaning) → CalledSince first mid → CalledSince mid last → CalledSince first last
 since_both first mid last one two = record {

@@ -36,6 +36,7 @@ use Rattle.vx_diskset.specs.declared.over_set.OverSet.{OverSet}
 use Rattle.vx_diskset.specs.declared.over_set.OverSite.{OverSite}
 use Rattle.vx_diskset.specs.declared.over_set.OverSite.TheVariants.{Origin as OriginSite, Receiver as ReceiverSite, Deported as GroupAway, Down as GroupFell, Gone as NoGroup}
 use Rattle.vx_diskset.proofs.CountMoves.{counts_lose}
+use Rattle.vx_diskset.proofs.UnderCalling.{under_both, under_since}
 
 -- ---- the units that a note names
 
@@ -185,14 +186,14 @@ module _ {R : Type 0} {g : Ghosts R} (beside : KeptBeside) (n : Node) (note : Gr
 module _ {R : Type 0} {g : Ghosts R} where
   -- of a raw set, or a group alone, nothing is said
   pub notes_raw : (e new : DiskSet R g) → IsRawSet e → NotesOn e new
-  notes_raw (Bare rack) new raw = record { each = λ beside n note stands state noted. tt }
-  notes_raw (Spoiled rack) new raw = record { each = λ beside n note stands state noted. tt }
-  notes_raw (UpSet rvg) new raw = record { each = λ beside n note stands state noted. tt }
-  notes_raw (Receives s) new raw = record { each = λ beside n note stands state noted. tt }
-  notes_raw (DownSet rack) new raw = record { each = λ beside n note stands state noted. tt }
-  notes_raw (OfGroup s) new raw = record { each = λ beside n note stands state noted. tt }
+  notes_raw (Bare rack) new raw = record { each = λ beside n note stands state noted. tt; calls = tt }
+  notes_raw (Spoiled rack) new raw = record { each = λ beside n note stands state noted. tt; calls = tt }
+  notes_raw (UpSet rvg) new raw = record { each = λ beside n note stands state noted. tt; calls = tt }
+  notes_raw (Receives s) new raw = record { each = λ beside n note stands state noted. tt; calls = tt }
+  notes_raw (DownSet rack) new raw = record { each = λ beside n note stands state noted. tt; calls = tt }
+  notes_raw (OfGroup s) new raw = record { each = λ beside n note stands state noted. tt; calls = tt }
   notes_raw (Over s) new raw = absurd raw
-  notes_raw GoneSet new raw = record { each = λ beside n note stands state noted. tt }
+  notes_raw GoneSet new raw = record { each = λ beside n note stands state noted. tt; calls = tt }
 
   pub overs_raw : {T : Type 0} (e new : DiskSet R g) (r : Result T No) → IsRawSet e → OversCalled e new r
   overs_raw (Bare rack) new r raw = tt
@@ -241,12 +242,14 @@ module _ {R : Type 0} {g : Ghosts R} where
   over_notes_on old new called stays = record {
     each = λ beside n note stands state noted.
         notes_running beside n note old new stands state noted called (stays (down_still n note old (noted_up beside n note old.site stands.1 state noted.0)));
+    calls = under_since (site_disks (site_in old)) (site_disks (site_in new)) called.since;
   }
 
   over_notes_fell : (old mid new : OverSet R g) → OverCalled old mid → ((site_disks (site_in old)).down ≡ false → (site_disks (site_in mid)).down ≡ true) → OverFalls mid new → NotesOn (Over old) (Over new)
   over_notes_fell old mid new called falls fell = record {
     each = λ beside n note stands state noted.
         notes_fallen beside n note old mid stands state noted called new (falls (down_still n note old (noted_up beside n note old.site stands.1 state noted.0))) fell;
+    calls = under_both (site_disks (site_in old)) (site_disks (site_in mid)) (site_disks (site_in new)) (under_since (site_disks (site_in old)) (site_disks (site_in mid)) called.since) fell.calls;
   }
 
   -- a read

@@ -1,5 +1,6 @@
 -- What a site notes of its group of disks, below a replicated volume group or not.
-use Rattle.std.specs.Prelude.{◌≡◌, ◌⊎◌, ℕ, [], false, IsFalse, Some, None, Result}
+use Rattle.std.specs.Prelude.{◌≡◌, ◌⊎◌, ℕ, [], false, IsFalse, IsTrue, Some, None, Result}
+use Rattle.vx_disk.specs.Disks.{Disks}
 use Rattle.vx_disk.specs.Shelf.{Meaning}
 use Rattle.vx_disk.specs.declared.shelf.Shelf.{Ghosts}
 use Rattle.vx_model.specs.declared.no.No.{No}
@@ -16,7 +17,7 @@ use Rattle.vx_grouped.specs.SiteEnds.{ConfigGoes}
 use Rattle.vx_grouped.specs.declared.group_site.GroupSite.{GroupSite}
 use Rattle.vx_grouped.specs.declared.group_site.GroupSite.TheVariants.{Up, Deported, Down}
 use Rattle.vx_diskset.specs.Aboves.{InsideOf, IsInside, above_in, site_in}
-use Rattle.vx_watched.specs.Since.{CalledSince}
+use Rattle.vx_watched.specs.Since.{CalledSince, DisksGo, is_rack}
 use Rattle.vx_watched.specs.Traces.{TellsLess}
 use Rattle.vx_diskset.specs.Asked.{IsRawSet}
 use Rattle.vx_diskset.specs.Burning.{OffIf}
@@ -45,6 +46,13 @@ pub record NotesAs (n m : Node) : Type 0 where
   pub group : m.group ≡ n.group
   pub state : m.state ≡ n.state
   pub fuse : m.fuse ≡ n.fuse
+
+-- what calls make of disks: those that are made to fail are the same, and where they are up a fuse has no more calls left
+pub record UnderCalls (old new : Meaning) : Type 0 where
+  pub rack : is_rack new.disks ≡ is_rack old.disks
+  pub units : new.units ≡ old.units
+  pub falls : IsTrue old.down → IsTrue new.down
+  pub told : (o n : Disks) → old.disks ≡ Some o → new.disks ≡ Some n → DisksGo new.down o n
 
 -- the site of this node, whose disks crashed
 pub record FellAs (n m : Node) : Type 0 where
@@ -85,9 +93,15 @@ module _ {R : Type 0} {g : Ghosts R} where
   NotesOver n note (Over old) (Over new) = NotesMoved n note (site_in old) (Over old) (site_in new) (Over new)
   NotesOver n note old new = Unit {0}
 
+  -- the calls of a site on the disks below its replicated volume group
+  abbrev pub CallsUnder : DiskSet R g → DiskSet R g → Type 0
+  CallsUnder (Over old) (Over new) = UnderCalls (site_disks (site_in old)) (site_disks (site_in new))
+  CallsUnder old new = Unit {0}
+
   -- a call on the replicated volume group of a site that is up: of a site without a group it says nothing
   pub record NotesOn (old new : DiskSet R g) : Type 0 where
     pub each : (beside : KeptBeside) (n : Node) (note : GroupNode) → SiteStands beside n old → n.state ≡ IsUp → SiteNoted n note old → NotesOver n note old new
+    pub calls : CallsUnder old new
 
   -- The same before the crash: the group is up still, or its disks are down.
   abbrev pub NotesWorked : Node → GroupNode → GroupSite R g → GroupSite R g → Type 0
@@ -137,6 +151,7 @@ module _ {R : Type 0} {g : Ghosts R} where
     pub up : (n : Node) (note : GroupNode) → UpNoted n note (site_in old) → DownNoted (crashed n 0) note (site_in new)
     pub counts : (d : ℕ) → (site_disks (site_in new)).disk_faults d ≡ (site_disks (site_in old)).disk_faults d
     pub cut : new.cut ≡ old.cut
+    pub calls : UnderCalls (site_disks (site_in old)) (site_disks (site_in new))
 
   abbrev pub OversFall : DiskSet R g → DiskSet R g → Type 0
   OversFall (Over old) (Over new) = OverFalls old new
