@@ -46,6 +46,10 @@ use Rattle.vx_diskset.specs.Aboves.{site_in}
 use Rattle.vx_diskset.specs.Noted.{NotedAt, NotedOn, OversStay, below_rvg}
 use Rattle.vx_history.specs.Groups.{GroupNode}
 
+-- a site one of whose disks is made to fail, or not any longer
+abbrev disk_node : Node → (disk : ℕ) → DiskState → Node
+disk_node m disk state = record m { failing = updated m.failing disk (is_failing state) }
+
 -- a site that notes one
 note_of : (o : Option GroupNode) → (o ≡ None → ⊥) → (note : GroupNode) × (o ≡ Some note)
 note_of None some = absurd (some refl)
@@ -87,38 +91,70 @@ module _ {R : Type 0} {g : Ghosts R} where
       let units = units_at (beside_of d s) (d.world.nodes s) before (stands.noted s before here.below there) (stands.disk_sets.sites s before here.below there) in
       subst (λ (b : Bool). SetsDisk disk b before after) is (did (omega (arith, may.1, units, ap (λ (f : SiteFacts). f.disks) fact)))
 
+  -- the yard behind it, in which the site has such a disk
+  pub disk_stands : (d : Doubted) (old new : Yard R g) (disk : ℕ) (state : DiskState) (s : ℕ) (before after : DiskSet R g) → StandsFor d old → s < d.world.sites → is_over_group (d.world.nodes s) ≡ false
+      → Changed old new s before after → KeepsRole before after → OversStay before after → ((beside : KeptBeside) (n : Node) → SiteStands beside n before → SiteStands beside n after) → SetsDisk disk (is_failing state) before after
+      → new.facts ≡ old.facts → StandsFor (with_one d s (disk_node (d.world.nodes s) disk state)) new
+  disk_stands d old new disk state s before after stands below over changed role noted keeps sets facts =
+      let on : Bool = is_failing state in
+      let m : Node = d.world.nodes s in
+      let failing : ℕ → Bool = updated m.failing disk on in
+      let n : Node = record m { failing = failing } in
+      let there = stands.disk_sets.sites s before below changed.there in
+      stands_still d (with_one d s n) old new s before after stands below changed
+      (comes_one d s n after refl stands.links (stands_failing (beside_of d s) m failing after (keeps (beside_of d s) m there))
+      (record { told = λ x at u fails. set_on disk on (disks_told before) (disks_told after) m.failing (stands.failing s before below changed.there).told sets x at u fails })
+      (fused_set m n before after disk on refl sets (stands.fuses s before below changed.there)) (role_kept d old s before after stands below changed.there role))
+      (λ first. subst (λ (x : Node). BeginsFirst s x) (sym (at_place d.world.nodes s n)) (begins_like s m n (λ bare. bare) refl refl refl refl first))
+      (λ was. subst (λ (x : Node). NotedAt x after) (sym (at_place d.world.nodes s n))
+      (noted_stays m n (record { name = refl; disks = refl; blocks = refl; volumes = refl; group = refl; state = refl; fuse = refl }) before after noted was))
+      (fact_stays d.world (with_one d s n).world s over (over_is n ((with_one d s n).world.nodes s) (at_place d.world.nodes s n) over)
+      (fact_same n ((with_one d s n).world.nodes s) (d.world.links s) (d.world.links s) d.world.sites d.world.sites (at_place d.world.nodes s n) (λ k. refl) refl
+      ∙ fact_like m n (d.world.links s) d.world.sites (failing_fact m failing) (λ k l. refl)))
+      (ap (λ fs. fs.items) facts)
+
+  disk_carries : (d : Doubted) (old new : Yard R g) (disk : ℕ) (state : DiskState) (s : ℕ) (before after : DiskSet R g) → Changed old new s before after → SameLoad old new
+      → Carries d old → Carries (with_one d s (disk_node (d.world.nodes s) disk state)) new
+  disk_carries d old new disk state s before after changed load =
+      let n : Node = disk_node (d.world.nodes s) disk state in
+      carries_node s d (with_one d s n) n old new load (changes_one d s n) refl refl (at_place d.world.nodes s n) refl refl refl (told_by old new s before after changed)
+
+  disk_ends : (told : Type 0) (d : Doubted) (name : List ℕ) (disk : ℕ) (state : DiskState) (s : ℕ) → site_number d.world name ≡ s
+      → Ends told d (Disk name disk state) (site_number d.world name) [] Done (with_one d s (disk_node (d.world.nodes s) disk state))
+  disk_ends told d name disk state s number =
+      none_left told d (Disk name disk state) (site_number d.world name) Done (with_node d.world s (disk_node (d.world.nodes s) disk state)) refl refl (ap (λ (k : ℕ). made_fail d.world k disk (is_failing state)) (sym number))
+
   pub disk_leads : (d : Doubted) (old new : Yard R g) (name : List ℕ) (disk : ℕ) (state : DiskState) (s : ℕ) (before after : DiskSet R g) → StandsFor d old → over_group_at d.world name ≡ false → seat_of old.facts.items name ≡ Some s
       → Changed old new s before after → KeepsRole before after → OversStay before after → ((beside : KeptBeside) (n : Node) → SiteStands beside n before → SiteStands beside n after) → SetsDisk disk (is_failing state) before after
       → new.facts ≡ old.facts → SameLoad old new → Leads d (Disk name disk state) Done old new
   disk_leads d old new name disk state s before after stands apart is changed role noted keeps sets facts load =
       let seat = named_at d old name s stands apart is in
-      let over = apart_at d old name s stands apart is in
-      let on : Bool = is_failing state in
+      record {
+        next = with_one d s (disk_node (d.world.nodes s) disk state);
+        fails = [];
+        done = record { ends = disk_ends (IsTold new) d name disk state s seat.number; counts = tt; works = tt; calls = tt };
+        carries = disk_carries d old new disk state s before after changed load;
+        stands = disk_stands d old new disk state s before after stands seat.below (apart_at d old name s stands apart is) changed role noted keeps sets facts;
+        rose = rose_still old new s before after changed.there changed.later changed.disk_sets;
+      }
+
+  -- the same where the group of the site bears a replicated volume group
+  pub disk_above : (d : Doubted) (old new : Yard R g) (name : List ℕ) (disk : ℕ) (state : DiskState) (s : ℕ) (before after : DiskSet R g) → StandsFor d old → over_rvg_at d.world name ≡ true → seat_of old.facts.items name ≡ Some s
+      → Changed old new s before after → KeepsRole before after → OversStay before after → ((beside : KeptBeside) (n : Node) → SiteStands beside n before → SiteStands beside n after) → SetsDisk disk (is_failing state) before after
+      → new.facts ≡ old.facts → SameLoad old new → LeadsAbove d (Disk name disk state) Done old new
+  disk_above d old new name disk state s before after stands rvg is changed role noted keeps sets facts load =
       let m : Node = d.world.nodes s in
-      let failing : ℕ → Bool = updated m.failing disk on in
-      let n : Node = record m { failing = failing } in
-      let there = stands.disk_sets.sites s before seat.below changed.there in
+      let n : Node = disk_node m disk state in
+      let seat = place_at d old name s stands is in
+      let over : is_over_rvg m ≡ true = subst (λ (i : ℕ). is_over_rvg (d.world.nodes i) ≡ true) seat.number rvg in
       record {
         next = with_one d s n;
         fails = [];
-        done = record {
-          ends = none_left (IsTold new) d (Disk name disk state) (site_number d.world name) Done (with_node d.world s n) refl refl (ap (λ (k : ℕ). made_fail d.world k disk on) (sym seat.number));
-          counts = tt;
-          works = tt;
-          calls = tt;
-        };
-        carries = carries_node s d (with_one d s n) n old new load (changes_one d s n) refl refl (at_place d.world.nodes s n) refl refl refl (told_by old new s before after changed);
-        stands = stands_still d (with_one d s n) old new s before after stands seat.below changed
-            (comes_one d s n after refl stands.links (stands_failing (beside_of d s) m failing after (keeps (beside_of d s) m there))
-            (record { told = λ x at u fails. set_on disk on (disks_told before) (disks_told after) m.failing (stands.failing s before seat.below changed.there).told sets x at u fails })
-            (fused_set m n before after disk on refl sets (stands.fuses s before seat.below changed.there)) (role_kept d old s before after stands seat.below changed.there role))
-            (λ first. subst (λ (x : Node). BeginsFirst s x) (sym (at_place d.world.nodes s n)) (begins_like s m n (λ bare. bare) refl refl refl refl first))
-            (λ was. subst (λ (x : Node). NotedAt x after) (sym (at_place d.world.nodes s n))
-            (noted_stays m n (record { name = refl; disks = refl; blocks = refl; volumes = refl; group = refl; state = refl; fuse = refl }) before after noted was))
-            (fact_stays d.world (with_one d s n).world s over (over_is n ((with_one d s n).world.nodes s) (at_place d.world.nodes s n) over)
-            (fact_same n ((with_one d s n).world.nodes s) (d.world.links s) (d.world.links s) d.world.sites d.world.sites (at_place d.world.nodes s n) (λ k. refl) refl
-            ∙ fact_like m n (d.world.links s) d.world.sites (failing_fact m failing) (λ k l. refl)))
-            (ap (λ fs. fs.items) facts);
+        works = subst (λ (i : ℕ). EndsOver (IsTold new) d (Disk name disk state) i [] Done (with_one d s n)) (sym seat.number)
+            (stays_over (IsTold new) d (Disk name disk state) s Done (with_one d s n) (disk_ends (IsKnown (IsTold new) (note_at m)) d name disk state s seat.number) refl refl over
+            (ap (λ (x : Node). x.group) (at_place d.world.nodes s n)) (subst (λ (x : Node). lit_over m.fuse x.fuse ≡ x.fuse) (sym (at_place d.world.nodes s n)) (lit_same m.fuse)));
+        carries = disk_carries d old new disk state s before after changed load;
+        stands = disk_stands d old new disk state s before after stands seat.below (rvg_apart m over) changed role noted keeps sets facts;
         rose = rose_still old new s before after changed.there changed.later changed.disk_sets;
       }
 

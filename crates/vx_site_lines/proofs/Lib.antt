@@ -1,4 +1,6 @@
+pub mod AboveEnds
 pub mod Apart
+pub mod CrashAbove
 pub mod DiskLine
 pub mod FetchLine
 pub mod FuseLine

@@ -244,6 +244,7 @@ module _ {R : Type 0} {g : Ghosts R} where
             plain = λ over. (omega (arith, most, ap (λ (xs : List Write). length xs) (no_rvg over).log), refl);
             group = ap (λ (x : Node). x.group) (crash_node d s count false n (d.world.links s) refl (λ j. refl) (λ _. refl) below up least most);
             volumes = ap (λ (x : Node). x.volumes) (crash_node d s count false n (d.world.links s) refl (λ j. refl) (λ _. refl) below up least most);
+            fuse = ap (λ (x : Node). x.fuse) (crash_node d s count false n (d.world.links s) refl (λ j. refl) (λ _. refl) below up least most);
             carries = carries_let s d (crash_of d s count false) old new lets small (crash_changes d s count false n (d.world.links s) refl (λ j. refl) (λ _. refl) below up least most)
                 (crash_sent d s count false n (d.world.links s) refl (λ j. refl) (λ _. refl) below up least most) (crash_gathering d s count false n (d.world.links s) refl (λ j. refl) (λ _. refl) below up least most)
                 (crash_down d s count false n (d.world.links s) refl (λ j. refl) (λ _. refl) below up least most) (told_by old new s before after changed);
@@ -278,6 +279,7 @@ module _ {R : Type 0} {g : Ghosts R} where
             plain = λ over. absurd (doubt_apart (beside_of d s) n before k (stands.disk_sets.sites s before below changed.there) up other (no_rvg over).volumes);
             group = ap (λ (x : Node). x.group) (crash_node d s count true a.node a.row node_is row_is (λ e. absurd (never e)) below fits.up_too least most);
             volumes = ap (λ (x : Node). x.volumes) (crash_node d s count true a.node a.row node_is row_is (λ e. absurd (never e)) below fits.up_too least most) ∙ same_site.volumes;
+            fuse = ap (λ (x : Node). x.fuse) (crash_node d s count true a.node a.row node_is row_is (λ e. absurd (never e)) below fits.up_too least most) ∙ same_site.volumes;
             carries = carries_let s d (crash_of d s count true) old new lets small (crash_changes d s count true a.node a.row node_is row_is (λ e. absurd (never e)) below fits.up_too least most)
                 (crash_sent d s count true a.node a.row node_is row_is (λ e. absurd (never e)) below fits.up_too least most)
                 (crash_gathering d s count true a.node a.row node_is row_is (λ e. absurd (never e)) below fits.up_too least most)
@@ -311,27 +313,27 @@ module _ {R : Type 0} {g : Ghosts R} where
       sym (over_reads d.world s (λ (f : SiteFacts). f.state) (d.world.nodes s).state refl refl)
       ∙ ap (λ (f : SiteFacts). f.state) (sym (fact_placed d old name s (place_at d old name s stands seat) seat may.0)) ∙ may.1
 
+  -- the line ends so, whatever is told
+  pub crash_ends : (told : Type 0) (d : Doubted) (name : List ℕ) (pick s : ℕ) (old new : Yard R g) → site_number d.world name ≡ s → (f : Falls d s old new) → Ends told d (Crash name pick) (site_number d.world name) [] Done (crash_of d s f.count f.taken)
+  crash_ends told d name pick s old new number f =
+      let e : Doubted = crash_of d s f.count f.taken in
+      let ev : (let es : List Event = CrashAt (site_number d.world name) (crash_count (d.world.nodes (site_number d.world name)) f.count) ∷ [] in es) ≡ CrashAt s f.count ∷ [] =
+      ap (λ (i : ℕ). let es : List Event = CrashAt i (crash_count (d.world.nodes i) f.count) ∷ [] in es) number ∙ ap (λ (k : ℕ). let es : List Event = CrashAt s k ∷ [] in es) f.keeps in
+      subst (λ (i : ℕ). Ends told d (Crash name pick) i [] Done e) (sym number)
+      (AllDone (keeps_k f.count) f.taken tt
+      (subst (λ (es : List Event). Replies told (Crash name pick) s f.taken d es Done) (sym ev)
+      (subst (λ (o : EventSaid). RepeatsSaid (step (doubt_chosen f.taken d (CrashAt s f.count)).world (CrashAt s f.count)).world s o Done) (sym f.said) refl))
+      (subst (λ (es : List Event). IsLeft s (Crash name pick) f.taken d (run_as f.taken d es) e) (sym ev) (record { world = refl; after = λ i. refl })))
+
   pub crash_leads : (d : Doubted) (old new : Yard R g) (name : List ℕ) (pick s : ℕ) → StandsFor d old → IsFree old (Crash name pick) → seat_of old.facts.items name ≡ Some s
       → ((d : Doubted) → StandsFor d old → s < d.world.sites → (d.world.nodes s).state ≡ Up → Falls d s old new) → Leads d (Crash name pick) Done old new
   crash_leads d old new name pick s stands free seat fell =
       let here = place_at d old name s stands seat in
       let f = fell d stands here.below (crash_up d old name pick s stands free seat) in
-      let e : Doubted = crash_of d s f.count f.taken in
-      let ev : (let es : List Event = CrashAt (site_number d.world name) (crash_count (d.world.nodes (site_number d.world name)) f.count) ∷ [] in es) ≡ CrashAt s f.count ∷ [] =
-      ap (λ (i : ℕ). let es : List Event = CrashAt i (crash_count (d.world.nodes i) f.count) ∷ [] in es) here.number ∙ ap (λ (k : ℕ). let es : List Event = CrashAt s k ∷ [] in es) f.keeps in
       record {
-        next = e;
+        next = crash_of d s f.count f.taken;
         fails = [];
-        done = record {
-          ends = subst (λ (i : ℕ). Ends (IsTold new) d (Crash name pick) i [] Done e) (sym here.number)
-              (AllDone (keeps_k f.count) f.taken tt
-              (subst (λ (es : List Event). Replies (IsTold new) (Crash name pick) s f.taken d es Done) (sym ev)
-              (subst (λ (o : EventSaid). RepeatsSaid (step (doubt_chosen f.taken d (CrashAt s f.count)).world (CrashAt s f.count)).world s o Done) (sym f.said) refl))
-              (subst (λ (es : List Event). IsLeft s (Crash name pick) f.taken d (run_as f.taken d es) e) (sym ev) (record { world = refl; after = λ i. refl })));
-          counts = tt;
-          works = tt;
-          calls = tt;
-        };
+        done = record { ends = crash_ends (IsTold new) d name pick s old new here.number f; counts = tt; works = tt; calls = tt };
         carries = f.carries;
         stands = f.stands;
         rose = f.rose;

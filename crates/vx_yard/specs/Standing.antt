@@ -7,7 +7,7 @@ use Rattle.vx_model.specs.declared.errors.OutOfMemory.{OutOfMemory}
 use Rattle.vx_model.specs.declared.limits.TheConstants.{MOST_SITES}
 use Rattle.vx_history.specs.Doubts.{After, Doubted, happened}
 use Rattle.vx_history.specs.Step.{step}
-use Rattle.vx_history.specs.World.{Node}
+use Rattle.vx_history.specs.World.{NoFuse, Node}
 use Rattle.vx_history.specs.declared.event.Event.TheVariants.{Crash as CrashAt}
 use Rattle.vx_history.specs.declared.event.Said.TheVariants.{Done as IsDone}
 use Rattle.vx_model.specs.declared.site.SiteState.TheVariants.{Bare as IsBare, Down as IsDown}
@@ -168,6 +168,7 @@ module _ {R : Type 0} {g : Ghosts R} where
     pub blocks : ((crash_of d s count taken).world.nodes s).blocks ≡ (d.world.nodes s).blocks
     pub volumes : ((crash_of d s count taken).world.nodes s).volumes ≡ (d.world.nodes s).volumes
     pub group : ((crash_of d s count taken).world.nodes s).group ≡ (d.world.nodes s).group
+    pub fuse : ((crash_of d s count taken).world.nodes s).fuse ≡ NoFuse
     -- a site over a group has no write that a crash could keep, and is never in doubt
     pub plain : is_over_group (d.world.nodes s) ≡ true → (count ≡ 0) × (taken ≡ false)
     pub sites : (crash_of d s count taken).world.sites ≡ d.world.sites
