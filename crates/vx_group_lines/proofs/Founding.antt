@@ -70,7 +70,7 @@ use Rattle.vx_group_lines.proofs.GroupAt.{up_notes}
 use Rattle.vx_group_lines.proofs.GroupCalls.{SetThen, set_then}
 use Rattle.vx_group_lines.proofs.GroupLeads.{Follows, follows_on, up_set}
 use Rattle.vx_group_lines.proofs.GroupShown.{view_up}
-use Rattle.vx_group_lines.proofs.GroupStatus.{table_is}
+use Rattle.vx_above.proofs.GroupStatus.{table_is}
 use Rattle.vx_group_lines.proofs.Rising.{HasUp, has_up}
 
 -- what the tests see of a bare site that is a group with these volumes

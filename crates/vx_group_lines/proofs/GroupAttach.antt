@@ -44,7 +44,7 @@ use Rattle.vx_events.specs.declared.said.Said.TheVariants.{DoneAt}
 use Rattle.vx_yard.proofs.Carrying.{SameLoad}
 use Rattle.vx_yard.specs.Standing.{LeadsOver, LeadsOverIs, StandsFor}
 use Rattle.vx_yard.specs.declared.yard.Yard.{Yard}
-use Rattle.vx_group_lines.proofs.Changing.{PutsOr, att_done, att_kept, att_table, att_to, keeps_table, notes_config, reconfigures, stated_table}
+use Rattle.vx_above.proofs.Changing.{PutsOr, att_done, att_kept, att_table, att_to, keeps_table, notes_config, reconfigures, stated_table}
 use Rattle.vx_group_lines.proofs.GroupCalls.{sets_then, maps_were}
 use Rattle.vx_group_lines.proofs.GroupDone.{done_leads, refused_leads}
 use Rattle.vx_group_lines.proofs.GroupEnding.{Calling, Midway, SameTable}

@@ -1,5 +1,5 @@
 -- What calls on the group of a site that is up lead its yard to, where it stays up and where its fuse runs out.
-use Rattle.std.proofs.Common.{◌≡◌, ◌∙◌, ◌<◌, ◌≤◌, ℕ, true, false, List, [], length, ap, sym, subst, refl, arith}
+use Rattle.std.proofs.Common.{◌≡◌, ◌∙◌, ◌<◌, ◌≤◌, ℕ, false, List, [], length, ap, sym, subst, refl}
 use Rattle.std.proofs.lemmas.Bool.{false_from_ne_true}
 use Rattle.std.specs.Prelude.{Option, Some, None, Contains, IsTrue, slice_get, slice_set}
 use Rattle.std.proofs.lemmas.Option.{slice_get_within}
@@ -7,21 +7,19 @@ use Rattle.vx_model.specs.Content.{Write}
 use Rattle.vx_model.specs.declared.site.SiteState.{SiteState}
 use Rattle.vx_model.specs.declared.site.SiteState.TheVariants.{Up as IsUp, Down as IsDown}
 use Rattle.vx_disk.specs.Counts.{Rose}
-use Rattle.vx_disk.specs.Disks.{Disks}
 use Rattle.vx_disk.specs.declared.shelf.Shelf.{Ghosts}
 use Rattle.vx_history.specs.Doubts.{Doubted, happened}
 use Rattle.vx_history.specs.Groups.{GroupNode}
 use Rattle.vx_history.specs.Steps.{burned, crashed, worked_on}
-use Rattle.vx_history.specs.World.{Fuse as FuseOf, Node, NoFuse, FuseSet, FuseLit}
+use Rattle.vx_history.specs.World.{Node}
 use Rattle.vx_history.specs.declared.event.Event.TheVariants.{Crash as CrashAt}
 use Rattle.vx_order.specs.declared.facts.SiteFacts.{SiteFacts}
 use Rattle.vx_order.specs.declared.facts.VolumeFacts.{VolumeFacts}
-use Rattle.vx_watched.specs.Since.{CalledSince, FuseGoes, is_rack}
+use Rattle.vx_watched.specs.Since.{CalledSince}
 use Rattle.vx_grouped.specs.GroupSites.{DownNoted, FitsPlain, HasNoRvg, UpNoted, site_disks, with_note}
 use Rattle.vx_grouped.specs.declared.group_site.GroupSite.{GroupSite}
 use Rattle.vx_grouped.specs.declared.group_site.GroupSite.TheVariants.{Up as SiteUp, Deported as SiteAway, Down as SiteDown, Marked, Gone as SiteGone}
-use Rattle.vx_diskset.specs.Asked.{FailsAs, FusedAs, SameFailing, disks_told}
-use Rattle.vx_diskset.specs.Fuses.{HasLeft, LeftAs}
+use Rattle.vx_diskset.specs.Asked.{FailsAs, FusedAs, SameFailing}
 use Rattle.vx_diskset.specs.GroupCalls.{AtPlain, AtSite, OnSites, cut_in}
 use Rattle.vx_diskset.specs.GroupSets.{cut_value}
 use Rattle.vx_diskset.specs.Holds.{beside_of}
@@ -30,7 +28,6 @@ use Rattle.vx_diskset.specs.declared.disk_set.DiskSet.{DiskSet}
 use Rattle.vx_diskset.specs.declared.disk_set.DiskSet.TheVariants.{Bare, Spoiled, Up as RaisedSet, Receives, Down as DownSet, OfGroup, Over, Gone as GoneSet}
 use Rattle.vx_diskset.specs.declared.group_set.CutWrite.{CutWrite}
 use Rattle.vx_diskset.specs.declared.group_set.GroupSet.{GroupSet}
-use Rattle.vx_events.specs.Fails.{Fails}
 use Rattle.vx_events.specs.GroupEnds.{AreOf}
 use Rattle.vx_events.specs.GroupLines.{noting}
 use Rattle.vx_events.specs.GroupNotes.{note_at}
@@ -50,28 +47,14 @@ use Rattle.vx_yard.specs.Stands.{RoseAll, fault_count}
 use Rattle.vx_yard.specs.Yards.{count_of}
 use Rattle.vx_yard.specs.declared.yard.Yard.{Yard}
 use Rattle.vx_group_lines.proofs.Arriving.{arrives_crash, arrives_worked}
-use Rattle.vx_group_lines.proofs.Fails.{all_rose, calls_name, calls_of, failed_calls}
+use Rattle.vx_above.proofs.Fails.{all_rose, calls_name, calls_of}
 use Rattle.vx_group_lines.proofs.GroupAt.{GroupAt, down_notes, uncut, up_noted, up_notes}
 use Rattle.vx_group_lines.proofs.GroupLeads.{Follows, Sized, down_set, follows_off, follows_on, sized_of, up_set}
 use Rattle.vx_group_lines.proofs.GroupMarks.{begins_at, group_noted_at}
 use Rattle.vx_grouped.specs.SiteMaps.{StandMaps}
-use Rattle.vx_group_lines.proofs.Losing.{Names}
-
--- ---- fuses
-
-goes_left : (most : ℕ) (x y : Option (ℕ × ℕ)) → FuseGoes x y → HasLeft most x → HasLeft most y
-goes_left most None y goes h = absurd h
-goes_left most (Some f) None goes h = absurd (let e : false ≡ true = goes.set in cc)
-goes_left most (Some f) (Some k) goes h = omega (arith, goes.left, h)
-
-pub left_goes : (f : FuseOf) (x y : Option (ℕ × ℕ)) → FuseGoes x y → LeftAs f x → LeftAs (burned f) y
-left_goes NoFuse x y goes h = tt
-left_goes (FuseSet calls) x y goes h = goes_left calls x y goes h
-left_goes (FuseLit most) x y goes h = goes_left most x y goes h
-
-some_disks : (o : Option Disks) → is_rack o ≡ true → (d : Disks) × (o ≡ Some d)
-some_disks None is = absurd (cc)
-some_disks (Some d) is = (d, refl)
+use Rattle.vx_above.proofs.Losing.{Names}
+use Rattle.vx_above.proofs.SiteCalls.{calls}
+use Rattle.vx_above.proofs.FuseGoing.{fused_goes}
 
 -- the facts of such a site that went down
 pub down_seen : (n : Node) (note : GroupNode) (k : GroupNode) → n.volumes ≡ [] → noted_table k ≡ noted_table note
@@ -121,14 +104,6 @@ module _ {R : Type 0} {g : Ghosts R} where
 
   -- ---- the fuse of disks that are up
 
-  pub fused_goes : (n m : Node) (a b : DiskSet R g) → m.fuse ≡ burned n.fuse → is_rack (disks_told b) ≡ is_rack (disks_told a)
-      → ((o x : Disks) → disks_told a ≡ Some o → disks_told b ≡ Some x → FuseGoes o.fuse x.fuse) → FusedAs n a → FusedAs m b
-  fused_goes n m a b is rack goes h = record {
-    told = λ x at.
-        let first = some_disks (disks_told a) (sym rack ∙ ap (λ (o : Option Disks). is_rack o) at) in
-        subst (λ (f : FuseOf). LeftAs f x.fuse) (sym is) (left_goes n.fuse first.0.fuse x.fuse (goes first.0 x first.1 at) (h.told first.0 first.1));
-  }
-
   pub fused_since : (n m : Node) (set next : GroupSet R g) → m.fuse ≡ burned n.fuse → CalledSince (site_disks set.site) (site_disks next.site) → (IsTrue (site_disks next.site).down → ⊥)
       → FusedAs n (OfGroup set) → FusedAs m (OfGroup next)
   fused_since n m set next is since up h = fused_goes n m (OfGroup set) (OfGroup next) is since.rack (λ o x was now. (since.told o x was now).fuse (false_from_ne_true (site_disks next.site).down up)) h
@@ -140,9 +115,6 @@ module _ {R : Type 0} {g : Ghosts R} where
     pub at : GroupAt d old name s before
     pub changed : Changed old new s before after
     pub failing : SameFailing before after
-
-  abbrev pub calls : (s : ℕ) (old new : Yard R g) → ℕ → Fails
-  calls s old new many = failed_calls s (count_of old s) (count_of new s) many
 
   module _ (d : Doubted) (old new : Yard R g) (name : List ℕ) (s : ℕ) (before after : DiskSet R g) (stands : StandsFor d old) (call : Called d old new name s before after) where
     abbrev n : Node

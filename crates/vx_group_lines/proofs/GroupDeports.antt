@@ -46,15 +46,16 @@ use Rattle.vx_yard.specs.GroupFacts.{deported_facts}
 use Rattle.vx_yard.specs.Standing.{LeadsOver, LeadsOverIs, StandsFor}
 use Rattle.vx_yard.specs.declared.yard.Yard.{Yard}
 use Rattle.vx_group_lines.proofs.Arriving.{arrives_away, arrives_worked}
-use Rattle.vx_group_lines.proofs.Changing.{moves_table, moves_to, notes_table, reconfigures}
-use Rattle.vx_group_lines.proofs.Fails.{contains_some}
+use Rattle.vx_above.proofs.SiteCalls.{calls}
+use Rattle.vx_above.proofs.Changing.{moves_table, moves_to, notes_table, reconfigures}
+use Rattle.vx_above.proofs.Fails.{contains_some}
 use Rattle.vx_group_lines.proofs.GroupAt.{away_notes}
-use Rattle.vx_group_lines.proofs.GroupCalls.{SetThen, calls, calls_all, calls_are, calls_names, fused_since, note_uncut, set_uncut, sets_then, maps_were}
+use Rattle.vx_group_lines.proofs.GroupCalls.{SetThen, calls_all, calls_are, calls_names, fused_since, note_uncut, set_uncut, sets_then, maps_were}
 use Rattle.vx_group_lines.proofs.GroupDone.{refused_leads}
 use Rattle.vx_group_lines.proofs.GroupEnding.{Calling, Midway, since_at}
 use Rattle.vx_group_lines.proofs.GroupLeads.{away_set, follows_off, leads_by, sized_of}
 use Rattle.vx_group_lines.proofs.GroupMarks.{begins_at}
-use Rattle.vx_group_lines.proofs.Losing.{Names, facts_move, most_rests, opened_goes, opens_rests}
+use Rattle.vx_above.proofs.Losing.{Names, facts_move, most_rests, opened_goes, opens_rests}
 use Rattle.vx_grouped.specs.SiteMaps.{DeportMapped, MapsLike, StandMaps}
 use Rattle.vx_grouped.proofs.MapNoteLemmas.{away_with_maps}
 use Rattle.vx_history.specs.Missing.{with_maps}

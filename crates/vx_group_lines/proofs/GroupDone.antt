@@ -32,10 +32,11 @@ use Rattle.vx_yard.specs.Standing.{LeadsOver, LeadsOverIs, StandsFor}
 use Rattle.vx_yard.specs.Writes.{noted_facts}
 use Rattle.vx_yard.specs.Yards.{IsTold}
 use Rattle.vx_yard.specs.declared.yard.Yard.{Yard}
-use Rattle.vx_group_lines.proofs.GroupCalls.{SetThen, calls, calls_all, calls_are, calls_named, calls_names, calls_none, note_uncut, sets_then, maps_were}
+use Rattle.vx_group_lines.proofs.GroupCalls.{SetThen, calls_all, calls_are, calls_named, calls_names, calls_none, note_uncut, sets_then, maps_were}
 use Rattle.vx_group_lines.proofs.GroupEnding.{Broke, Calling, FellOff, LeftDone, Means, Midway, SameTable, Wanted, called_why, lets_on, load_on, off_leads, up_leads, world_up}
 use Rattle.vx_group_lines.proofs.GroupMarks.{group_noted_at}
-use Rattle.vx_group_lines.proofs.Losing.{Names}
+use Rattle.vx_above.proofs.SiteCalls.{calls}
+use Rattle.vx_above.proofs.Losing.{Names}
 use Rattle.vx_grouped.specs.SiteMaps.{MapsQuiet, StandMaps, StaysMapped, UpMaps}
 use Rattle.vx_grouped.proofs.MapNoteLemmas.{down_with_maps, up_with_maps}
 use Rattle.vx_history.specs.Missing.{no_maps, with_maps}

@@ -50,7 +50,7 @@ use Rattle.vx_group_lines.proofs.GroupAt.{no_value}
 use Rattle.vx_group_lines.proofs.GroupCalls.{Called, down_seen, fused_since, off_follows, seen_as, set_uncut, site_up, up_follows}
 use Rattle.vx_group_lines.proofs.GroupLeads.{leads_by}
 use Rattle.vx_group_lines.proofs.GroupMarks.{none_at}
-use Rattle.vx_group_lines.proofs.Losing.{Names}
+use Rattle.vx_above.proofs.Losing.{Names}
 use Rattle.vx_grouped.specs.SiteMaps.{MapsQuiet, StandMaps, StaysMapped}
 use Rattle.vx_history.specs.Missing.{with_maps}
 use Rattle.vx_group_lines.proofs.MapGoing.{Goes}

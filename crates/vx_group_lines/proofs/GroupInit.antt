@@ -66,12 +66,12 @@ use Rattle.vx_yard.specs.Working.{IsFree}
 use Rattle.vx_yard.specs.Yards.{IsYardKept, count_of, in_files}
 use Rattle.vx_yard.specs.declared.yard.Yard.{Yard}
 use Rattle.vx_group_lines.proofs.BareSites.{IsBareSite, bare_counts, bare_site, bare_sure, blank_links, over_state}
-use Rattle.vx_group_lines.proofs.Fails.{all_rose, calls_name, calls_of, failed_calls}
+use Rattle.vx_above.proofs.Fails.{all_rose, calls_name, calls_of, failed_calls}
 use Rattle.vx_group_lines.proofs.Arriving.{arrives_made, arrives_none, arrives_noted, noted_at}
 use Rattle.vx_group_lines.proofs.GroupAt.{up_notes}
 use Rattle.vx_group_lines.proofs.GroupCalls.{SetThen, set_then}
 use Rattle.vx_group_lines.proofs.GroupLeads.{follows_on, leads_by, up_set}
-use Rattle.vx_group_lines.proofs.GroupStatus.{config_is, table_is}
+use Rattle.vx_above.proofs.GroupStatus.{config_is, table_is}
 use Rattle.vx_group_lines.proofs.Tests.{InitMay, init_may}
 
 -- what the tests see of it as a group without volumes

@@ -27,7 +27,7 @@ use Rattle.vx_yard.proofs.NamedSite.{named_same, place_at}
 use Rattle.vx_yard.specs.Standing.{StandsFor}
 use Rattle.vx_yard.specs.declared.yard.Yard.{Yard}
 use Rattle.vx_group_lines.proofs.GroupAt.{GroupAt, group_at, up_noted}
-use Rattle.vx_group_lines.proofs.GroupStatus.{config_is, table_is}
+use Rattle.vx_above.proofs.GroupStatus.{config_is, table_is}
 
 -- how many blocks the tests see of a volume
 plain_blocks : (vs : List VolumeEntry) (v : ℕ) (x : VolumeFacts) → slice_get (map plain_fact vs) v ≡ Some x → blocks_of vs v ≡ x.blocks

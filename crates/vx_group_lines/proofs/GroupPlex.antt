@@ -52,7 +52,7 @@ use Rattle.vx_events.specs.declared.said.Said.TheVariants.{Done}
 use Rattle.vx_yard.proofs.Carrying.{SameLoad}
 use Rattle.vx_yard.specs.Standing.{LeadsOver, LeadsOverIs, StandsFor}
 use Rattle.vx_yard.specs.declared.yard.Yard.{Yard}
-use Rattle.vx_group_lines.proofs.Changing.{PutsOr, det_table, det_to, keeps_table, keeps_to, notes_config, notes_table, reconfigures, stated_table, stated_to}
+use Rattle.vx_above.proofs.Changing.{PutsOr, det_table, det_to, keeps_table, keeps_to, notes_config, notes_table, reconfigures, stated_table, stated_to}
 use Rattle.vx_group_lines.proofs.GroupCalls.{maps_were, sets_then}
 use Rattle.vx_group_lines.proofs.GroupDone.{done_leads, refused_leads}
 use Rattle.vx_group_lines.proofs.GroupEnding.{Calling, Midway, SameTable}

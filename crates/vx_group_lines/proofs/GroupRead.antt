@@ -43,13 +43,14 @@ use Rattle.vx_yard.specs.Standing.{LeadsOver, StandsFor}
 use Rattle.vx_yard.specs.Working.{IsFree}
 use Rattle.vx_yard.specs.Yards.{IsTold, in_files}
 use Rattle.vx_yard.specs.declared.yard.Yard.{Yard}
-use Rattle.vx_group_lines.proofs.Changing.{notes_config}
+use Rattle.vx_above.proofs.SiteCalls.{calls}
+use Rattle.vx_above.proofs.Changing.{notes_config}
 use Rattle.vx_group_lines.proofs.GroupAt.{lit_up, up_noted}
-use Rattle.vx_group_lines.proofs.GroupCalls.{Called, SetThen, calls, calls_all, calls_are, calls_named, calls_names, fused_since, seen_as, sets_then, site_up, up_follows, maps_were}
+use Rattle.vx_group_lines.proofs.GroupCalls.{Called, SetThen, calls_all, calls_are, calls_named, calls_names, fused_since, seen_as, sets_then, site_up, up_follows, maps_were}
 use Rattle.vx_group_lines.proofs.GroupLeads.{Follows, leads_by}
 use Rattle.vx_group_lines.proofs.GroupMarks.{group_noted_at}
 use Rattle.vx_group_lines.proofs.GroupPlain.{PlainCall}
-use Rattle.vx_group_lines.proofs.Losing.{Names, plex_fails}
+use Rattle.vx_above.proofs.Losing.{Names, plex_fails}
 use Rattle.vx_group_lines.specs.Plain.{GavePlain, IsReadOf}
 use Rattle.vx_grouped.specs.SiteMaps.{StaysMapped}
 use Rattle.vx_group_lines.proofs.MapGoing.{on_both}

@@ -68,14 +68,15 @@ use Rattle.vx_yard.proofs.OneSite.{Changed}
 use Rattle.vx_yard.specs.GroupFacts.{group_up_facts}
 use Rattle.vx_yard.specs.Standing.{LeadsOver, LeadsOverIs, StandsFor, StaysFor}
 use Rattle.vx_yard.specs.declared.yard.Yard.{Yard}
-use Rattle.vx_group_lines.proofs.Changing.{moves_table, moves_to, notes_config, notes_table, reconfigures}
+use Rattle.vx_above.proofs.SiteCalls.{calls}
+use Rattle.vx_above.proofs.Changing.{moves_table, moves_to, notes_config, notes_table, reconfigures}
 use Rattle.vx_group_lines.proofs.GroupAt.{up_notes}
-use Rattle.vx_group_lines.proofs.GroupCalls.{SetThen, calls, calls_all, calls_are, calls_names, calls_none, fused_since, note_uncut, set_uncut, sets_then, site_up, maps_were}
+use Rattle.vx_group_lines.proofs.GroupCalls.{SetThen, calls_all, calls_are, calls_names, calls_none, fused_since, note_uncut, set_uncut, sets_then, site_up, maps_were}
 use Rattle.vx_group_lines.proofs.GroupDone.{refused_leads}
 use Rattle.vx_group_lines.proofs.GroupEnding.{Calling, Midway, since_at, turned_leads}
 use Rattle.vx_group_lines.proofs.GroupLeads.{follows_on, sized_of, up_set}
 use Rattle.vx_group_lines.proofs.GroupMarks.{begins_at}
-use Rattle.vx_group_lines.proofs.Losing.{Names, found_zero, short_zero}
+use Rattle.vx_above.proofs.Losing.{Names, found_zero, short_zero}
 use Rattle.vx_grouped.specs.SiteMaps.{AddMaps, AddedMapped, MapsLike, StandMaps, StaysMapped, UpMaps}
 use Rattle.vx_grouped.proofs.ImageLemmas.{contains_next}
 use Rattle.vx_grouped.proofs.MapNoteLemmas.{up_with_maps}

@@ -50,8 +50,9 @@ use Rattle.vx_yard.specs.Writes.{IsWriteLine, noted_facts}
 use Rattle.vx_yard.specs.Writes.IsWriteLine.{OfPut, OfWrite}
 use Rattle.vx_yard.specs.Yards.{IsTold, in_files}
 use Rattle.vx_yard.specs.declared.yard.Yard.{Yard}
-use Rattle.vx_group_lines.proofs.Changing.{moves_table, moves_to, reconfigures}
-use Rattle.vx_group_lines.proofs.GroupCalls.{Called, SetThen, calls, calls_all, calls_are, calls_named, calls_names, down_seen, fused_since, off_follows, seen_as, sets_then, site_up, up_follows, maps_were}
+use Rattle.vx_above.proofs.SiteCalls.{calls}
+use Rattle.vx_above.proofs.Changing.{moves_table, moves_to, reconfigures}
+use Rattle.vx_group_lines.proofs.GroupCalls.{Called, SetThen, calls_all, calls_are, calls_named, calls_names, down_seen, fused_since, off_follows, seen_as, sets_then, site_up, up_follows, maps_were}
 use Rattle.vx_group_lines.proofs.GroupLeads.{leads_by}
 use Rattle.vx_group_lines.proofs.GroupPlain.{PlainCall, plain_fits}
 use Rattle.vx_grouped.specs.SiteMaps.{DoubtMaps, StandMaps, UpMaps, WriteMaps, WroteMapped}
@@ -60,7 +61,7 @@ use Rattle.vx_history.specs.Missing.{no_maps, with_maps}
 use Rattle.vx_events.specs.GroupMaps.{MapsLost, MapsOfDoubt, MapsOfWrite}
 use Rattle.vx_group_lines.proofs.MapGoing.{Goes, MapsOn, goes_up, off_stands, on_both, stand_as, with_goes}
 use Rattle.vx_group_lines.proofs.MapLines.{doubt_named, logs_bound, logs_low, write_named}
-use Rattle.vx_group_lines.proofs.Losing.{Names}
+use Rattle.vx_above.proofs.Losing.{Names}
 
 -- ---- the two lines
 

@@ -1,4 +1,5 @@
 -- Why an import of a group is refused, and what a refused import leaves.
+use Rattle.vx_above.proofs.FuseGoing.{fused_goes}
 use Rattle.std.proofs.Common.{[], ⊎_elim, ◌≡◌, ◌∙◌, ◌⊎◌, ℕ, Bool, true, false, ap, sym, subst, refl, inl, inr, IsTrue}
 use Rattle.std.specs.Prelude.{Contains, Option, Some, None, IsFalse, not}
 use Rattle.vx_model.specs.declared.errors.Stop.TheVariants.{No as StopsBy}
@@ -34,7 +35,6 @@ use Rattle.vx_diskset.specs.declared.disk_set.DiskSet.TheVariants.{OfGroup}
 use Rattle.vx_diskset.specs.declared.group_set.GroupSet.{GroupSet}
 use Rattle.vx_events.specs.Fails.{Fails}
 use Rattle.vx_events.specs.GroupEnds.{ImportRefuses, KnowsNothing, NotFound}
-use Rattle.vx_group_lines.proofs.GroupCalls.{fused_goes}
 use Rattle.vx_group_lines.proofs.GroupEnding.{IsQuiet}
 use Rattle.vx_group_lines.proofs.GroupMarks.{none_as}
 use Rattle.vx_group_lines.proofs.Returning.{SitsOn}

@@ -1,14 +1,10 @@
 pub mod Arriving
-pub mod Fails
 pub mod GroupAt
 pub mod GroupLeads
 pub mod Tests
 pub mod WorkLines
 pub mod GroupMarks
-pub mod Losing
-pub mod GroupStatus
 pub mod GroupCalls
-pub mod Changing
 pub mod RvgNotes
 pub mod RvgAt
 pub mod RvgCalls

@@ -21,7 +21,7 @@ use Rattle.vx_grouped.specs.declared.group_site.GroupSite.{GroupSite}
 use Rattle.vx_grouped.specs.declared.group_site.GroupSite.TheVariants.{Deported, Down, Gone, Marked, Up}
 use Rattle.vx_events.specs.GroupMaps.{MapsRecovered}
 use Rattle.vx_group_lines.proofs.Dimming.{dimmed_by}
-use Rattle.vx_group_lines.proofs.GroupStatus.{config_is}
+use Rattle.vx_above.proofs.GroupStatus.{config_is}
 use Rattle.vx_group_lines.proofs.MapGoing.{one_config, to_site}
 
 or_off : (a b : Bool) → (a || b) ≡ false → (a ≡ false) × (b ≡ false)

@@ -20,7 +20,7 @@ use Rattle.vx_diskset.specs.declared.disk_set.DiskSet.{DiskSet}
 use Rattle.vx_diskset.specs.declared.disk_set.DiskSet.TheVariants.{Bare as BareSet, Spoiled, Up as RaisedSet, Receives, Down as DownSet, OfGroup, Gone as GoneSet}
 use Rattle.vx_diskset.specs.declared.group_set.GroupSet.{GroupSet}
 use Rattle.vx_events.specs.GroupMaps.{WithMaps}
-use Rattle.vx_group_lines.proofs.Changing.{notes_config}
+use Rattle.vx_above.proofs.Changing.{notes_config}
 
 -- what a call makes of maps, by the disks and the configurations before and behind it
 abbrev pub Goes : Type 1

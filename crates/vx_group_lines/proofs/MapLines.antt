@@ -21,7 +21,7 @@ use Rattle.vx_grouped.specs.SiteMaps.{AddMaps, AttMaps, DetMapsDone, DetMapsFail
 use Rattle.vx_grouped.proofs.WrittenMapLemmas.{doubted_as, missed_as, perhaps_as, written_as}
 use Rattle.vx_events.specs.Fails.{Fails}
 use Rattle.vx_events.specs.GroupMaps.{FailedIn, MapsAdded, MapsAttached, MapsCalled, MapsDetached, MapsOfDoubt, MapsOfWrite, MapsUndetached, entry_takes, kept_disk, map_disk, maps_disk, takes_part}
-use Rattle.vx_group_lines.proofs.Losing.{Names}
+use Rattle.vx_above.proofs.Losing.{Names}
 
 -- ---- what configurations say
 

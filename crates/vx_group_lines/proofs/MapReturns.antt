@@ -18,7 +18,7 @@ use Rattle.vx_grouped.specs.SiteMaps.{BackMaps, FailedAt, map_disk_of}
 use Rattle.vx_grouped.proofs.WrittenMapLemmas.{missed_as, perhaps_as}
 use Rattle.vx_events.specs.Fails.{Fails}
 use Rattle.vx_events.specs.GroupMaps.{FailedIn, StoppedClean, WantsMemory, map_disk, takes_part}
-use Rattle.vx_group_lines.proofs.Losing.{Names}
+use Rattle.vx_above.proofs.Losing.{Names}
 use Rattle.vx_group_lines.proofs.MapLines.{gone_named, takes_is}
 
 -- ---- volumes that stopped cleanly

@@ -1,4 +1,5 @@
 -- What the import of a group that is down leads a yard to where it is refused.
+use Rattle.vx_above.proofs.SiteCalls.{calls}
 use Rattle.std.proofs.Common.{◌≡◌, ◌∙◌, ◌⊎◌, inl, inr, ⊎_elim, ◌<◌, ◌≤◌, ℕ, suc, true, false, List, [], length, ap, sym, subst, refl, arith, IsTrue, Bool}
 use Rattle.std.specs.Prelude.{Contains, Option, Some, slice_get, slice_set, Result, Err, not}
 use Rattle.std.proofs.lemmas.Option.{slice_get_within}
@@ -52,7 +53,7 @@ use Rattle.vx_group_lines.specs.Noting.{IsNotedRefusal, KeepsRest, reply_noted}
 use Rattle.vx_group_lines.specs.Rises.{ComesDown, RisesFor, RisesIs}
 use Rattle.vx_group_lines.proofs.Arriving.{Arrives, arrives_noted, noted_at}
 use Rattle.vx_group_lines.proofs.GroupAt.{down_noted, down_notes, lit_down, loose_down}
-use Rattle.vx_group_lines.proofs.GroupCalls.{Called, calls, calls_all, calls_are, calls_named, calls_none, maps_were, set_then}
+use Rattle.vx_group_lines.proofs.GroupCalls.{Called, calls_all, calls_are, calls_named, calls_none, maps_were, set_then}
 use Rattle.vx_group_lines.proofs.GroupLeads.{Follows, Sized, down_set, follows_on, sized_of}
 use Rattle.vx_group_lines.proofs.GroupMarks.{begins_at, group_noted_at}
 use Rattle.vx_group_lines.proofs.MapComing.{stays_down}

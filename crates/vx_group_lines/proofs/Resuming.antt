@@ -62,10 +62,11 @@ use Rattle.vx_group_lines.specs.Rises.{ComesDown, RisesIs, StandsSo, kept_shown}
 use Rattle.vx_group_lines.specs.Views.{view_with}
 use Rattle.vx_group_lines.proofs.Arriving.{Arrives, arrives_crash, arrives_noted, arrives_up, noted_at}
 use Rattle.vx_group_lines.proofs.GroupAt.{down_notes, up_notes}
-use Rattle.vx_group_lines.proofs.GroupCalls.{Called, SetThen, calls, calls_all, calls_are, calls_named, set_then}
+use Rattle.vx_group_lines.proofs.GroupCalls.{Called, SetThen, calls_all, calls_are, calls_named, set_then}
 use Rattle.vx_group_lines.proofs.GroupLeads.{Follows, Sized, down_set, follows_off, follows_on, up_set}
 use Rattle.vx_group_lines.proofs.GroupShown.{view_up}
-use Rattle.vx_group_lines.proofs.GroupStatus.{config_is, table_is}
+use Rattle.vx_above.proofs.SiteCalls.{calls}
+use Rattle.vx_above.proofs.GroupStatus.{config_is, table_is}
 use Rattle.vx_group_lines.proofs.Returning.{SitsOn, back_of, NoneKnown, none_known}
 use Rattle.vx_group_lines.proofs.Rising.{HasUp, cut_some, fits_by, has_up, risen_is, risen_node, shows_cut, sits_down, some_config, told_of, unfused_down, unread_as, up_as}
 use Rattle.vx_grouped.specs.GroupNotes.{note_dimmed}

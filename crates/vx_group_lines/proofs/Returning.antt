@@ -24,8 +24,8 @@ use Rattle.vx_events.specs.GroupEnds.{KnowsNothing}
 use Rattle.vx_events.specs.GroupMaps.{StoppedClean}
 use Rattle.vx_events.specs.GroupNotes.{IsKnown, NotesBack}
 use Rattle.vx_group_lines.proofs.Dimming.{dark_moves}
-use Rattle.vx_group_lines.proofs.GroupStatus.{config_is}
-use Rattle.vx_group_lines.proofs.Losing.{Names, placed_as, state_opens, volume_goes}
+use Rattle.vx_above.proofs.GroupStatus.{config_is}
+use Rattle.vx_above.proofs.Losing.{Names, placed_as, state_opens, volume_goes}
 use Rattle.vx_group_lines.proofs.MapReturns.{clean_to}
 
 plex_stays : (v : VolumeEntry) (p q : PlexEntry) → PlexMoves (AnyState v) p q → PlexStays p q

@@ -41,7 +41,7 @@ use Rattle.vx_yard.specs.Yards.{IsTold}
 use Rattle.vx_yard.specs.declared.yard.Yard.{Yard}
 use Rattle.vx_group_lines.specs.Rises.{ComesDown, kept_of_volume, kept_shown}
 use Rattle.vx_group_lines.proofs.GroupAt.{no_value}
-use Rattle.vx_group_lines.proofs.GroupStatus.{config_is}
+use Rattle.vx_above.proofs.GroupStatus.{config_is}
 use Rattle.vx_group_lines.proofs.Returning.{SitsOn}
 
 -- ---- the events

@@ -42,7 +42,7 @@ use Rattle.vx_yard.proofs.OverGroup.{bare_apart, both_ways, over_is, set_notes}
 use Rattle.vx_yard.specs.Working.{IsFree}
 use Rattle.vx_yard.specs.Yards.{in_files}
 use Rattle.vx_yard.specs.declared.yard.Yard.{Yard}
-use Rattle.vx_group_lines.proofs.Changing.{notes_config}
+use Rattle.vx_above.proofs.Changing.{notes_config}
 use Rattle.vx_group_lines.proofs.GroupAt.{GroupAt, up_noted}
 use Rattle.vx_group_lines.proofs.GroupMarks.{group_noted_at}
 use Rattle.vx_yard.specs.Standing.{StandsFor}

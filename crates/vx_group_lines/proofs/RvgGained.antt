@@ -43,7 +43,7 @@ use Rattle.vx_yard.specs.Carries.{Carries}
 use Rattle.vx_yard.specs.Standing.{BeginsFirst, StandsFor}
 use Rattle.vx_yard.specs.declared.yard.Yard.{Yard}
 use Rattle.vx_group_lines.proofs.Arriving.{Arrives, arrives_data, arrives_none, arrives_noted, arrives_worked, noted_at}
-use Rattle.vx_group_lines.proofs.Changing.{notes_config}
+use Rattle.vx_above.proofs.Changing.{notes_config}
 use Rattle.vx_group_lines.proofs.GroupLeads.{feeds_nobody}
 use Rattle.vx_group_lines.proofs.RvgAt.{RvgAt, asks_config, asks_fits, entries_same}
 use Rattle.vx_group_lines.proofs.RvgCalls.{fused_below}

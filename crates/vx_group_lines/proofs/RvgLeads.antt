@@ -34,13 +34,14 @@ use Rattle.vx_yard.specs.Standing.{StandsFor}
 use Rattle.vx_yard.specs.Gaining.{LeadsRvg}
 use Rattle.vx_yard.specs.Yards.{IsTold, count_of}
 use Rattle.vx_yard.specs.declared.yard.Yard.{Yard}
-use Rattle.vx_group_lines.proofs.Fails.{calls_of}
-use Rattle.vx_group_lines.proofs.GroupCalls.{calls}
-use Rattle.vx_group_lines.proofs.Losing.{Names}
+use Rattle.vx_above.proofs.Quiet.{quiet_by, rose_disk}
+use Rattle.vx_above.proofs.SiteCalls.{calls, names_below, rose_below}
+use Rattle.vx_above.proofs.Fails.{calls_of}
+use Rattle.vx_above.proofs.Losing.{Names}
 use Rattle.vx_group_lines.proofs.RvgAt.{RvgAt, asks_config}
-use Rattle.vx_group_lines.proofs.RvgCalls.{below_faults, names_below, rose_below}
+use Rattle.vx_group_lines.proofs.RvgCalls.{below_faults}
 use Rattle.vx_group_lines.proofs.RvgGained.{gained_carries, gained_stands, rvg_next, sits}
-use Rattle.vx_group_lines.proofs.RvgNotes.{notes_rvg, quiet_by, rose_disk}
+use Rattle.vx_group_lines.proofs.RvgNotes.{notes_rvg}
 use Rattle.vx_group_lines.specs.Noting.{made_facts}
 use Rattle.vx_events.specs.RvgFits.{FitsSome}
 use Rattle.vx_diskset.specs.Holds.{beside_of}

@@ -1,12 +1,11 @@
 -- What a line that makes a replicated volume group leaves of the note of its site.
-use Rattle.std.proofs.Common.{◌≡◌, ◌∙◌, ◌⊎◌, ◌<◌, ◌≤◌, ℕ, Bool, false, ◌∷◌, length, ap, sym, refl, arith, inl, inr}
+use Rattle.std.proofs.Common.{◌≡◌, ◌∙◌, ◌≤◌, ℕ, Bool, false, ◌∷◌, length, ap, sym, refl, arith}
 use Rattle.std.specs.Prelude.{◌==◌, ◌||◌, Contains}
 use Rattle.std.proofs.lemmas.Bool.Decides.{nat_tests}
 use Rattle.vx_model.specs.declared.units.Units.{Units}
 use Rattle.vx_disk.specs.Shelf.{Meaning}
 use Rattle.vx_config.specs.declared.config.Config.{Config}
 use Rattle.vx_history.specs.Groups.{GroupNode}
-use Rattle.vx_groupmaps.specs.Loading.{DeviceRose}
 use Rattle.vx_grouped.proofs.ImageLemmas.{contains_next}
 use Rattle.vx_grouped.specs.ConfigMoves.{LosesSome, none_again}
 use Rattle.vx_grouped.specs.GroupNotes.{NotesConfig}
@@ -14,9 +13,10 @@ use Rattle.vx_diskset.specs.Makings.{NarrowsNote, note_begun}
 use Rattle.vx_events.specs.Fails.{Fails}
 use Rattle.vx_events.specs.GroupConfigs.{ConfigLoses}
 use Rattle.vx_events.specs.RvgNotes.{HasOneValue, NotesLacking, NotesNarrowed, NotesNoRvg, NotesRvg, as_replicated, note_gained}
-use Rattle.vx_events.specs.RvgWorks.{NoneFailed, NoteAgrees, NotesWork, WorksAs}
-use Rattle.vx_group_lines.proofs.Changing.{moves_to, reconfigures}
-use Rattle.vx_group_lines.proofs.Losing.{Names}
+use Rattle.vx_events.specs.RvgWorks.{NotesWork, WorksAs}
+use Rattle.vx_above.proofs.Changing.{moves_to, reconfigures}
+use Rattle.vx_above.proofs.Losing.{Names}
+use Rattle.vx_above.proofs.Quiet.{works_note}
 
 -- ---- the volumes, written as they read
 
@@ -50,28 +50,12 @@ module _ (told : Type 0) (units : Units) (note middle : GroupNode) (it : Narrows
     same = ap (λ (k : GroupNode). let m : GroupNode = record k { inside = λ v. (v == units.srl) || middle.inside v } in m) it.same;
   }
 
--- ---- imports that agreed
-
--- the disk of the call that failed, where they do not
-abbrev pub rose_disk : (begun next : GroupNode) (o e : Meaning) → (NoteAgrees begun → NoteAgrees next) ⊎ DeviceRose o e → ℕ
-rose_disk begun next o e (inl keeps) = 0
-rose_disk begun next o e (inr some) = some.disk
-
 module _ (s many : ℕ) (fails : Fails) (o e : Meaning) (names : Names s many fails o e) where
-  pub quiet_by : (begun next : GroupNode) (calm : (NoteAgrees begun → NoteAgrees next) ⊎ DeviceRose o e) → rose_disk begun next o e calm < many → NoneFailed s fails → NoteAgrees begun → NoteAgrees next
-  quiet_by begun next (inl keeps) below none agrees = keeps agrees
-  quiet_by begun next (inr some) below none agrees = absurd (none some.disk (names.each some.disk below some.rose))
-
-  pub works_note : (Off : Type 0) (begun next : GroupNode) (was now : Config) → NotesConfig begun was → NotesConfig next now → length was.disks ≤ many → LosesSome o e was now → WorksAs Off s fails begun next → NotesWork Off s fails begun next
-  works_note Off begun next was now noted noted_now enough change works =
-      reconfigures s many fails o e begun next names (λ c x. ConfigLoses s fails c x) (WorksAs Off s fails) was now noted noted_now
-      (moves_to s many fails o e begun next names none_again was now enough change) works
-
   module _ (told : Type 0) (units : Units) (note middle : GroupNode) (it : NarrowsNote (note.dark ≡ false) units note middle) (was now : Config) (noted : NotesConfig middle was) (enough : length was.disks ≤ many) where
     -- none was made
     module _ (next : GroupNode) (noted_now : NotesConfig next now) (change : LosesSome o e was now) where
       begun_works : (Off : Type 0) → WorksAs Off s fails (note_begun units middle) next → NotesWork Off s fails (note_begun units middle) next
-      begun_works Off works = works_note Off (note_begun units middle) next was now (record { is = noted.is; spells = noted.spells }) noted_now enough change works
+      begun_works Off works = works_note s many fails o e names Off (note_begun units middle) next was now (record { is = noted.is; spells = noted.spells }) noted_now enough change works
 
       pub notes_none : (Off : Type 0) → WorksAs Off s fails (note_begun units middle) next → NotesNoRvg told Off s fails units note next
       notes_none Off works = record { middle = note_begun units middle; narrowed = narrowed_begun told units note middle it; moves = begun_works Off works }

@@ -42,13 +42,14 @@ use Rattle.vx_yard.specs.Standing.{StandsFor}
 use Rattle.vx_yard.specs.Gaining.{LeadsRvg, StopsRvg}
 use Rattle.vx_yard.specs.Yards.{IsTold, count_of}
 use Rattle.vx_yard.specs.declared.yard.Yard.{Yard}
-use Rattle.vx_group_lines.proofs.Changing.{moves_table}
-use Rattle.vx_group_lines.proofs.Fails.{calls_of}
-use Rattle.vx_group_lines.proofs.GroupCalls.{calls}
-use Rattle.vx_group_lines.proofs.Losing.{Names}
+use Rattle.vx_above.proofs.Quiet.{quiet_by, rose_disk}
+use Rattle.vx_above.proofs.SiteCalls.{calls, names_below, rose_below}
+use Rattle.vx_above.proofs.Changing.{moves_table}
+use Rattle.vx_above.proofs.Fails.{calls_of}
+use Rattle.vx_above.proofs.Losing.{Names}
 use Rattle.vx_group_lines.proofs.RvgAt.{RvgAt}
-use Rattle.vx_group_lines.proofs.RvgCalls.{below_faults, names_below, rose_below}
-use Rattle.vx_group_lines.proofs.RvgNotes.{notes_lacking, notes_none, quiet_by, rose_disk}
+use Rattle.vx_group_lines.proofs.RvgCalls.{below_faults}
+use Rattle.vx_group_lines.proofs.RvgNotes.{notes_lacking, notes_none}
 use Rattle.vx_group_lines.proofs.RvgStays.{rvg_left, stays_carries, stays_none, stays_stands}
 
 module _ {R : Type 0} {g : Ghosts R} where

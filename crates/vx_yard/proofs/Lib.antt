@@ -28,6 +28,7 @@ pub mod OneSite
 pub mod OverGroup
 pub mod RawSites
 pub mod RawTable
+pub mod Reaching
 pub mod RecoverLine
 pub mod Rows
 pub mod Seats

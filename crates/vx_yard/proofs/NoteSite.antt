@@ -51,7 +51,7 @@ abbrev pub IsNoted : Node → Node → Type 0
 IsNoted n m = m ≡ record n { fuse = m.fuse; failing = m.failing; group = m.group }
 
 -- links fit as well
-fits_one : (d : Doubted) (s : ℕ) (n : Node) → IsNoted (d.world.nodes s) n → LinksFit d → LinksFit (with_one d s n)
+pub fits_one : (d : Doubted) (s : ℕ) (n : Node) → IsNoted (d.world.nodes s) n → LinksFit d → LinksFit (with_one d s n)
 fits_one d s n noted fits =
     fit_note d s n (ap (λ (m : Node). m.state) noted) (ap (λ (m : Node). m.halted) noted) (ap (λ (m : Node). m.role) noted)
     (record {

@@ -15,8 +15,8 @@ use Rattle.vx_events.specs.Fails.{Fails}
 use Rattle.vx_events.specs.GroupConfigs.{ConfigKeeps, ConfigKeepsBut, ConfigLosesBut, PutsPlex, StateLoses, StateSame, lies_on_disk}
 use Rattle.vx_events.specs.GroupNotes.{Reconfigures}
 use Rattle.vx_events.specs.GroupViews.{config_of, noted_table, plain_fact}
-use Rattle.vx_group_lines.proofs.GroupStatus.{config_is, table_is}
-use Rattle.vx_group_lines.proofs.Losing.{Names, again_as, config_goes, facts_move, facts_stated, serial_goes, state_loses, uses_is}
+use Rattle.vx_above.proofs.GroupStatus.{config_is, table_is}
+use Rattle.vx_above.proofs.Losing.{Names, again_as, config_goes, facts_move, facts_stated, serial_goes, state_loses, uses_is}
 
 -- the tests see the volumes that are noted
 pub notes_table : (note : GroupNode) (c : Config) → NotesConfig note c → noted_table note ≡ map plain_fact c.volumes

@@ -82,7 +82,7 @@ module _ (s : ℕ) (old new : ℕ → ℕ) where
   none_beyond zero s' d past = refl
   none_beyond (suc k) s' d past = times_else k s' d (has_risen (old k) (new k)) (λ _ is. omega (arith, past, is)) ∙ none_beyond k s' d (omega (arith, past))
 
-  none_apart : (n s' d : ℕ) → (s ≡ s' → ⊥) → times (here n) s' d ≡ 0
+  pub none_apart : (n s' d : ℕ) → (s ≡ s' → ⊥) → times (here n) s' d ≡ 0
   none_apart zero s' d apart = refl
   none_apart (suc k) s' d apart = times_else k s' d (has_risen (old k) (new k)) (λ same _. apart same) ∙ none_apart k s' d apart
 

@@ -1,0 +1,14 @@
+pub mod Changing
+pub mod Fails
+pub mod GroupStatus
+pub mod Losing
+pub mod OverSites
+pub mod Tables
+pub mod FailsBut
+pub mod Moved
+pub mod OverSeen
+pub mod OverComes
+pub mod OverEnds
+pub mod SiteCalls
+pub mod FuseGoing
+pub mod Quiet

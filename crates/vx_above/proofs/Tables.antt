@@ -1,0 +1,74 @@
+-- What the tests see of the volumes of a site with a replicated volume group over its group does not change as disks fail: they see how many plexes a volume has, not their states.
+use Rattle.std.proofs.Common.{◌≡◌, ◌∙◌, ◌+◌, ◌++◌, ℕ, List, [], ◌∷◌, map, ap, sym, refl}
+use Rattle.std.specs.Prelude.{Option, Some, None, option_map, slice_get}
+use Rattle.std.proofs.lemmas.Option.{slice_get-map}
+use Rattle.vx_model.specs.declared.units.Units.{Units}
+use Rattle.vx_config.specs.declared.config.Config.{Config}
+use Rattle.vx_config.specs.declared.entry.VolumeEntry.{VolumeEntry}
+use Rattle.vx_history.specs.Groups.{GroupNode}
+use Rattle.vx_history.specs.World.{Node, Volume}
+use Rattle.vx_order.specs.declared.facts.VolumeFacts.{VolumeFacts}
+use Rattle.vx_events.specs.Facts.{volume_fact}
+use Rattle.vx_events.specs.GroupViews.{config_of, plain_fact, volumes_of}
+use Rattle.vx_events.specs.RvgFits.{config_rvg, entries_noted, rvg_noted}
+use Rattle.vx_events.specs.RvgViews.{data_facts, data_units, is_data_unit, kind_at, kinded, others_by, others_from, others_of, over_table, plexes_in, unless_data}
+
+-- ---- the volumes that are no data volumes, by what the tests see of them in another kind
+
+others_seen : Units → ℕ → List VolumeFacts → List VolumeFacts
+others_seen units place [] = []
+others_seen units place (f ∷ fs) = unless_data (is_data_unit units.vols place) (let x : VolumeFacts = record f { kind = kind_at units place } in x) (others_seen units (place + 1) fs)
+
+others_as : (units : Units) (place : ℕ) (vs : List VolumeEntry) → others_from units place vs ≡ others_seen units place (map plain_fact vs)
+others_as units place [] = refl
+others_as units place (v ∷ vs) = ap (λ (fs : List VolumeFacts). unless_data (is_data_unit units.vols place) (kinded units place v) fs) (others_as units (place + 1) vs)
+
+others_same : (o : Option Units) (us vs : List VolumeEntry) → map plain_fact us ≡ map plain_fact vs → others_by o us ≡ others_by o vs
+others_same None us vs same = same
+others_same (Some units) us vs same = others_as units 0 us ∙ ap (λ (fs : List VolumeFacts). others_seen units 0 fs) same ∙ sym (others_as units 0 vs)
+
+-- ---- the data volumes
+
+plexes_seen : Option VolumeFacts → ℕ
+plexes_seen None = 0
+plexes_seen (Some f) = f.plexes
+
+plexes_as : (o : Option VolumeEntry) → plexes_in o ≡ plexes_seen (option_map plain_fact o)
+plexes_as None = refl
+plexes_as (Some v) = refl
+
+plexes_at : (vs : List VolumeEntry) (p : ℕ) → plexes_in (slice_get vs p) ≡ plexes_seen (slice_get (map plain_fact vs) p)
+plexes_at vs p = plexes_as (slice_get vs p) ∙ ap plexes_seen (sym (slice_get-map plain_fact vs p))
+
+plexes_same : (us vs : List VolumeEntry) (p : ℕ) → map plain_fact us ≡ map plain_fact vs → plexes_in (slice_get us p) ≡ plexes_in (slice_get vs p)
+plexes_same us vs p same = plexes_at us p ∙ ap (λ (fs : List VolumeFacts). plexes_seen (slice_get fs p)) same ∙ sym (plexes_at vs p)
+
+data_same : (us vs : List VolumeEntry) (places : List ℕ) (xs : List Volume) → map plain_fact us ≡ map plain_fact vs → data_facts us places xs ≡ data_facts vs places xs
+data_same us vs places [] same = refl
+data_same us vs [] (x ∷ xs) same = ap (λ (fs : List VolumeFacts). volume_fact x ∷ fs) (data_same us vs [] xs same)
+data_same us vs (p ∷ places) (x ∷ xs) same =
+    ap (λ (k : ℕ). (let f : VolumeFacts = record (volume_fact x) { plexes = k } in f) ∷ data_facts us places xs) (plexes_same us vs p same)
+    ∙ ap (λ (fs : List VolumeFacts). (let f : VolumeFacts = record (volume_fact x) { plexes = plexes_in (slice_get vs p) } in f) ∷ fs) (data_same us vs places xs same)
+
+-- ---- a site
+
+others_is : (o : Option Config) → others_of o ≡ others_by (config_rvg o) (volumes_of o)
+others_is None = refl
+others_is (Some c) = refl
+
+-- the table by its parts
+table_of : List Volume → Option Units → List VolumeEntry → List VolumeFacts
+table_of xs o vs = data_facts vs (data_units o) xs ++ others_by o vs
+
+table_is : (n : Node) (note : GroupNode) → over_table n note ≡ table_of n.volumes (rvg_noted note) (entries_noted note)
+table_is n note = ap (λ (fs : List VolumeFacts). data_facts (entries_noted note) (data_units (rvg_noted note)) n.volumes ++ fs) (others_is (config_of note.config))
+
+-- behind another note of the group, with the same replicated volume group and volumes that look the same
+pub table_like : (n m : Node) (note next : GroupNode) → m.volumes ≡ n.volumes → rvg_noted next ≡ rvg_noted note → map plain_fact (entries_noted next) ≡ map plain_fact (entries_noted note) → over_table m next ≡ over_table n note
+table_like n m note next volumes rvg same =
+    table_is m next
+    ∙ ap (λ (xs : List Volume). table_of xs (rvg_noted next) (entries_noted next)) volumes
+    ∙ ap (λ (o : Option Units). table_of n.volumes o (entries_noted next)) rvg
+    ∙ ap (λ (fs : List VolumeFacts). fs ++ others_by (rvg_noted note) (entries_noted next)) (data_same (entries_noted next) (entries_noted note) (data_units (rvg_noted note)) n.volumes same)
+    ∙ ap (λ (fs : List VolumeFacts). data_facts (entries_noted note) (data_units (rvg_noted note)) n.volumes ++ fs) (others_same (rvg_noted note) (entries_noted next) (entries_noted note) same)
+    ∙ sym (table_is n note)
