@@ -1,7 +1,7 @@
 -- A line at a site with a replicated volume group over its group that leaves what it notes of the group as it is.
 use Rattle.std.proofs.Common.{◌≡◌, ◌∙◌, ℕ, Bool, true, false, [], length, ap, sym, refl}
 use Rattle.std.proofs.Math.Path.{fun_ext}
-use Rattle.std.specs.Prelude.{◌&&◌, not, eqb, Option, Some, None, is_some, unwrap_or}
+use Rattle.std.specs.Prelude.{◌&&◌, not, eqb, Option, Some, is_some}
 use Rattle.vx_history.specs.Doubts.{Doubted}
 use Rattle.vx_history.specs.Groups.{GroupNode}
 use Rattle.vx_history.specs.World.{Fuse, FuseLit, FuseSet, NoFuse, Node, World, with_node}
@@ -9,21 +9,14 @@ use Rattle.vx_script.specs.declared.line.ScriptLine.{ScriptLine}
 use Rattle.vx_effects.proofs.Effects.{updated_self}
 use Rattle.vx_events.specs.Ends.{Ends, place_of}
 use Rattle.vx_events.specs.GroupLines.{is_over_group}
-use Rattle.vx_events.specs.GroupNotes.{IsKnown, no_note, note_at}
+use Rattle.vx_events.specs.GroupNotes.{IsKnown, note_at}
 use Rattle.vx_events.specs.RvgOver.{EndsOver, NotesLine, SaysOver, lit_over, noting_over}
 use Rattle.vx_events.specs.RvgViews.{is_over_rvg}
 use Rattle.vx_events.specs.RvgWorks.{FuseRanOut}
 use Rattle.vx_events.specs.declared.said.Said.{Said}
+use Rattle.vx_above.proofs.OverSites.{note_is}
 
--- such a site notes its group
-pub rvg_has : (n : Node) → is_over_rvg n ≡ true → n.group ≡ Some (note_at n)
-rvg_has n over = by n.group refl
-  where
-    by : (o : Option GroupNode) → n.group ≡ o → n.group ≡ Some (note_at n)
-    by None is = absurd (let e : false ≡ true = sym (ap (λ (x : Option GroupNode). is_some x && not (eqb (length n.volumes) 0)) is) ∙ over in cc)
-    by (Some note) is = is ∙ ap (λ (x : Option GroupNode). Some (unwrap_or x no_note)) (sym is)
-
--- and its group does not stand alone
+-- the group of such a site does not stand alone
 other_way : (a b : Bool) → (a && not b) ≡ true → (a && b) ≡ false
 other_way true true e = absurd (cc)
 other_way true false e = refl
@@ -72,5 +65,5 @@ stays_over told d line s said e ends notes says over group lit = record {
   next = note_at (d.world.nodes s);
   notes = notes;
   says = says;
-  left = record { world = noted_over_same d.world e.world s (note_at (d.world.nodes s)) (group ∙ rvg_has (d.world.nodes s) over) lit; after = λ i. refl };
+  left = record { world = noted_over_same d.world e.world s (note_at (d.world.nodes s)) (group ∙ note_is (d.world.nodes s) over) lit; after = λ i. refl };
 }

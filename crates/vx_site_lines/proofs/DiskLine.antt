@@ -1,5 +1,5 @@
 -- What a line that makes a disk fail, or ends that, comes to.
-use Rattle.std.proofs.Common.{◌≡◌, ℕ, Bool, false, List, [], ap, sym, subst, refl}
+use Rattle.std.proofs.Common.{◌≡◌, ℕ, Bool, true, false, List, [], ap, sym, subst, refl}
 use Rattle.std.specs.Prelude.{None, Option, Some, slice_get}
 use Rattle.vx_history.specs.Doubts.{Doubted}
 use Rattle.vx_history.specs.World.{with_node}
@@ -26,7 +26,7 @@ use Rattle.vx_yard.specs.Working.{IsFree}
 use Rattle.vx_yard.specs.Yards.{IsTold, in_files}
 use Rattle.vx_yard.proofs.FailsStay.{set_on}
 use Rattle.vx_yard.proofs.FuseStays.{fused_set}
-use Rattle.vx_yard.proofs.NamedSite.{apart_at, asks_at, fact_named, named_at}
+use Rattle.vx_yard.proofs.NamedSite.{apart_at, asks_at, fact_named, named_at, place_at}
 use Rattle.vx_yard.proofs.NoteSite.{changes_one, comes_one, none_left, with_one}
 use Rattle.vx_yard.proofs.OneSite.{Changed, role_kept, stands_still, told_by}
 use Rattle.vx_yard.proofs.Rows.{fact_like, fact_same}
@@ -45,6 +45,15 @@ use Rattle.vx_diskset.proofs.NotedLikes.{noted_stays}
 use Rattle.vx_diskset.specs.Aboves.{site_in}
 use Rattle.vx_diskset.specs.Noted.{NotedAt, NotedOn, OversStay, below_rvg}
 use Rattle.vx_history.specs.Groups.{GroupNode}
+use Rattle.vx_events.specs.Ends.{Ends}
+use Rattle.vx_events.specs.GroupLines.{is_over_group}
+use Rattle.vx_events.specs.GroupNotes.{IsKnown, note_at}
+use Rattle.vx_events.specs.RvgOver.{EndsOver, lit_over}
+use Rattle.vx_events.specs.RvgSteps.{over_rvg_at}
+use Rattle.vx_events.specs.RvgViews.{is_over_rvg}
+use Rattle.vx_yard.specs.AboveLines.{LeadsAbove}
+use Rattle.vx_yard.specs.Carries.{Carries}
+use Rattle.vx_site_lines.proofs.AboveEnds.{lit_same, rvg_apart, stays_over}
 
 -- a site one of whose disks is made to fail, or not any longer
 abbrev disk_node : Node → (disk : ℕ) → DiskState → Node

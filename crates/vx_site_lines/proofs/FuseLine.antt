@@ -1,5 +1,5 @@
 -- What a line leaves that sets the fuse of a site.
-use Rattle.std.proofs.Common.{◌≡◌, ◌∙◌, ℕ, false, List, [], ap, sym, subst, refl, Some}
+use Rattle.std.proofs.Common.{◌≡◌, ◌∙◌, ℕ, true, false, List, [], ap, sym, subst, refl, Some}
 use Rattle.vx_history.specs.Steps.{fused}
 use Rattle.vx_history.specs.World.{Node, FuseSet}
 use Rattle.vx_model.specs.declared.site.SiteState.TheVariants.{Up as IsUp}
@@ -38,6 +38,15 @@ use Rattle.vx_site_lines.proofs.Apart.{fact_stays, over_is, state_placed}
 use Rattle.vx_yard.proofs.FirstSites.{begins_like}
 use Rattle.vx_diskset.proofs.NotedLikes.{noted_fused}
 use Rattle.vx_diskset.specs.Noted.{NotedAt, OversFused}
+use Rattle.vx_events.specs.Ends.{Ends}
+use Rattle.vx_events.specs.GroupLines.{is_over_group}
+use Rattle.vx_events.specs.GroupNotes.{IsKnown, note_at}
+use Rattle.vx_events.specs.RvgOver.{EndsOver, lit_over}
+use Rattle.vx_events.specs.RvgSteps.{over_rvg_at}
+use Rattle.vx_events.specs.RvgViews.{is_over_rvg}
+use Rattle.vx_yard.specs.AboveLines.{LeadsAbove}
+use Rattle.vx_yard.specs.Carries.{Carries}
+use Rattle.vx_site_lines.proofs.AboveEnds.{lit_set, rvg_apart, stays_over}
 
 -- a site whose fuse is set
 abbrev fused_node : Node → (calls : ℕ) → Node

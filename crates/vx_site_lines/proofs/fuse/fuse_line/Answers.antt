@@ -4,7 +4,7 @@ use Rattle.std.specs.Prelude.{Some}
 use Rattle.vx_events.specs.Facts.{seat_of}
 use Rattle.vx_yard.specs.Yards.{in_files}
 use Rattle.vx_yard.proofs.ChangeSite.{told_before}
-use Rattle.vx_site_lines.proofs.FuseLine.{fuse_asks, fuse_leads}
+use Rattle.vx_site_lines.proofs.FuseLine.{fuse_above, fuse_asks, fuse_leads}
 use Rattle.vx_yard.proofs.Lists.{get_at}
 use Rattle.vx_events.proofs.Refused.{fuse_may}
 use Rattle.vx_yard.proofs.Seats.{named_some}
@@ -35,3 +35,12 @@ returns-clause-asked g c = λ d stands apart.
     let at = get_at disk_sets c.site_of-site.result c.index_mut.result.now c.site_of-site.ensures.disk_set c.index_mut.ensures.value in
     fuse_asks d c.args.yard.now _ c.args.name.now c.args.calls c.args.pick c.site_of-site.result c.index_mut.result.now c.fuse.new.self stands c.requires.free is
     (record { there = at; later = c.fuse.ensures.later; disk_sets = refl; racks = refl }) c.fuse.ensures.asked
+
+pub returns-clause-above : goal.returns-clause-above
+returns-clause-above g c = λ d stands rvg.
+    let disk_sets = c.args.yard.now.disk_sets.items in
+    let is : seat_of c.args.yard.now.facts.items c.args.name.now ≡ Some c.site_of-site.result = c.site_of-site.ensures.seat in
+    let at = get_at disk_sets c.site_of-site.result c.index_mut.result.now c.site_of-site.ensures.disk_set c.index_mut.ensures.value in
+    fuse_above d c.args.yard.now _ c.args.name.now c.args.calls c.args.pick c.site_of-site.result c.index_mut.result.now c.fuse.new.self stands rvg c.requires.free is
+    (record { there = at; later = c.fuse.ensures.later; disk_sets = refl; racks = refl }) c.fuse.ensures.role c.fuse.ensures.noted c.fuse.ensures.fused c.fuse.ensures.asked refl
+    (record { flight = refl; assemblies = refl; feeders = refl })
