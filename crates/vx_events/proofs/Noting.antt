@@ -100,7 +100,7 @@ left_like s line taken d last new is =
 
 -- ---- lines of links
 
-like_worked : (v : World) (s : ℕ) → IsLike v (worked_on v s)
+pub like_worked : (v : World) (s : ℕ) → IsLike v (worked_on v s)
 like_worked v s = like_noted v s (burned (v.nodes s).fuse)
 
 like_twice : (v : World) (p s : ℕ) → IsLike v (worked_on (worked_on v p) s)

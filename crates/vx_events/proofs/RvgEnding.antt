@@ -16,7 +16,7 @@ use Rattle.vx_script.specs.declared.line.ScriptLine.{ScriptLine}
 use Rattle.vx_script.specs.declared.line.ScriptLine.TheVariants.{Site, Raw, Disk as DiskLine, Crash, Fuse as FuseLine, GroupImport, Recover, Write, Put, Read, Show, Apply, Status}
 use Rattle.vx_events.proofs.GroupStopping.{events_tell, group_stops, noted_like}
 use Rattle.vx_events.proofs.LinkStopping.{link_stops}
-use Rattle.vx_events.proofs.Noting.{as_like, disks_like, like_disks, like_noted, like_self, like_then, same_like, like_site}
+use Rattle.vx_events.proofs.Noting.{as_like, disks_like, like_disks, like_noted, like_self, like_then, same_like, like_site, like_worked}
 use Rattle.vx_events.proofs.RvgFull.{brings_found}
 use Rattle.vx_events.proofs.RvgKnown.{back_dark}
 use Rattle.vx_events.proofs.RvgStopping.{ended as ended_rvg, noted_doubted, same_doubted}
@@ -30,14 +30,15 @@ use Rattle.vx_events.specs.GroupLines.{group_events, group_noted, noting}
 use Rattle.vx_events.specs.GroupNotes.{IsKnown, note_at}
 use Rattle.vx_events.specs.Lists.{Choice, events_of, recovery_of, crash_count}
 use Rattle.vx_events.specs.RvgBack.{FindsNoRvg, FindsPlain, FindsRvg, GetsRvg, GroupCutOff, GroupHeld, GroupUnfound, HadRvg, IsLeftBack, KeptLost, IsLeftBut, LogCut, LogFails, LogLacks, RestsWithRvg, RvgBack, RvgFinds, RvgUp, fall_first, fuse_left, rest_again}
-use Rattle.vx_events.specs.RvgLinks.{AllKnown, LinksOver, noting_each}
+use Rattle.vx_events.specs.RvgLinks.{AllKnown, LinksOver, noting_each, noted_there}
 use Rattle.vx_events.specs.RvgMakes.{RvgStops, noting_in}
 use Rattle.vx_events.specs.RvgNotes.{volume_events}
-use Rattle.vx_events.specs.RvgOver.{CutBelow, EndsOrShows, EndsOver, OpensFor, OverRvg, OverRvgBy, ShowFails, ShowsAny, TakesOr, is_below, is_inside, lit_over, noting_over}
+use Rattle.vx_events.specs.RvgOver.{CutBelow, EndsOrShows, EndsOver, OpensFor, OverRvg, OverRvgBy, ShowFails, ShowsAny, TakesOr, is_below, is_inside, noting_over, fuse_over}
 use Rattle.vx_events.specs.RvgParts.{RvgShort, ShortGroup, ShortLog, ShortMade}
 use Rattle.vx_events.specs.RvgViews.{is_over_rvg}
 use Rattle.vx_events.specs.RvgWorks.{AgreesOr}
 use Rattle.vx_events.specs.declared.said.Said.{Said}
+use Rattle.vx_history.specs.Steps.{worked_on}
 
 -- ---- ends in worlds that differ in notes alone
 
@@ -184,8 +185,8 @@ module _ (told : Type 0) (d : Doubted) (line : ScriptLine) (s : ℕ) (fails : Fa
         events = stops.events;
         ending = stops.ending;
         stops = ends_like d stops.events stops.ending h.middle new stops.stops
-            (as_like h.middle new (noting_over d.world h.middle.world s h.next)
-            (like_site h.middle.world s (h.middle.world.nodes s).failing (Some h.next) (lit_over (d.world.nodes s).fuse (h.middle.world.nodes s).fuse)) h.left);
+            (as_like h.middle new (noting_over line d.world h.middle.world s h.next)
+            (like_site h.middle.world s (h.middle.world.nodes s).failing (Some h.next) (fuse_over line (d.world.nodes s).fuse (h.middle.world.nodes s).fuse)) h.left);
       }
 
 -- what want of memory leaves of a recovery or an import
@@ -243,18 +244,18 @@ module _ (told : Type 0) (is_told : told) (d : Doubted) (s : ℕ) (bright : (not
       absurd (let e : true ≡ false = sym (dark is_told) ∙ sym (back_dark s line taken next d _ new left) ∙ known in cc)
   finds_stops line (inr known) (FindsNoRvg kept taken lost next why has are brings unknown free notes says left) = fall_stops d s line kept taken lost next new left
 
-  unchanged : IsAs d d.world new → RvgStops d new
-  unchanged left = record {
+  worked : IsAs d (worked_on d.world s) new → RvgStops d new
+  worked left = record {
     before = d;
     like = same_doubted d;
     events = [];
     ending = [];
-    stops = EventsDone d refl refl (as_like d new d.world (like_self d.world) left);
+    stops = EventsDone d refl refl (as_like d new (worked_on d.world s) (like_worked d.world s) left);
   }
 
   shows_or : (inside : Bool) (line : ScriptLine) → OpensFor d.world line → EndsOrShows inside told d line s fails said new → RvgStops d new
-  shows_or true line opens (ShowsAny site volume start count bytes is are got size left) = unchanged left
-  shows_or true line opens (ShowFails disk are has says left) = unchanged left
+  shows_or true line opens (ShowsAny site volume start count bytes is are got size left) = worked left
+  shows_or true line opens (ShowFails disk are has says left) = worked left
   shows_or false line opens ends = over_stops told d line s fails said new (is_told, bright) (opens_at d.world line opens) ends
 
   back_or : (line : ScriptLine) → RvgBack told d line s fails said new ⊎ RvgFinds told d line s fails said new → RvgStops d new ⊎ RvgFinds told d line s fails said new
@@ -288,11 +289,11 @@ module _ (told : Type 0) (is_told : told) (d : Doubted) (s : ℕ) (bright : (not
 
 -- ---- lines of links
 
-each_like : (w : World) (next : ℕ → GroupNode) (v : World) → IsLike v (noting_each w next v)
-each_like w next v = record {
+each_like : (line : ScriptLine) (w : World) (next : ℕ → GroupNode) (v : World) → IsLike v (noting_each line w next v)
+each_like line w next v = record {
   sites = refl;
   nodes = λ i. by_test (λ (n : Node). n ≡ record (v.nodes i) { fuse = n.fuse; failing = n.failing; group = n.group }) (is_over_rvg (w.nodes i))
-      (record (v.nodes i) { group = Some (next i) }) (v.nodes i) (λ _. refl) (λ _. refl);
+      (noted_there w line i (next i) (v.nodes i)) (v.nodes i) (λ _. refl) (λ _. refl);
   links = λ p q. record { linked = refl; same = λ _. refl };
   lines = λ l. refl;
   packets = refl;
@@ -310,5 +311,5 @@ links_over_stop told d line fails said new known h =
       events = stops.events;
       ending = h.ending;
       stops = ends_like d stops.events h.ending h.middle new stops.stops
-          (as_like h.middle new (noting_each d.world h.next h.middle.world) (each_like d.world h.next h.middle.world) h.left);
+          (as_like h.middle new (noting_each line d.world h.next h.middle.world) (each_like line d.world h.next h.middle.world) h.left);
     }

@@ -4,7 +4,7 @@ use Rattle.std.specs.Prelude.{unwrap_or}
 use Rattle.vx_history.proofs.Updates.{at_place}
 use Rattle.vx_history.specs.Doubts.{Doubted}
 use Rattle.vx_history.specs.Groups.{GroupNode}
-use Rattle.vx_history.specs.Steps.{burned}
+use Rattle.vx_history.specs.Steps.{burned, worked_on}
 use Rattle.vx_history.specs.Stops.{IsFused}
 use Rattle.vx_history.specs.World.{NoFuse, Node, World}
 use Rattle.vx_history.specs.declared.event.Event.{Event}
@@ -13,7 +13,7 @@ use Rattle.vx_model.specs.declared.units.Units.{Units}
 use Rattle.vx_script.specs.declared.line.ScriptLine.{ScriptLine}
 use Rattle.vx_script.specs.declared.line.ScriptLine.TheVariants.{Apply, GroupImport, Put, Recover, Write}
 use Rattle.vx_events.proofs.KnownLaws.{back_known, cuts_known, finds_none, group_known, group_stays, no_rise, same_note}
-use Rattle.vx_events.specs.Doubts.{with_disks}
+use Rattle.vx_events.specs.Doubts.{with_disks, IsAs}
 use Rattle.vx_events.specs.Fails.{Fails}
 use Rattle.vx_events.specs.GroupEnds.{BringsUp}
 use Rattle.vx_events.specs.GroupLines.{noting}
@@ -22,7 +22,7 @@ use Rattle.vx_events.specs.Known.{MayDarken}
 use Rattle.vx_events.specs.RvgBack.{FindsNoRvg, FindsPlain, FindsRvg, GetsRvg, GroupCutOff, GroupHeld, GroupUnfound, HadRvg, IsLeftBack, KeptLost, LogCut, LogFails, LogLacks, RestsWithRvg, RvgBack, RvgFinds, RvgUp, fuse_left}
 use Rattle.vx_events.specs.RvgMakes.{IsLeftRvg, MakesRvg, RvgCut, RvgDone, RvgFails, RvgLacks, units_at}
 use Rattle.vx_events.specs.RvgNotes.{NotesNarrowed}
-use Rattle.vx_events.specs.RvgOver.{EndsOrShows, NotesLine, OverRvg, OverRvgBy, ShowFails, ShowsAny, TakesOr, is_below, is_inside, lit_over, noting_over}
+use Rattle.vx_events.specs.RvgOver.{EndsOrShows, NotesLine, OverRvg, OverRvgBy, ShowFails, ShowsAny, TakesOr, is_below, is_inside, noting_over, fuse_over}
 use Rattle.vx_events.specs.RvgWorks.{FuseRanOut, NotesWork, WorksAs}
 use Rattle.vx_events.specs.declared.said.Said.{Said}
 
@@ -34,8 +34,12 @@ of_note w s next is known = ap (λ (o : Option GroupNode). (unwrap_or o no_note)
 pub noted_here : (v : World) (s : ℕ) (next : GroupNode) → ((noting v s next).nodes s).group ≡ Some next
 noted_here v s next = ap (λ (n : Node). n.group) (at_place v.nodes s (record (v.nodes s) { group = Some next }))
 
-pub noted_over_here : (w v : World) (s : ℕ) (next : GroupNode) → ((noting_over w v s next).nodes s).group ≡ Some next
-noted_over_here w v s next = ap (λ (n : Node). n.group) (at_place v.nodes s (record (v.nodes s) { group = Some next; fuse = lit_over (w.nodes s).fuse (v.nodes s).fuse }))
+-- a site of which calls were made notes what it did
+pub worked_note : (w : World) (s : ℕ) → note_at ((worked_on w s).nodes s) ≡ note_at (w.nodes s)
+worked_note w s = ap (λ (n : Node). note_at n) (at_place w.nodes s (record (w.nodes s) { fuse = burned (w.nodes s).fuse }))
+
+pub noted_over_here : (line : ScriptLine) (w v : World) (s : ℕ) (next : GroupNode) → ((noting_over line w v s next).nodes s).group ≡ Some next
+noted_over_here line w v s next = ap (λ (n : Node). n.group) (at_place v.nodes s (record (v.nodes s) { group = Some next; fuse = fuse_over line (w.nodes s).fuse (v.nodes s).fuse }))
 
 back_note : (s : ℕ) (line : ScriptLine) (taken : Bool) (next : GroupNode) (before last new : Doubted) → IsLeftBack s line taken next before last new → next.dark ≡ false
     → (note_at (new.world.nodes s)).dark ≡ false
@@ -126,14 +130,19 @@ module _ (told : Type 0) (tells : told) (d : Doubted) (s : ℕ) (known : (note_a
   line_dark : (Off : Type 0) (line : ScriptLine) (next : GroupNode) → NotesLine Off s fails line here next → next.dark ≡ false
   line_dark Off (Write site volume start count fill) next x = works_dark Off s fails here next x ∙ known
   line_dark Off (Put site volume start bytes) next x = works_dark Off s fails here next x ∙ known
+  line_dark Off (Read site volume start count) next x = works_dark Off s fails here next x ∙ known
+  line_dark Off (Show site volume start count) next x = works_dark Off s fails here next x ∙ known
   line_dark Off (Apply site to) next x = works_dark Off s fails here next x ∙ known
   line_dark Off other next same = same_note here next same known
 
+  worked_known : IsAs d (worked_on d.world s) new → (note_at (new.world.nodes s)).dark ≡ false
+  worked_known left = ap (λ (w : World). (note_at (w.nodes s)).dark) left.world ∙ ap (λ (g : GroupNode). g.dark) (worked_note d.world s) ∙ known
+
   shows_known : (inside : Bool) (line : ScriptLine) → EndsOrShows inside told d line s fails said new → (note_at (new.world.nodes s)).dark ≡ false
-  shows_known true line (ShowsAny site volume start count bytes is are got size left) = subst (λ (w : World). (note_at (w.nodes s)).dark ≡ false) (sym left.world) known
-  shows_known true line (ShowFails disk are has says left) = subst (λ (w : World). (note_at (w.nodes s)).dark ≡ false) (sym left.world) known
+  shows_known true line (ShowsAny site volume start count bytes is are got size left) = worked_known left
+  shows_known true line (ShowFails disk are has says left) = worked_known left
   shows_known false line h =
-      of_note new.world s h.next (ap (λ (w : World). (w.nodes s).group) h.left.world ∙ noted_over_here d.world h.middle.world s h.next) (line_dark (FuseRanOut (d.world.nodes s) h.inner) line h.next h.notes)
+      of_note new.world s h.next (ap (λ (w : World). (w.nodes s).group) h.left.world ∙ noted_over_here line d.world h.middle.world s h.next) (line_dark (FuseRanOut (d.world.nodes s) h.inner) line h.next h.notes)
 
   back_or_known : (line : ScriptLine) → (MayDarken here line said → ⊥) → RvgBack told d line s fails said new ⊎ RvgFinds told d line s fails said new
       → (note_at (new.world.nodes s)).dark ≡ false

@@ -26,7 +26,8 @@ use Rattle.vx_events.specs.RvgOver.{EndsOrShows, NotesLine, OverRvg, OverRvgBy, 
 use Rattle.vx_events.specs.RvgViews.{is_over_rvg}
 use Rattle.vx_events.specs.RvgWorks.{FuseRanOut, NoneFailed, NoteAgrees}
 use Rattle.vx_events.specs.declared.said.Said.{Said}
-use Rattle.vx_events.proofs.RvgKnown.{noted_over_here}
+use Rattle.vx_events.proofs.RvgKnown.{noted_over_here, worked_note}
+use Rattle.vx_history.specs.Steps.{worked_on}
 
 -- ---- notes
 
@@ -86,8 +87,8 @@ module _ (told : Type 0) (tells : told) (d : Doubted) (s : ℕ) (fails : Fails) 
   abbrev here : GroupNode
   here = note_at (d.world.nodes s)
 
-  unchanged : IsAs d d.world new → NoteAgrees (note_at (new.world.nodes s))
-  unchanged left = subst (λ (w : World). NoteAgrees (note_at (w.nodes s))) (sym left.world) a
+  worked : IsAs d (worked_on d.world s) new → NoteAgrees (note_at (new.world.nodes s))
+  worked left = subst (λ (w : World). NoteAgrees (note_at (w.nodes s))) (sym left.world) (subst (λ (k : GroupNode). NoteAgrees k) (sym (worked_note d.world s)) a)
 
   group_agrees : (line : ScriptLine) → is_below (d.world.nodes s) line ≡ true → GroupEnds told d line s fails said new → NoteAgrees (note_at (new.world.nodes s))
   group_agrees line below (GroupDone next are does left) =
@@ -130,15 +131,17 @@ module _ (told : Type 0) (tells : told) (d : Doubted) (s : ℕ) (fails : Fails) 
   line_agrees : (Off : Type 0) → (Off → ⊥) → (line : ScriptLine) (next : GroupNode) → NotesLine Off s fails line here next → NoteAgrees next
   line_agrees Off runs (Write site volume start count fill) next x = x.keeps.quiet none runs a
   line_agrees Off runs (Put site volume start bytes) next x = x.keeps.quiet none runs a
+  line_agrees Off runs (Read site volume start count) next x = x.keeps.quiet none runs a
+  line_agrees Off runs (Show site volume start count) next x = x.keeps.quiet none runs a
   line_agrees Off runs (Apply site to) next x = x.keeps.quiet none runs a
   line_agrees Off runs other next same = agrees_note here next same a
 
   shows_agree : (inside : Bool) (line : ScriptLine) → EndsOrShows inside told d line s fails said new → NoteAgrees (note_at (new.world.nodes s))
-  shows_agree true line (ShowsAny site volume start count bytes is are got size left) = unchanged left
-  shows_agree true line (ShowFails disk are has says left) = unchanged left
+  shows_agree true line (ShowsAny site volume start count bytes is are got size left) = worked left
+  shows_agree true line (ShowFails disk are has says left) = worked left
   shows_agree false line h =
       let runs : FuseRanOut (d.world.nodes s) h.inner → ⊥ = λ off. dry (off.0, subst (λ (r : Said). SaysOver (d.world.nodes s) h.next r said) off.1 h.says) in
-      agrees_at (new.world.nodes s) h.next (ap (λ (w : World). (w.nodes s).group) h.left.world ∙ noted_over_here d.world h.middle.world s h.next)
+      agrees_at (new.world.nodes s) h.next (ap (λ (w : World). (w.nodes s).group) h.left.world ∙ noted_over_here line d.world h.middle.world s h.next)
       (line_agrees (FuseRanOut (d.world.nodes s) h.inner) runs line h.next h.notes)
 
   back_or : (line : ScriptLine) → RvgBack told d line s fails said new ⊎ RvgFinds told d line s fails said new → NoteAgrees (note_at (new.world.nodes s))
@@ -169,5 +172,5 @@ pub links_agree : (told : Type 0) (d : Doubted) (line : ScriptLine) (fails : Fai
     → is_over_rvg (d.world.nodes i) ≡ true → NoneFailed i fails → (FuseRanOut (d.world.nodes i) said → ⊥) → NoteAgrees (note_at (d.world.nodes i))
     → NoteAgrees (note_at (new.world.nodes i))
 links_agree told d line fails said new h i over none dry a =
-    agrees_at (new.world.nodes i) (h.next i) (ap (λ (w : World). (w.nodes i).group) h.left.world ∙ each_group d.world h.next h.middle.world i over)
+    agrees_at (new.world.nodes i) (h.next i) (ap (λ (w : World). (w.nodes i).group) h.left.world ∙ each_group line d.world h.next h.middle.world i over)
     (there_agrees (works_at d.world line i) (FuseRanOut (d.world.nodes i) said) i fails (note_at (d.world.nodes i)) (h.next i) none dry a (h.notes i over))

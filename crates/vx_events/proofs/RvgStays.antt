@@ -19,7 +19,7 @@ use Rattle.vx_events.proofs.KnownLaws.{group_stays, left_note, never}
 use Rattle.vx_events.proofs.Places.{some_same}
 use Rattle.vx_events.proofs.RvgConfigs.{adds_keeps, again_keeps, closed_keeps, keeps_self, keeps_then, loses_keeps, puts_or, stayed}
 use Rattle.vx_events.proofs.RvgEvents.{rvg_apart}
-use Rattle.vx_events.proofs.RvgKnown.{back_dark, lost_group, noted_here, noted_over_here}
+use Rattle.vx_events.proofs.RvgKnown.{back_dark, lost_group, noted_here, noted_over_here, worked_note}
 use Rattle.vx_events.specs.Doubts.{IsAs, with_disks}
 use Rattle.vx_events.specs.Fails.{Fails}
 use Rattle.vx_events.specs.GroupConfigs.{ConfigLoses, lies_on_disk, opened_again}
@@ -30,11 +30,12 @@ use Rattle.vx_events.specs.GroupNotes.{IsKnown, NotesBack, NotesCut, NotesDoubt,
 use Rattle.vx_events.specs.GroupViews.{config_of}
 use Rattle.vx_events.specs.RvgBack.{FindsNoRvg, FindsPlain, FindsRvg, GetsRvg, GroupCutOff, GroupHeld, GroupUnfound, HadRvg, IsLeftBack, IsLeftBut, KeptLost, LogCut, LogFails, LogLacks, RestsWithRvg, RvgBack, RvgFinds, RvgUp}
 use Rattle.vx_events.specs.RvgFits.{KeepsRvg, KeptConfig, NoteKeepsRvg, config_rvg, rvg_noted}
-use Rattle.vx_events.specs.RvgLinks.{LinksOver, NotesThere, noting_each, works_at}
+use Rattle.vx_events.specs.RvgLinks.{LinksOver, NotesThere, noting_each, works_at, noted_there}
 use Rattle.vx_events.specs.RvgOver.{EndsOrShows, NotesLine, OverRvg, OverRvgBy, ShowFails, ShowsAny, TakesOr, is_below, is_inside}
 use Rattle.vx_events.specs.RvgViews.{is_over_rvg}
 use Rattle.vx_events.specs.RvgWorks.{NotesWork, FuseRanOut, WorksCut}
 use Rattle.vx_events.specs.declared.said.Said.{Said}
+use Rattle.vx_history.specs.Steps.{worked_on}
 
 -- ---- notes
 
@@ -173,6 +174,11 @@ module _ (told : Type 0) (d : Doubted) (line : ScriptLine) (s : ℕ) (fails : Fa
   unchanged : IsAs d d.world new → NoteKeepsRvg (note_at (d.world.nodes s)) (note_at (new.world.nodes s))
   unchanged left = subst (λ (w : World). NoteKeepsRvg (note_at (d.world.nodes s)) (note_at (w.nodes s))) (sym left.world) (same_config noted noted refl)
 
+  worked_keeps : IsAs d (worked_on d.world s) new → NoteKeepsRvg (note_at (d.world.nodes s)) (note_at (new.world.nodes s))
+  worked_keeps left =
+      subst (λ (w : World). NoteKeepsRvg (note_at (d.world.nodes s)) (note_at (w.nodes s))) (sym left.world)
+      (subst (λ (k : GroupNode). NoteKeepsRvg (note_at (d.world.nodes s)) k) (sym (worked_note d.world s)) (same_config noted noted refl))
+
   group_keeps : is_below (d.world.nodes s) line ≡ true → GroupEnds told d line s fails said new
       → NoteKeepsRvg (note_at (d.world.nodes s)) (note_at (new.world.nodes s))
   group_keeps below (GroupDone next are does left) =
@@ -286,14 +292,16 @@ module _ (told : Type 0) (d : Doubted) (line : ScriptLine) (s : ℕ) (fails : Fa
   line_keeps : (Off : Type 0) (l : ScriptLine) (next : GroupNode) → NotesLine Off s fails l here next → NoteKeepsRvg here next
   line_keeps Off (Write site volume start count fill) next x = loses s fails here next x
   line_keeps Off (Put site volume start bytes) next x = loses s fails here next x
+  line_keeps Off (Read site volume start count) next x = loses s fails here next x
+  line_keeps Off (Show site volume start count) next x = loses s fails here next x
   line_keeps Off (Apply site to) next x = loses s fails here next x
   line_keeps Off other next same = same_note here next same
 
   shows_keeps : (inside : Bool) → EndsOrShows inside told d line s fails said new → NoteKeepsRvg here (note_at (new.world.nodes s))
-  shows_keeps true (ShowsAny site volume start count bytes is are got size left) = unchanged told d line s fails said new left
-  shows_keeps true (ShowFails disk are has says left) = unchanged told d line s fails said new left
+  shows_keeps true (ShowsAny site volume start count bytes is are got size left) = worked_keeps told d line s fails said new left
+  shows_keeps true (ShowFails disk are has says left) = worked_keeps told d line s fails said new left
   shows_keeps false h =
-      by_note (new.world.nodes s) here h.next (ap (λ (w : World). (w.nodes s).group) h.left.world ∙ noted_over_here d.world h.middle.world s h.next) (line_keeps (FuseRanOut (d.world.nodes s) h.inner) line h.next h.notes)
+      by_note (new.world.nodes s) here h.next (ap (λ (w : World). (w.nodes s).group) h.left.world ∙ noted_over_here line d.world h.middle.world s h.next) (line_keeps (FuseRanOut (d.world.nodes s) h.inner) line h.next h.notes)
 
 module _ (told : Type 0) (d : Doubted) (s : ℕ) (fails : Fails) (said : Said) (new : Doubted) (over : is_over_rvg (d.world.nodes s) ≡ true) where
   abbrev Stays : Type 0
@@ -334,13 +342,13 @@ there_keeps : (works : Bool) (Off : Type 0) (i : ℕ) (fails : Fails) (note next
 there_keeps true Off i fails note next x = loses i fails note next x
 there_keeps false Off i fails note next same = same_note note next same
 
-pub each_group : (w : World) (next : ℕ → GroupNode) (v : World) (i : ℕ) → is_over_rvg (w.nodes i) ≡ true → ((noting_each w next v).nodes i).group ≡ Some (next i)
-each_group w next v i over =
-    ap (λ (b : Bool). let n : Node = (if b then record (v.nodes i) { group = Some (next i) } else v.nodes i) in n.group) over
+pub each_group : (line : ScriptLine) (w : World) (next : ℕ → GroupNode) (v : World) (i : ℕ) → is_over_rvg (w.nodes i) ≡ true → ((noting_each line w next v).nodes i).group ≡ Some (next i)
+each_group line w next v i over =
+    ap (λ (b : Bool). let n : Node = (if b then noted_there w line i (next i) (v.nodes i) else v.nodes i) in n.group) over
 
 pub links_stay : (told : Type 0) (d : Doubted) (line : ScriptLine) (fails : Fails) (said : Said) (new : Doubted) → LinksOver told d line fails said new → (i : ℕ)
     → is_over_rvg (d.world.nodes i) ≡ true → NoteKeepsRvg (note_at (d.world.nodes i)) (note_at (new.world.nodes i))
 links_stay told d line fails said new h i over =
     by_note (new.world.nodes i) (note_at (d.world.nodes i)) (h.next i)
-    (ap (λ (w : World). (w.nodes i).group) h.left.world ∙ each_group d.world h.next h.middle.world i over)
+    (ap (λ (w : World). (w.nodes i).group) h.left.world ∙ each_group line d.world h.next h.middle.world i over)
     (there_keeps (works_at d.world line i) (FuseRanOut (d.world.nodes i) said) i fails (note_at (d.world.nodes i)) (h.next i) (h.notes i over))

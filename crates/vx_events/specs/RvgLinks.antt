@@ -5,7 +5,7 @@ use Rattle.std.specs.List.{AllByRecursion}
 use Rattle.vx_history.specs.Doubts.{Doubted}
 use Rattle.vx_history.specs.Events.{packet_at}
 use Rattle.vx_history.specs.Groups.{GroupNode}
-use Rattle.vx_history.specs.World.{Node, Packet, World}
+use Rattle.vx_history.specs.World.{Fuse, Node, Packet, World}
 use Rattle.vx_script.specs.declared.line.ScriptLine.{ScriptLine}
 use Rattle.vx_script.specs.declared.line.ScriptLine.TheVariants.{Deliver, Link, Pump, Set, Settle}
 use Rattle.vx_events.specs.Doubts.{IsAs}
@@ -14,6 +14,7 @@ use Rattle.vx_events.specs.Fails.{Fails}
 use Rattle.vx_events.specs.Fuses.{MayPass, header_calls}
 use Rattle.vx_events.specs.GroupNotes.{note_at}
 use Rattle.vx_events.specs.LinkEnds.{LinkEnds}
+use Rattle.vx_events.specs.RvgOver.{burnt_over}
 use Rattle.vx_events.specs.RvgViews.{is_over_rvg}
 use Rattle.vx_events.specs.RvgWorks.{NotesWork, FuseRanOut}
 use Rattle.vx_events.specs.declared.said.Said.{Said}
@@ -54,9 +55,18 @@ abbrev pub NotesThere : (works : Bool) → (Off : Type 0) → (i : ℕ) → Fail
 NotesThere true Off i fails note next = NotesWork Off i fails note next
 NotesThere false Off i fails note next = next ≡ note
 
--- the world v in which each site that was over such a group has this note of it
-abbrev pub noting_each : World → (ℕ → GroupNode) → World → World
-noting_each w next v = record v { nodes = λ i. if is_over_rvg (w.nodes i) then record (v.nodes i) { group = Some (next i) } else v.nodes i }
+-- the fuse of a site at which the line works, or not
+abbrev pub fuse_there : (works : Bool) → (old new : Fuse) → Fuse
+fuse_there true old new = burnt_over old new
+fuse_there false old new = new
+
+-- a node behind the line, with this note of its group
+abbrev pub noted_there : World → ScriptLine → (i : ℕ) → GroupNode → Node → Node
+noted_there w line i note m = record m { group = Some note; fuse = fuse_there (works_at w line i) (w.nodes i).fuse m.fuse }
+
+-- the world v behind a line that began in the world w, in which each site that was over such a group has this note of it
+abbrev pub noting_each : ScriptLine → World → (ℕ → GroupNode) → World → World
+noting_each line w next v = record v { nodes = λ i. if is_over_rvg (w.nodes i) then noted_there w line i (next i) (v.nodes i) else v.nodes i }
 
 -- what the disks of the sites over groups hold is known
 abbrev pub AllKnown : Type 0 → World → ScriptLine → Type 0
@@ -97,6 +107,6 @@ pub record LinksOver (told : Type 0) (d : Doubted) (line : ScriptLine) (fails : 
   pub ends : LinkEnds (AllKnown told d.world line) d line ending said middle
   pub next : ℕ → GroupNode
   pub notes : (i : ℕ) → is_over_rvg (d.world.nodes i) ≡ true → NotesThere (works_at d.world line i) (FuseRanOut (d.world.nodes i) said) i fails (note_at (d.world.nodes i)) (next i)
-  pub left : IsAs middle (noting_each d.world next middle.world) new
+  pub left : IsAs middle (noting_each line d.world next middle.world) new
   pub works : NeedsLogs d.world line said
   pub calls : NeedsPasses d.world line said

@@ -5,13 +5,14 @@ use Rattle.vx_model.specs.declared.no.No.TheVariants.{Device, Down as IsOff}
 use Rattle.vx_history.specs.Doubts.{Doubted}
 use Rattle.vx_history.specs.Groups.{GroupNode}
 use Rattle.vx_history.specs.Stops.{IsFused, IsOpen}
+use Rattle.vx_history.specs.Steps.{burned, worked_on}
 use Rattle.vx_history.specs.World.{Fuse, FuseLit, FuseSet, NoFuse, Node, World, with_node}
 use Rattle.vx_history.specs.declared.event.Event.TheVariants.{Crash as CrashAt}
 use Rattle.vx_order.specs.declared.facts.VolumeFacts.{VolumeFacts}
 use Rattle.vx_order.specs.declared.facts.VolumeKind.{VolumeKind}
 use Rattle.vx_order.specs.declared.facts.VolumeKind.TheVariants.{Data, Srl, Map, Plain}
 use Rattle.vx_script.specs.declared.line.ScriptLine.{ScriptLine}
-use Rattle.vx_script.specs.declared.line.ScriptLine.TheVariants.{Apply, GroupDeport, GroupImport, PlexAttach, PlexDetach, Put, Read, Recover, Show, Volume, Write}
+use Rattle.vx_script.specs.declared.line.ScriptLine.TheVariants.{Apply, Disk, Fuse as FuseLine, GroupDeport, GroupImport, PlexAttach, PlexDetach, Put, Read, Recover, Show, Status, Volume, Write}
 use Rattle.vx_events.specs.Doubts.{IsAs, run_as, with_disks}
 use Rattle.vx_events.specs.Ends.{Ends, place_of as site_of}
 use Rattle.vx_events.specs.Facts.{place_of, site_number}
@@ -68,10 +69,12 @@ is_inside n other = false
 
 -- ---- notes
 
--- what calls of a line leave of the note of a group: only lines that write have such calls
+-- what calls of a line leave of the note of a group
 abbrev pub NotesLine : (Off : Type 0) → (s : ℕ) → Fails → ScriptLine → GroupNode → GroupNode → Type 0
 NotesLine Off s fails (Write site volume start count fill) note next = NotesWork Off s fails note next
 NotesLine Off s fails (Put site volume start bytes) note next = NotesWork Off s fails note next
+NotesLine Off s fails (Read site volume start count) note next = NotesWork Off s fails note next
+NotesLine Off s fails (Show site volume start count) note next = NotesWork Off s fails note next
 NotesLine Off s fails (Apply site to) note next = NotesWork Off s fails note next
 NotesLine Off s fails other note next = next ≡ note
 
@@ -84,17 +87,22 @@ SaysOver n note other said = said ≡ other
 
 -- ---- fuses
 
--- A fuse that is lit behind a line. How many calls a line makes on the disks below a replicated volume group is not said: the fuse has no more left than before.
-abbrev pub lit_over : (old new : Fuse) → Fuse
-lit_over old NoFuse = NoFuse
-lit_over old (FuseSet calls) = FuseSet calls
-lit_over NoFuse (FuseLit most) = FuseLit most
-lit_over (FuseSet calls) (FuseLit most) = FuseLit calls
-lit_over (FuseLit calls) (FuseLit most) = FuseLit calls
+-- The fuse behind calls. How many a line makes on the disks below a replicated volume group is not said: a fuse that is still there has no more left than before.
+abbrev pub burnt_over : (old new : Fuse) → Fuse
+burnt_over old NoFuse = NoFuse
+burnt_over old (FuseSet calls) = burned old
+burnt_over old (FuseLit most) = burned old
+
+-- the fuse behind a line
+abbrev pub fuse_over : ScriptLine → (old new : Fuse) → Fuse
+fuse_over (Disk site disk state) old new = new
+fuse_over (FuseLine site calls pick) old new = new
+fuse_over (Status site) old new = new
+fuse_over other old new = burnt_over old new
 
 -- the world v behind a line that began in the world w, in which the site has this note of its group
-abbrev pub noting_over : (w v : World) → (s : ℕ) → GroupNode → World
-noting_over w v s note = with_node v s (record (v.nodes s) { group = Some note; fuse = lit_over (w.nodes s).fuse (v.nodes s).fuse })
+abbrev pub noting_over : ScriptLine → (w v : World) → (s : ℕ) → GroupNode → World
+noting_over line w v s note = with_node v s (record (v.nodes s) { group = Some note; fuse = fuse_over line (w.nodes s).fuse (v.nodes s).fuse })
 
 -- ---- ends
 
@@ -110,7 +118,7 @@ pub record EndsOver (told : Type 0) (d : Doubted) (line : ScriptLine) (s : ℕ) 
   pub next : GroupNode
   pub notes : NotesLine (FuseRanOut (d.world.nodes s) inner) s fails line (note_at (d.world.nodes s)) next
   pub says : SaysOver (d.world.nodes s) next inner said
-  pub left : IsAs middle (noting_over d.world middle.world s next) new
+  pub left : IsAs middle (noting_over line d.world middle.world s next) new
 
 -- The fuse of the disks ran out in a line on the group alone. Where a disk halted the replicated volume group, the crash may keep the write that it ended.
 pub record CutBelow (d : Doubted) (line : ScriptLine) (s : ℕ) (fails : Fails) (said : Said) (new : Doubted) : Type 0 where
@@ -126,8 +134,8 @@ pub record CutBelow (d : Doubted) (line : ScriptLine) (s : ℕ) (fails : Fails) 
 -- Blocks of the log or of the maps are shown, of which nothing is said; or a disk failed.
 pub data ShowsInside (d : Doubted) (line : ScriptLine) (s : ℕ) (fails : Fails) (said : Said) (new : Doubted) : Type 0 where
   ShowsAny : (site volume : List ℕ) (start count : ℕ) (bytes : List ℕ) → line ≡ Show site volume start count → AreOf s fails → said ≡ Got bytes
-      → length bytes ≡ 512 * count → IsAs d d.world new → ShowsInside d line s fails said new
-  ShowFails : (disk : ℕ) → AreOf s fails → Contains fails (s, disk) → said ≡ Refused (Device disk) → IsAs d d.world new → ShowsInside d line s fails said new
+      → length bytes ≡ 512 * count → IsAs d (worked_on d.world s) new → ShowsInside d line s fails said new
+  ShowFails : (disk : ℕ) → AreOf s fails → Contains fails (s, disk) → said ≡ Refused (Device disk) → IsAs d (worked_on d.world s) new → ShowsInside d line s fails said new
 
 -- a line that shows such blocks, or another one on the replicated volume group or on the site
 abbrev pub EndsOrShows : (inside : Bool) → Type 0 → Doubted → ScriptLine → ℕ → Fails → Said → Doubted → Type 0

@@ -28,8 +28,7 @@ use Rattle.vx_grouped.specs.CoreMoves.{BothOn}
 use Rattle.vx_grouped.proofs.MovesLemmas.{loses_some, used_below}
 use Rattle.vx_grouped.specs.GroupNotes.{is_sure}
 use Rattle.vx_grouped.proofs.ImageLemmas.{sure_by, sure_free, sure_kept}
-use Rattle.vx_ground.specs.Accounts.{GroundSince, GroundState, PlexQuiet, ground_state}
-use Rattle.vx_groupmaps.specs.Loading.{DeviceRose}
+use Rattle.vx_ground.specs.Accounts.{DisksQuiet, FewDisk, GroundSince, GroundState, PlexQuiet, ground_state}
 use Rattle.vx_loggroup.proofs.SettledFacts.{count_or, plex_high}
 
 rose_on : (a b c : ℕ) → b ≤ c → Rose a b → Rose a c
@@ -65,7 +64,7 @@ ground_none a m = record {
   openly = λ clear. clear;
   newest = λ clear was is. was is;
   falls = λ is. is;
-  sure = λ is none up. is;
+  sure = λ is quiet up. is;
 }
 
 -- and one call more
@@ -80,19 +79,19 @@ module _ (a : GroundState) (c d : GroupCore) (m0 m m' : Meaning) (first : (u : �
   counted : (u : ℕ) → Rose (m.faults u) (m'.faults u) → Rose (m.disk_faults u) (m'.disk_faults u)
   counted u rose = subst (λ (k : ℕ). Rose k (m'.disk_faults u)) (sym (first u)) (subst (λ (k : ℕ). Rose (m.faults u) k) (sym (last u)) rose)
 
-  -- a call that failed in this one, or before it
-  rose_now : DeviceRose m m' → DeviceRose m0 m'
-  rose_now some = record { disk = some.disk; rose = rose_back (m0.disk_faults some.disk) (m.disk_faults some.disk) (m'.disk_faults some.disk) (since.counts some.disk) some.rose }
+  -- on no disk a call failed before this one, nor in it
+  all_before : DisksQuiet m0 m' → DisksQuiet m0 m
+  all_before quiet = record { none = λ u low rose. quiet.none u low (rose_on (m0.disk_faults u) (m.disk_faults u) (m'.disk_faults u) (more u) rose) }
 
-  rose_before : DeviceRose m0 m → DeviceRose m0 m'
-  rose_before some = record { disk = some.disk; rose = rose_on (m0.disk_faults some.disk) (m.disk_faults some.disk) (m'.disk_faults some.disk) (more some.disk) some.rose }
+  all_after : DisksQuiet m0 m' → DisksQuiet m m'
+  all_after quiet = record { none = λ u low rose. quiet.none u low (rose_back (m0.disk_faults u) (m.disk_faults u) (m'.disk_faults u) (since.counts u) rose) }
 
   -- a call that answers Ok leaves the newest configuration committed
-  sure_after : {T : Type 0} (unit : ℕ) (r : Result T ShelfError) → (c.held ≡ None → d.held ≡ None) → Cause (inner_meaning (wide c) m) (inner_meaning (wide d) m') unit r
-      → OnOk r (c.inner.committed ≡ true → d.inner.committed ≡ true) → is_sure c ≡ true → (DeviceRose m m' → ⊥) → (IsTrue m'.down → ⊥) → is_sure d ≡ true
-  sure_after unit (Ok done) free cause trust is none up = sure_by d.inner.committed d.held (trust (sure_kept c.inner.committed c.held is)) (free (sure_free c.inner.committed c.held is))
-  sure_after unit (Err (Fault disk)) free cause trust is none up = absurd (none (record { disk = disk; rose = cause.0.disk_count }))
-  sure_after unit (Err Down) free cause trust is none up = absurd (up cause)
+  sure_after : {T : Type 0} (unit : ℕ) (r : Result T ShelfError) → (c.held ≡ None → d.held ≡ None) → Cause (inner_meaning (wide c) m) (inner_meaning (wide d) m') unit r → FewDisk r
+      → OnOk r (c.inner.committed ≡ true → d.inner.committed ≡ true) → is_sure c ≡ true → DisksQuiet m m' → (IsTrue m'.down → ⊥) → is_sure d ≡ true
+  sure_after unit (Ok done) free cause few trust is quiet up = sure_by d.inner.committed d.held (trust (sure_kept c.inner.committed c.held is)) (free (sure_free c.inner.committed c.held is))
+  sure_after unit (Err (Fault disk)) free cause few trust is quiet up = absurd (quiet.none disk few cause.0.disk_count)
+  sure_after unit (Err Down) free cause few trust is quiet up = absurd (up cause)
 
   module _ (loses : LosesPlexes c.inner.config d.inner.config m m') where
     plexes_then : (v p : ℕ) → PlexQuiet a.config v p m0 m' → IsTrue (active a.config v p) → IsTrue (active d.inner.config v p)
@@ -113,7 +112,7 @@ module _ (a : GroundState) (c d : GroupCore) (m0 m m' : Meaning) (first : (u : �
     blamed_by u false is off on none = none (rose_back (m0.disk_faults u) (m.disk_faults u) (m'.disk_faults u) (since.counts u) (counted u (loses.disks.blamed u is on)))
 
     module _ (openly : MissesOpenly (wide c) → MissesOpenly (wide d)) (newest : MissesOpenly (wide c) → (c.inner.committed ≡ true → AllAtOnce (wide c).config m) → d.inner.committed ≡ true → AllAtOnce (wide d).config m')
-        (sure : is_sure c ≡ true → (DeviceRose m m' → ⊥) → (IsTrue m'.down → ⊥) → is_sure d ≡ true) where
+        (sure : is_sure c ≡ true → DisksQuiet m m' → (IsTrue m'.down → ⊥) → is_sure d ≡ true) where
       pub since_goes : GroundSince a m0 (ground_state d) m'
       since_goes = record {
         parts = then_parts a.config c.inner.config d.inner.config since.parts loses.parts;
@@ -128,14 +127,14 @@ module _ (a : GroundState) (c d : GroupCore) (m0 m m' : Meaning) (first : (u : �
         openly = λ clear. openly (since.openly clear);
         newest = λ clear was is. newest (since.openly clear) (since.newest clear was) is;
         falls = λ is. falls (since.falls is);
-        sure = λ is none up. sure (since.sure is (λ some. none (rose_before some)) (λ down. up (falls down))) (λ some. none (rose_now some)) up;
+        sure = λ is quiet up. sure (since.sure is (all_before quiet) (λ down. up (falls down))) (all_after quiet) up;
       }
 
     -- a write or a flush
-    pub since_loses : {T : Type 0} (unit : ℕ) (r : Result T ShelfError) → GroupFinds c d m m' → Cause (inner_meaning (wide c) m) (inner_meaning (wide d) m') unit r
+    pub since_loses : {T : Type 0} (unit : ℕ) (r : Result T ShelfError) → GroupFinds c d m m' → Cause (inner_meaning (wide c) m) (inner_meaning (wide d) m') unit r → FewDisk r
         → OnOk r (c.inner.committed ≡ true → d.inner.committed ≡ true) → GroundSince a m0 (ground_state d) m'
-    since_loses unit r finds cause trust =
-        since_goes finds.core.openly (λ clear was is. newest_goes c d m m' clear was finds.core is) (sure_after unit r finds.free cause trust)
+    since_loses unit r finds cause few trust =
+        since_goes finds.core.openly (λ clear was is. newest_goes c d m m' clear was finds.core is) (sure_after unit r finds.free cause few trust)
 
   -- a read, which leaves the configuration, and no image that there was not
   pub since_same : d.inner.config ≡ c.inner.config → d.held ≡ c.held → d.inner.committed ≡ c.inner.committed → d.inner.unsettled ≡ c.inner.unsettled → FindsFrom NoConfiguration m m' → GroundSince a m0 (ground_state d) m'
@@ -144,7 +143,7 @@ module _ (a : GroundState) (c d : GroupCore) (m0 m m' : Meaning) (first : (u : �
       (λ clear was is.
       let seen : (wide d).config ≡ (wide c).config = ap (λ (x : Config). config_by d.held x) same ∙ ap (λ (o : Option Held). config_by o c.inner.config) held in
       subst (λ (y : Config). AllAtOnce y m') (sym seen) (less_newest (wide c).config m m' (was (sym committed ∙ is)) finds))
-      (λ is none up. sure_by d.inner.committed d.held (committed ∙ sure_kept c.inner.committed c.held is) (held ∙ sure_free c.inner.committed c.held is))
+      (λ is quiet up. sure_by d.inner.committed d.held (committed ∙ sure_kept c.inner.committed c.held is) (held ∙ sure_free c.inner.committed c.held is))
 
 -- accounts in a row
 module _ (a b c : GroundState) (m0 m1 m2 : Meaning) (one : GroundSince a m0 b m1) (two : GroundSince b m1 c m2) where
@@ -158,11 +157,11 @@ module _ (a b c : GroundState) (m0 m1 m2 : Meaning) (one : GroundSince a m0 b m1
   blamed_both u true is off on none = one.blamed u off is (λ rose. none (rose_on (m0.disk_faults u) (m1.disk_faults u) (m2.disk_faults u) (two.counts u) rose))
   blamed_both u false is off on none = two.blamed u is on (λ rose. none (rose_back (m0.disk_faults u) (m1.disk_faults u) (m2.disk_faults u) (one.counts u) rose))
 
-  first_rose : DeviceRose m0 m1 → DeviceRose m0 m2
-  first_rose some = record { disk = some.disk; rose = rose_on (m0.disk_faults some.disk) (m1.disk_faults some.disk) (m2.disk_faults some.disk) (two.counts some.disk) some.rose }
+  all_first : DisksQuiet m0 m2 → DisksQuiet m0 m1
+  all_first quiet = record { none = λ u low rose. quiet.none u low (rose_on (m0.disk_faults u) (m1.disk_faults u) (m2.disk_faults u) (two.counts u) rose) }
 
-  last_rose : DeviceRose m1 m2 → DeviceRose m0 m2
-  last_rose some = record { disk = some.disk; rose = rose_back (m0.disk_faults some.disk) (m1.disk_faults some.disk) (m2.disk_faults some.disk) (one.counts some.disk) some.rose }
+  all_last : DisksQuiet m0 m2 → DisksQuiet m1 m2
+  all_last quiet = record { none = λ u low rose. quiet.none u low (rose_back (m0.disk_faults u) (m1.disk_faults u) (m2.disk_faults u) (one.counts u) rose) }
 
   pub ground_both : GroundSince a m0 c m2
   ground_both = record {
@@ -178,12 +177,12 @@ module _ (a b c : GroundState) (m0 m1 m2 : Meaning) (one : GroundSince a m0 b m1
     openly = λ clear. two.openly (one.openly clear);
     newest = λ clear was is. two.newest (one.openly clear) (one.newest clear was) is;
     falls = λ is. two.falls (one.falls is);
-    sure = λ is none up. two.sure (one.sure is (λ some. none (first_rose some)) (λ down. up (two.falls down))) (λ some. none (last_rose some)) up;
+    sure = λ is quiet up. two.sure (one.sure is (all_first quiet) (λ down. up (two.falls down))) (all_last quiet) up;
   }
 
 -- ---- what the configuration has lost, of which it can be told whether a call failed
 
-rose_or : (a b : ℕ) → Rose a b ⊎ (Rose a b → ⊥)
+pub rose_or : (a b : ℕ) → Rose a b ⊎ (Rose a b → ⊥)
 rose_or a b = elim (cases_lt a b) [
   | inl lt ↦ inl (record { fell_not = omega (arith, lt); rose = inl lt })
   | inr le ↦ elim (cases_lt b (2 ^ 64 - 1)) [
@@ -214,7 +213,7 @@ module _ (a b : GroundState) (m m' : Meaning) (first : (u : ℕ) → m.disk_faul
   seek_disk : (v p n : ℕ) → ((u : ℕ) → n ≤ u → IsTrue (uses c v p u) → Rose (m.disk_faults u) (m'.disk_faults u) → ⊥) → PlexBlamed c v p m m' ⊎ PlexQuiet c v p m m'
   seek_disk v p zero high = inr (record { none = λ u its rose. high u (omega arith) its rose })
   seek_disk v p (suc n) high = elim (rose_or (m.disk_faults n) (m'.disk_faults n)) [
-    | inl rose ↦ by rose (uses c v p n) refl
+    | inl rose ↦ by rose (uses c v p n) refl (λ off. seek_disk v p n (less (λ its twice. let none : false ≡ true = sym off ∙ its in cc)))
     | inr none ↦ seek_disk v p n (less (λ its rose. none rose))
   ]
     where
@@ -226,9 +225,9 @@ module _ (a b : GroundState) (m m' : Meaning) (first : (u : ℕ) → m.disk_faul
             here (subst (λ (k : ℕ). IsTrue (uses c v p k)) same its) (subst (λ (k : ℕ). Rose (m.disk_faults k) (m'.disk_faults k)) same rose)
       ]
 
-      by : Rose (m.disk_faults n) (m'.disk_faults n) → (t : Bool) → uses c v p n ≡ t → PlexBlamed c v p m m' ⊎ PlexQuiet c v p m m'
-      by rose true its = inl (record { disk = n; is_its = its; rose = counted_by n rose })
-      by rose false off = seek_disk v p n (less (λ its twice. let none : false ≡ true = sym off ∙ its in cc))
+      by : Rose (m.disk_faults n) (m'.disk_faults n) → (t : Bool) → uses c v p n ≡ t → (uses c v p n ≡ false → PlexBlamed c v p m m' ⊎ PlexQuiet c v p m m') → PlexBlamed c v p m m' ⊎ PlexQuiet c v p m m'
+      by rose true its rest = inl (record { disk = n; is_its = its; rose = counted_by n rose })
+      by rose false off rest = rest off
 
   blamed_or : (v p : ℕ) → PlexBlamed c v p m m' ⊎ PlexQuiet c v p m m'
   blamed_or v p = seek_disk v p (length c.disks) (λ u high its rose. let low = used_below c on.sound v p u its in omega (arith, low, high))

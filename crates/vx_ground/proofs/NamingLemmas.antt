@@ -1,12 +1,11 @@
 -- The account behind a commit that names a replicated volume group, or was refused.
-use Rattle.std.proofs.Common.{◌≡◌, ◌∙◌, ◌⊎◌, inl, inr, ℕ, true, false, List, Option, None, Some, IsTrue, refl, sym, subst, ⊎_elim}
+use Rattle.std.proofs.Common.{◌≡◌, ◌∙◌, ℕ, true, false, List, Option, None, Some, IsTrue, refl, sym, subst}
 use Rattle.std.specs.Prelude.{Err, Ok, Result}
 use Rattle.vx_config.specs.declared.config.Config.{Config}
 use Rattle.vx_config.specs.declared.entry.DiskEntry.{DiskEntry}
 use Rattle.vx_copies.specs.Marks.{blocks_at, failed_at}
 use Rattle.vx_disk.specs.Counts.{Rose}
 use Rattle.vx_disk.specs.Shelf.{Meaning}
-use Rattle.vx_groupmaps.specs.Loading.{DeviceRose}
 use Rattle.vx_kept.proofs.Chosen.{active_volumes, frames_volumes}
 use Rattle.vx_group.specs.Dets.{DetStops}
 use Rattle.vx_group.specs.Loses.{SameParts}
@@ -20,8 +19,8 @@ use Rattle.vx_model.specs.declared.errors.Stop.TheVariants.{No as Refused, OutOf
 use Rattle.vx_model.specs.declared.no.No.{No}
 use Rattle.vx_model.specs.declared.no.No.TheVariants.{Device, Down}
 use Rattle.vx_model.specs.declared.units.Units.{Units}
-use Rattle.vx_ground.specs.Accounts.{GroundSince, GroundState, ground_state, PlexQuiet}
-use Rattle.vx_ground.specs.Named.{NamesGroup, named_state}
+use Rattle.vx_ground.specs.Accounts.{DisksQuiet, GroundSince, GroundState, ground_state, PlexQuiet}
+use Rattle.vx_ground.specs.Named.{FewWhy, NamesGroup, named_state}
 use Rattle.vx_group.proofs.UsesLemmas.{uses_volumes}
 
 -- what is kept of a group whose volumes are named is as before but for that
@@ -52,7 +51,7 @@ module _ (units : Units) (c d : GroupCore) (m m' : Meaning) (first : (u : ℕ) �
 
   -- over a configuration with these volumes and disks
   named_since : (a : Config) (r : Result (Unit {0}) Stop) → SameParts a d.inner.config → a.volumes ≡ c.inner.config.volumes → a.disks ≡ c.inner.config.disks → NamesGroup units c m d m' r
-      → (is_sure c ≡ true → (DeviceRose m m' → ⊥) → (IsTrue m'.down → ⊥) → is_sure d ≡ true) → GroundSince (record (ground_state c) { config = a }) m (ground_state d) m'
+      → (is_sure c ≡ true → DisksQuiet m m' → (IsTrue m'.down → ⊥) → is_sure d ≡ true) → GroundSince (record (ground_state c) { config = a }) m (ground_state d) m'
   named_since a r parts volumes disks it sure = record {
     parts = parts;
     frames = λ v. frames_volumes d.inner.config c.inner.config it.same.volumes v ∙ sym (frames_volumes a c.inner.config volumes v);
@@ -74,17 +73,17 @@ module _ (units : Units) (c d : GroupCore) (m m' : Meaning) (first : (u : ℕ) �
   named_ground r x is names =
       let it : NamesGroup units c m d m' (Ok x) = subst (λ (y : Result (Unit {0}) Stop). NamesGroup units c m d m' y) is names in
       named_since (with_rvg (Some units) c.inner.config) (Ok x) (record { site = it.same.site; rvg = it.ends.named; count = it.same.count; later = it.later }) refl refl it
-      (λ is none up. sure_by d.inner.committed d.held (it.trust (sure_kept c.inner.committed c.held is)) (it.finds.free (sure_free c.inner.committed c.held is)))
+      (λ is quiet up. sure_by d.inner.committed d.held (it.trust (sure_kept c.inner.committed c.held is)) (it.finds.free (sure_free c.inner.committed c.held is)))
 
-  stopped_by : (why : Stop) → DetStops {T = Unit {0}} m m' (Err why) → DeviceRose m m' ⊎ IsTrue m'.down
-  stopped_by (Refused (Device disk)) it = inl (record { disk = disk; rose = it })
-  stopped_by (Refused Down) it = inr it
-  stopped_by (Refused other) it = absurd it
-  stopped_by OutOfMemory it = absurd it
+  stopped_by : (why : Stop) → FewWhy why → DetStops {T = Unit {0}} m m' (Err why) → DisksQuiet m m' → (IsTrue m'.down → ⊥) → ⊥
+  stopped_by (Refused (Device disk)) few it quiet up = quiet.none disk few it
+  stopped_by (Refused Down) few it quiet up = up it
+  stopped_by (Refused other) few it quiet up = absurd it
+  stopped_by OutOfMemory few it quiet up = absurd it
 
-  unnamed_sure : (why : Stop) → NamesGroup units c m d m' (Err why) → (o : Option No) → set_rvg_refusal c.inner.config units ≡ o → is_sure c ≡ true → (DeviceRose m m' → ⊥) → (IsTrue m'.down → ⊥) → is_sure d ≡ true
-  unnamed_sure why it None is sure none up = absurd (⊎_elim none up (stopped_by why (it.cause is)))
-  unnamed_sure why it (Some no_room) is sure none up = subst (λ (k : GroupCore). is_sure k ≡ true) (sym (it.refused no_room is).1) sure
+  unnamed_sure : (why : Stop) → NamesGroup units c m d m' (Err why) → (o : Option No) → set_rvg_refusal c.inner.config units ≡ o → is_sure c ≡ true → DisksQuiet m m' → (IsTrue m'.down → ⊥) → is_sure d ≡ true
+  unnamed_sure why it None is sure quiet up = absurd (stopped_by why it.few (it.cause is) quiet up)
+  unnamed_sure why it (Some no_room) is sure quiet up = subst (λ (k : GroupCore). is_sure k ≡ true) (sym (it.refused no_room is).1) sure
 
   -- it was refused
   pub unnamed_ground : (r : Result (Unit {0}) Stop) (why : Stop) → r ≡ Err why → NamesGroup units c m d m' r → GroundSince (ground_state c) m (ground_state d) m'

@@ -1,14 +1,15 @@
 -- What calls of a group make of its configuration and of its disks, in facts without a choice.
-use Rattle.std.specs.Prelude.{◌≡◌, ℕ, ◌≤◌, Bool, true, false, [], IsTrue, None}
+use Rattle.std.specs.Prelude.{◌≡◌, ℕ, ◌<◌, ◌≤◌, ◌^◌, Bool, true, false, [], Err, IsTrue, None, Ok, Result}
 use Rattle.vx_config.specs.declared.config.Config.{Config}
 use Rattle.vx_copies.specs.Marks.{blocks_at, failed_at}
 use Rattle.vx_disk.specs.Counts.{Rose}
 use Rattle.vx_disk.specs.Shelf.{Meaning}
+use Rattle.vx_disk.specs.declared.shelf.ShelfError.{ShelfError}
+use Rattle.vx_disk.specs.declared.shelf.ShelfError.TheVariants.{Fault, Down}
 use Rattle.vx_group.specs.Loses.{SameParts}
 use Rattle.vx_group.specs.Holding.{wide}
 use Rattle.vx_group.specs.declared.group_core.GroupCore.{GroupCore}
 use Rattle.vx_grouped.specs.GroupNotes.{is_sure}
-use Rattle.vx_groupmaps.specs.Loading.{DeviceRose}
 use Rattle.vx_kept.specs.Finds.{AllAtOnce}
 use Rattle.vx_kept.specs.Keeping.{frame_at}
 use Rattle.vx_volume.specs.Plexes.{active, uses}
@@ -35,6 +36,19 @@ no_state = record { config = no_config; seen = no_config; committed = false; uns
 pub record PlexQuiet (c : Config) (v p : ℕ) (old new : Meaning) : Type 0 where
   pub none : (u : ℕ) → IsTrue (uses c v p u) → Rose (old.disk_faults u) (new.disk_faults u) → ⊥
 
+-- nor on any disk: numbers of disks have 32 bits
+pub record DisksQuiet (old new : Meaning) : Type 0 where
+  pub none : (u : ℕ) → u < 2 ^ 32 → Rose (old.disk_faults u) (new.disk_faults u) → ⊥
+
+-- so has that of the disk that a failed call names
+abbrev pub FewError : ShelfError → Type 0
+FewError (Fault disk) = disk < 2 ^ 32
+FewError Down = Unit {0}
+
+abbrev pub FewDisk : {T : Type 0} → Result T ShelfError → Type 0
+FewDisk (Ok x) = Unit {0}
+FewDisk (Err error) = FewError error
+
 -- the newest configuration is not said to be committed while a commit is missed
 abbrev pub StateOpen : GroundState → Type 0
 StateOpen a = a.unsettled ≡ true → a.committed ≡ false
@@ -55,4 +69,4 @@ pub record GroundSince (a : GroundState) (m : Meaning) (b : GroundState) (m' : M
   pub openly : StateOpen a → StateOpen b
   pub newest : StateOpen a → (a.committed ≡ true → AllAtOnce a.seen m) → b.committed ≡ true → AllAtOnce b.seen m'
   pub falls : IsTrue m.down → IsTrue m'.down
-  pub sure : a.sure ≡ true → (DeviceRose m m' → ⊥) → (IsTrue m'.down → ⊥) → b.sure ≡ true
+  pub sure : a.sure ≡ true → DisksQuiet m m' → (IsTrue m'.down → ⊥) → b.sure ≡ true

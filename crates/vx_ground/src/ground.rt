@@ -3,6 +3,7 @@ ghost use Rattle.std.specs.Prelude.{◌≡◌, ℕ};
 ghost use Rattle.vx_ground.specs.Accounts.{GroundSince, ground_state};
 
 use crate::founding::Founding;
+use crate::numbers::few_disk;
 use std::marker::PhantomData;
 use vx_disk::{Shelf, ShelfError};
 use vx_loggroup::LoggedGroup;
@@ -58,11 +59,15 @@ impl<S: Shelf, B: Founding> Shelf for Ground<S, B> {
     }
 
     fn write(&mut self, unit: u32, block: u64, bytes: &[u8]) -> Result<(), ShelfError> {
-        self.group.write(unit, block, bytes)
+        let answer = self.group.write(unit, block, bytes);
+        few_disk(&answer);
+        answer
     }
 
     fn flush(&mut self, unit: u32) -> Result<(), ShelfError> {
-        self.group.flush(unit)
+        let answer = self.group.flush(unit);
+        few_disk(&answer);
+        answer
     }
 
     fn faults(&self, unit: u32) -> u64 {

@@ -8,6 +8,7 @@ mod founding;
 mod ground;
 mod lifting;
 mod naming;
+mod numbers;
 mod work;
 mod writing_over;
 

@@ -61,7 +61,20 @@ fn work_watched<B: Begun, R: Rack, W: Work>(
     (LoggedGroup::together(rack, rest), answer)
 }
 
-// The same over the disks of a site, of which contents are told or not.
+// The same over disks of which contents are told or not.
+fn work_shaded<R: Rack, W: Work>(
+    group: LoggedGroup<Shade<R>>,
+    work: W,
+) -> (LoggedGroup<Shade<R>>, W::Answer)
+    requires asks { W.asks work (volumes_over group.core (shade_meaning (λ s. R.meaning s) group.shelf)) }
+    ensures does { W.does work (volumes_over group.core (shade_meaning (λ s. R.meaning s) group.shelf)) (volumes_over result.0.core (shade_meaning (λ s. R.meaning s) result.0.shelf)) result.1 }
+    ensures ground { GroundSince (ground_state group.core) (shade_meaning (λ s. R.meaning s) group.shelf) (ground_state result.0.core) (shade_meaning (λ s. R.meaning s) result.0.shelf) }
+    ensures since { CalledSince (shade_meaning (λ s. R.meaning s) group.shelf) (shade_meaning (λ s. R.meaning s) result.0.shelf) }
+{
+    work_watched::<Brand, Shade<R>, W>(group, work)
+}
+
+// The same over the disks of a site, with an account of what the rack inside tells.
 fn work_traced<C: Begun, R: Rack, W: Work>(laid: Laid<R>, work: W) -> (Laid<R>, W::Answer)
     requires told { TellsLess C.first (R.meaning (rack_of laid.shelf)) }
     requires asks { W.asks work (laid_volumes laid) }
@@ -70,7 +83,7 @@ fn work_traced<C: Begun, R: Rack, W: Work>(laid: Laid<R>, work: W) -> (Laid<R>, 
     ensures since { CalledSince (shade_meaning (λ s. R.meaning s) laid.shelf) (shade_meaning (λ s. R.meaning s) result.0.shelf) }
     ensures told { TellsLess C.first (R.meaning (rack_of result.0.shelf)) }
 {
-    let (group, answer) = work_watched::<Brand, Shade<Traced<R, C>>, W>(trace::<C, R>(laid), work);
+    let (group, answer) = work_shaded::<Traced<R, C>, W>(trace::<C, R>(laid), work);
     (untrace(group), answer)
 }
 

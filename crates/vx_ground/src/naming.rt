@@ -8,13 +8,14 @@ ghost use Rattle.vx_group.specs.Finds.{GroupFinds};
 ghost use Rattle.vx_group.specs.Holding.{wide};
 ghost use Rattle.vx_group.specs.Rvgs.{RvgEnds, set_rvg_refusal};
 ghost use Rattle.vx_group.specs.Stands.{inner_meaning};
-ghost use Rattle.vx_ground.specs.Named.{NamesGroup, SameVolumes};
+ghost use Rattle.vx_ground.specs.Named.{FewStop, NamesGroup, SameVolumes};
 ghost use Rattle.vx_model.specs.declared.errors.Stop.TheVariants.{No as Refused};
 ghost use Rattle.vx_model.specs.declared.no.No.{No as NoValue};
 ghost use Rattle.vx_untold.specs.Shades.{rack_of, shade_meaning};
 ghost use Rattle.vx_watched.specs.Since.{CalledSince};
 ghost use Rattle.vx_watched.specs.Traces.{TellsLess};
 
+use crate::numbers::few_stop;
 use std::marker::Brand;
 use vx_disk::{Rack, Shelf};
 use vx_group::{may_name, set_rvg_in};
@@ -44,6 +45,7 @@ pub fn name_rvg<S: Shelf>(
     ensures finds { GroupFinds group.core result.0.core (S.meaning group.shelf) (S.meaning result.0.shelf) }
     ensures up { OnOk result.1 (IsTrue (S.meaning result.0.shelf).down → ⊥) }
     ensures cause { set_rvg_refusal group.core.inner.config units.now ≡ None → DetStops (S.meaning group.shelf) (S.meaning result.0.shelf) result.1 }
+    ensures few { FewStop result.1 }
 {
     let (mut shelf, rest) = group.apart();
     let Opened {
@@ -54,6 +56,7 @@ pub fn name_rvg<S: Shelf>(
         stopped,
     } = rest;
     let answer = set_rvg_in(&mut shelf, &mut core, units);
+    few_stop(&answer);
     let rest = Opened {
         core,
         logs,
@@ -82,14 +85,25 @@ fn name_watched<B: Begun, R: Rack>(
     (LoggedGroup::together(rack, rest), answer)
 }
 
-// The same over the disks of a site, of which contents are told or not.
+// The same over disks of which contents are told or not.
+fn name_shaded<R: Rack>(
+    group: LoggedGroup<Shade<R>>,
+    units: &Units,
+) -> (LoggedGroup<Shade<R>>, Result<(), Stop>)
+    ensures names { NamesGroup units.now group.core (shade_meaning (λ s. R.meaning s) group.shelf) result.0.core (shade_meaning (λ s. R.meaning s) result.0.shelf) result.1 }
+    ensures since { CalledSince (shade_meaning (λ s. R.meaning s) group.shelf) (shade_meaning (λ s. R.meaning s) result.0.shelf) }
+{
+    name_watched::<Brand, Shade<R>>(group, units)
+}
+
+// The same over the disks of a site, with an account of what the rack inside tells.
 fn name_traced<C: Begun, R: Rack>(laid: Laid<R>, units: &Units) -> (Laid<R>, Result<(), Stop>)
     requires told { TellsLess C.first (R.meaning (rack_of laid.shelf)) }
     ensures names { NamesGroup units.now laid.core (shade_meaning (λ s. R.meaning s) laid.shelf) result.0.core (shade_meaning (λ s. R.meaning s) result.0.shelf) result.1 }
     ensures since { CalledSince (shade_meaning (λ s. R.meaning s) laid.shelf) (shade_meaning (λ s. R.meaning s) result.0.shelf) }
     ensures told { TellsLess C.first (R.meaning (rack_of result.0.shelf)) }
 {
-    let (group, answer) = name_watched::<Brand, Shade<Traced<R, C>>>(trace::<C, R>(laid), units);
+    let (group, answer) = name_shaded::<Traced<R, C>>(trace::<C, R>(laid), units);
     (untrace(group), answer)
 }
 

@@ -7,6 +7,7 @@ pub mod DeliverLine
 pub mod HandedOn
 pub mod Headed
 pub mod HeadedEnds
+pub mod HeadedMoves
 pub mod HeadedWorlds
 pub mod HeaderCalls
 pub mod HeardLine
@@ -17,6 +18,7 @@ pub mod LinkEnding
 pub mod LinkNames
 pub mod LinkParts
 pub mod NotedBoth
+pub mod NotedWorked
 pub mod NotedYard
 pub mod OverGroups
 pub mod PartLine

@@ -48,16 +48,18 @@ use Rattle.vx_disk.specs.declared.shelf.ShelfError.TheVariants.{Down, Fault}
 -- a test that fails from n on passes somewhere, or nowhere
 seek : (A : Type 0) (test : ℕ → Bool) (n : ℕ) → ((p : ℕ) → n ≤ p → test p ≡ false) → ((p : ℕ) → test p ≡ true → A) → ((p : ℕ) → test p ≡ false) ⊎ A
 seek A test zero high on = inl (λ p. high p (omega arith))
-seek A test (suc n) high on = by (test n) refl
+seek A test (suc n) high on =
+    by (test n) refl
+    (λ off. seek A test n
+    (λ p le. elim (cases_lt n p) [
+      | inl lt ↦ high p (omega (arith, lt))
+      | inr ge ↦ let same : p ≡ n = omega (arith, le, ge) in ap test same ∙ off
+    ])
+    on)
   where
-    by : (b : Bool) → test n ≡ b → ((p : ℕ) → test p ≡ false) ⊎ A
-    by true is = inr (on n is)
-    by false is = seek A test n
-        (λ p le. elim (cases_lt n p) [
-          | inl lt ↦ high p (omega (arith, lt))
-          | inr ge ↦ let same : p ≡ n = omega (arith, le, ge) in ap test same ∙ is
-        ])
-        on
+    by : (b : Bool) → test n ≡ b → (test n ≡ false → ((p : ℕ) → test p ≡ false) ⊎ A) → ((p : ℕ) → test p ≡ false) ⊎ A
+    by true is rest = inr (on n is)
+    by false is rest = rest is
 
 -- how many plexes a volume has
 pub count_or : Option VolumeEntry → ℕ

@@ -29,10 +29,10 @@ use Rattle.vx_events.specs.LinkEnds.{AppliesCut, AppliesPart, AreLeft, LinkEnds,
 use Rattle.vx_events.specs.Lists.{events_of}
 use Rattle.vx_events.specs.LinkLists.{link_events}
 use Rattle.vx_events.specs.RvgBack.{GetsRvg, GroupCutOff, GroupHeld, GroupUnfound, HadRvg, IsLeftBack, KeptLost, LogCut, LogFails, LogLacks, RestsWithRvg, RvgBack, RvgUp}
-use Rattle.vx_events.specs.RvgLinks.{AllKnown, LinksOver, NotesThere, links_rvg, noting_each, works_at}
+use Rattle.vx_events.specs.RvgLinks.{AllKnown, LinksOver, NotesThere, links_rvg, noting_each, works_at, noted_there}
 use Rattle.vx_events.specs.RvgMakes.{IsLeftRvg, MakesRvg, RvgCut, RvgDone, RvgFails, RvgLacks, noting_in, units_at}
 use Rattle.vx_events.specs.RvgNotes.{volume_events}
-use Rattle.vx_events.specs.RvgOver.{EndsOrShows, OverRvg, OverRvgBy, ShowFails, ShowsAny, TakesOr, is_below, is_inside, lit_over, noting_over}
+use Rattle.vx_events.specs.RvgOver.{EndsOrShows, OverRvg, OverRvgBy, ShowFails, ShowsAny, TakesOr, is_below, is_inside, noting_over, fuse_over}
 use Rattle.vx_events.specs.RvgSteps.{AsBefore, FoundOne, FullBy, Gained, StepFull, WorksAbove, WorksBeside, WorksFull, is_for_rvg, rvg_place}
 use Rattle.vx_events.specs.RvgViews.{is_over_rvg}
 use Rattle.vx_events.specs.RvgWorks.{FuseRanOut}
@@ -41,6 +41,7 @@ use Rattle.vx_events.specs.declared.said.Said.{Said}
 use Rattle.vx_events.specs.declared.said.Said.TheVariants.{Refused}
 use Rattle.vx_settling.specs.Brights.{AllBright, IsBright, IsHeldDown}
 use Rattle.vx_settling.proofs.Brights.{as_bright, crashed_bright, disks_bright, group_noted_bright, halved_bright, link_noted_bright, noted_bright, noting_bright, run_bright, runs_bright, worked_bright, node_bright}
+use Rattle.vx_history.specs.Steps.{worked_on}
 
 -- ---- what a line leaves
 
@@ -188,17 +189,17 @@ module _ (told : Type 0) (tells : told) (d : Doubted) (b : AllBright d) (fails :
   -- ---- a site with a replicated volume group
 
   shows_bright : (inside : Bool) (line : ScriptLine) (s : ℕ) → IsBright (new.world.nodes s) → EndsOrShows inside told d line s fails said new → AllBright new
-  shows_bright true line s here (ShowsAny site volume start count bytes is are got size left) = same_bright d new left b
-  shows_bright true line s here (ShowFails disk are has says left) = same_bright d new left b
+  shows_bright true line s here (ShowsAny site volume start count bytes is are got size left) = as_bright d (worked_on d.world s) new left (worked_bright d.world s b.sites) b
+  shows_bright true line s here (ShowFails disk are has says left) = as_bright d (worked_on d.world s) new left (worked_bright d.world s b.sites) b
   shows_bright false line s here h =
       let middle : AllBright h.middle = ends_bright (IsKnown told (note_at (d.world.nodes s))) (tells, b.sites s) d line (place_of d.world line) h.ending h.inner h.middle b h.ends in
       let known : h.next.dark ≡ false = next_bright (new.world.nodes s) h.next (over_group h.middle s h.next h.left) here in
       let u : World = h.middle.world in
-      as_bright h.middle (noting_over d.world u s h.next) new h.left
-      (node_bright u s (record (u.nodes s) { group = Some h.next; fuse = lit_over (d.world.nodes s).fuse (u.nodes s).fuse }) known middle.sites) middle
+      as_bright h.middle (noting_over line d.world u s h.next) new h.left
+      (node_bright u s (record (u.nodes s) { group = Some h.next; fuse = fuse_over line (d.world.nodes s).fuse (u.nodes s).fuse }) known middle.sites) middle
     where
-      over_group : (middle : Doubted) (s : ℕ) (next : GroupNode) → IsAs middle (noting_over d.world middle.world s next) new → (new.world.nodes s).group ≡ Some next
-      over_group middle s next left = ap (λ (w : World). (w.nodes s).group) left.world ∙ noted_over_here d.world middle.world s next
+      over_group : (middle : Doubted) (s : ℕ) (next : GroupNode) → IsAs middle (noting_over line d.world middle.world s next) new → (new.world.nodes s).group ≡ Some next
+      over_group middle s next left = ap (λ (w : World). (w.nodes s).group) left.world ∙ noted_over_here line d.world middle.world s next
 
   takes_bright : (line : ScriptLine) (s : ℕ) → (IsHeldDown line said → ⊥) → (BringsUp line → (note_at (d.world.nodes s)).loose ≡ false) → IsBright (new.world.nodes s)
       → TakesOr told d line s fails said new → AllBright new
@@ -240,8 +241,8 @@ module _ (told : Type 0) (tells : told) (d : Doubted) (b : AllBright d) (fails :
   each_bright : (line : ScriptLine) → LinksOver told d line fails said new → AllBright new
   each_bright line h =
       let middle : AllBright h.middle = links_bright (AllKnown told d.world line) (tells, λ i _. b.sites i) d line h.ending said h.middle b h.ends in
-      as_bright h.middle (noting_each d.world h.next h.middle.world) new h.left
-      (λ i. by_test IsBright (is_over_rvg (d.world.nodes i)) (record (h.middle.world.nodes i) { group = Some (h.next i) }) (h.middle.world.nodes i)
+      as_bright h.middle (noting_each line d.world h.next h.middle.world) new h.left
+      (λ i. by_test IsBright (is_over_rvg (d.world.nodes i)) (noted_there d.world line i (h.next i) (h.middle.world.nodes i)) (h.middle.world.nodes i)
       (λ over. there_bright (works_at d.world line i) (FuseRanOut (d.world.nodes i) said) i fails (note_at (d.world.nodes i)) (h.next i) (b.sites i) (h.notes i over)) (λ _. middle.sites i)) middle
 
   -- ---- any line

@@ -7,7 +7,7 @@ use Rattle.vx_history.specs.Doubts.{Doubted, crashed_as, halved}
 use Rattle.vx_history.specs.Events.{with_write}
 use Rattle.vx_history.specs.Good.{IsMade}
 use Rattle.vx_history.specs.Groups.{GroupNode}
-use Rattle.vx_history.specs.Steps.{group_set}
+use Rattle.vx_history.specs.Steps.{group_set, worked_on}
 use Rattle.vx_history.specs.World.{Link as LinkRecord, Node, World, no_link}
 use Rattle.vx_history.specs.declared.event.Event.{Event}
 use Rattle.vx_history.specs.declared.event.Event.TheVariants.{Crash as CrashAt, Deliver as DeliverAt, Fall as FallAt, Fault, Pump as PumpAt, Recover as RecoverAt}
@@ -29,10 +29,10 @@ use Rattle.vx_events.specs.Lists.{Choice, crash_count, events_of}
 use Rattle.vx_events.specs.LinkFinds.{ApplyCut, ApplyHalts, EndsBetween, FindsOther, GivesUp, HeaderCut, HeaderHalts, IsStored, IsUnread, KeepsOther, LosesOther, MovesBetween, ReadsNone, SendsOther, SettlesOther, TakesOther}
 use Rattle.vx_events.specs.LinkLists.{link_events}
 use Rattle.vx_events.specs.RvgBack.{FindsNoRvg, FindsPlain, FindsRvg, GetsRvg, GroupCutOff, GroupHeld, GroupUnfound, HadRvg, IsLeftBack, IsLeftBut, KeptLost, LogCut, LogFails, LogLacks, RestsWithRvg, RvgBack, RvgFinds, RvgUp, fall_first, fuse_left}
-use Rattle.vx_events.specs.RvgLinks.{AllKnown, LinksOver, NotesThere, links_rvg, noting_each, works_at}
+use Rattle.vx_events.specs.RvgLinks.{AllKnown, LinksOver, NotesThere, links_rvg, noting_each, works_at, noted_there}
 use Rattle.vx_events.specs.RvgMakes.{IsLeftRvg, MakesRvg, RvgCut, RvgDone, RvgFails, RvgLacks, noting_in, units_at}
 use Rattle.vx_events.specs.RvgNotes.{volume_events}
-use Rattle.vx_events.specs.RvgOver.{EndsOrShows, OverRvgBy, ShowFails, ShowsAny, TakesOr, is_below, is_inside, lit_over, noting_over}
+use Rattle.vx_events.specs.RvgOver.{EndsOrShows, OverRvgBy, ShowFails, ShowsAny, TakesOr, is_below, is_inside, noting_over, fuse_over}
 use Rattle.vx_events.specs.RvgSteps.{AsBefore, FoundOne, FullBy, Gained, StepFull, WorksAbove, WorksBeside, WorksFull, is_for_rvg, rvg_place}
 use Rattle.vx_events.specs.RvgViews.{is_over_rvg}
 use Rattle.vx_events.specs.RvgWorks.{FuseRanOut}
@@ -354,14 +354,14 @@ module _ (i : ℕ) (o : Option GroupNode) where
 
       shows_notes : (inside : Bool) (line : ScriptLine) (s : ℕ) → may_note d.world line i ≡ false → eqb i s ≡ false → EndsOrShows inside told d line s fails said new
           → HasNote i o new
-      shows_notes true line s off apart (ShowsAny site volume start count bytes is are got size left) = same_notes d new left x.has
-      shows_notes true line s off apart (ShowFails disk are has says left) = same_notes d new left x.has
+      shows_notes true line s off apart (ShowsAny site volume start count bytes is are got size left) = OtherNotes.as_notes i o d (worked_on d.world s) new left (OtherNotes.worked_notes i o d.world s x.has.note) x.has
+      shows_notes true line s off apart (ShowFails disk are has says left) = OtherNotes.as_notes i o d (worked_on d.world s) new left (OtherNotes.worked_notes i o d.world s x.has.note) x.has
       shows_notes false line s off apart h =
           let middle : HasNote i o h.middle =
           ends_notes (IsKnown told (note_at (d.world.nodes s))) line (place_of d.world line) h.ending h.inner h.middle (recover_apart d.world line i off) h.ends in
           let u : World = h.middle.world in
-          OtherNotes.as_notes i o h.middle (noting_over d.world u s h.next) new h.left
-          (OtherNotes.apart_notes i o u s (record (u.nodes s) { group = Some h.next; fuse = lit_over (d.world.nodes s).fuse (u.nodes s).fuse }) apart middle.note) middle
+          OtherNotes.as_notes i o h.middle (noting_over line d.world u s h.next) new h.left
+          (OtherNotes.apart_notes i o u s (record (u.nodes s) { group = Some h.next; fuse = fuse_over line (d.world.nodes s).fuse (u.nodes s).fuse }) apart middle.note) middle
 
       takes_notes : (line : ScriptLine) (s : ℕ) → may_note d.world line i ≡ false → eqb i s ≡ false → TakesOr told d line s fails said new → HasNote i o new
       takes_notes (GroupImport site) s off apart (inl back) = rises_notes (GroupImport site) s apart back
@@ -399,8 +399,8 @@ module _ (i : ℕ) (o : Option GroupNode) where
       each_notes : (line : ScriptLine) → may_note d.world line i ≡ false → works_at d.world line i ≡ false → LinksOver told d line fails said new → HasNote i o new
       each_notes line off rests h =
           let middle : HasNote i o h.middle = links_notes (AllKnown told d.world line) line h.ending said h.middle off h.ends in
-          OtherNotes.as_notes i o h.middle (noting_each d.world h.next h.middle.world) new h.left
-          (by_test (λ (m : Node). m.group ≡ o) (is_over_rvg (d.world.nodes i)) (record (h.middle.world.nodes i) { group = Some (h.next i) }) (h.middle.world.nodes i)
+          OtherNotes.as_notes i o h.middle (noting_each line d.world h.next h.middle.world) new h.left
+          (by_test (λ (m : Node). m.group ≡ o) (is_over_rvg (d.world.nodes i)) (noted_there d.world line i (h.next i) (h.middle.world.nodes i)) (h.middle.world.nodes i)
           (λ over. kept_note (works_at d.world line i) (FuseRanOut (d.world.nodes i) said) (h.next i) rests over (h.notes i over)) (λ _. middle.note)) middle
 
       -- ---- any line

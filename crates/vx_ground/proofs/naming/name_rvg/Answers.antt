@@ -97,3 +97,6 @@ returns-clause-finds g c =
     carried (λ x s y t. GroupFinds x y (g.S.Shelf.meaning s) (g.S.Shelf.meaning t))
     c.args.group.core c.apart-shelf.result.1.core c.together.result.core c.set_rvg_in-answer.new.core c.args.group.shelf c.apart-shelf.result.0 c.together.result.shelf c.set_rvg_in-answer.new.shelf
     c.apart-shelf.ensures.core c.apart-shelf.ensures.shelf c.together.ensures.core c.together.ensures.shelf c.set_rvg_in-answer.ensures.finds
+
+pub returns-clause-few : goal.returns-clause-few
+returns-clause-few g c = c.few_stop.ensures

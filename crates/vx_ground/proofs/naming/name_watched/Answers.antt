@@ -22,4 +22,5 @@ returns-clause-names g c =
       finds = c.name_rvg-group.ensures.finds;
       up = c.name_rvg-group.ensures.up;
       cause = c.name_rvg-group.ensures.cause;
+      few = c.name_rvg-group.ensures.few;
     })

@@ -43,7 +43,7 @@ returns-in-Ok-clause-heads g c = λ d note notes stands fit below alone session 
     let apart = none_over (d.world.nodes s) alone in
     let raw = raw_part note s notes d old before stands below at alone in
     let shown = c.deref_mut.ensures.value ∙ stands.facts ∙ notes.shows d.world in
-    part_done note s notes d _ _ (made_header d c.args.here c.args.there c.args.sync fit alone said) old before stands below at _ c.keep.new.self (record { there = at; later = c.in-Ok.ensures.later; disk_sets = refl; racks = refl }) c.in-Ok.ensures.role c.args.state.now is
+    part_done note s notes d _ _ (made_header d c.args.here c.args.there c.args.sync fit (none_over (d.world.nodes s) alone) said) alone old before stands below at _ c.keep.new.self (record { there = at; later = c.in-Ok.ensures.later; disk_sets = refl; racks = refl }) c.in-Ok.ensures.role c.args.state.now is
     (λ beside m stood can. c.in-Ok.ensures.kept beside m stood can) (λ beside m stood. c.in-Ok.ensures.called beside m stood raw)
     (with_items_is old.facts c.keep_made.new.sites (c.keep_made.auto.sites ∙ c.deref_mut.ensures.len) ∙ c.keep_made.ensures.world d.world shown apart (fit.rows s).places session said)
     (record { flight = refl; assemblies = refl; feeders = refl })
@@ -55,7 +55,7 @@ returns-in-Err-clause-heads g c = λ d note notes stands fit below alone session
     let before = c.index_mut.result.now in
     let at = get_at old.disk_sets.items s before c.requires.disk_set c.index_mut.ensures.value in
     let raw = raw_part note s notes d old before stands below at alone in
-    part_refused note s notes d _ _ (made_header d c.args.here c.args.there c.args.sync fit alone said) old before stands below at _ c.keep.new.self (record { there = at; later = c.in-Err.ensures.later; disk_sets = refl; racks = refl }) c.in-Err.ensures.role c.args.state.now is
+    part_refused note s notes d _ _ (made_header d c.args.here c.args.there c.args.sync fit (none_over (d.world.nodes s) alone) said) alone old before stands below at _ c.keep.new.self (record { there = at; later = c.in-Err.ensures.later; disk_sets = refl; racks = refl }) c.in-Err.ensures.role c.args.state.now is
     c.in-Err.no c.refused.result c.index_mut-in-Err.result.now c.refused.new.facts c.refused.ensures.said
     (λ beside m stood can. c.in-Err.ensures.kept beside m stood can) (λ beside m stood. c.in-Err.ensures.called beside m stood raw)
     (get_at old.facts.items s c.index_mut-in-Err.result.now c.requires.facts c.index_mut-in-Err.ensures.value) c.refused.ensures.noted refl

@@ -53,11 +53,11 @@ returns-in-Ok-clause-leads g c = λ d prot stands off.
     let at_too = get_at es s c.index.result.now c.site_of-here.ensures.disk_set c.index.ensures in
     let seat = c.site_of-here.ensures.seat in
     let seat_too = c.site_of-there.ensures.seat in
-    let is = set_state_is d old p r c.args.sync c.requires.free.0 s q before stands c.requires.free.1 seat seat_too at off c.index.result.now c.in-Some.state at_too
+    let is = set_state_is d old p r c.args.sync c.requires.free.0 s q before stands c.requires.free.1 seat seat_too at c.index.result.now c.in-Some.state at_too
     (λ beside m v stood up alone facts has said. c.in-Some.ensures.is beside m v stood up alone (c.deref.ensures.value ∙ facts) has said) in
-    let kept = set_kept d old p r c.args.sync c.requires.free.0 s q before stands c.requires.free.1 seat seat_too at off after c.in-Some.state (Ok tt) is (λ beside m stood can. c.in-Ok.ensures.kept beside m stood can) in
-    let stood = set_stood d old p r c.args.sync c.requires.free.0 s q before stands c.requires.free.1 seat seat_too at off in
-    let said = set_said d old p r c.args.sync c.requires.free.0 s q before stands c.requires.free.1 seat seat_too at off in
+    let kept = set_kept d old p r c.args.sync c.requires.free.0 s q before stands c.requires.free.1 seat seat_too at after c.in-Some.state (Ok tt) is (λ beside m stood can. c.in-Ok.ensures.kept beside m stood can) in
+    let stood = set_stood d old p r c.args.sync c.requires.free.0 s q before stands c.requires.free.1 seat seat_too at in
+    let said = set_said d old p r c.args.sync c.requires.free.0 s q before stands c.requires.free.1 seat seat_too at in
     let racks = (g.met.R.Rack g.world.𝓛 g.world.𝓜 g.world.𝓡 ((λ s x. x), (λ x. x), (λ x. x), λ x. x)).rack in
     let here = place_at d old p s stands seat in
     let raw = raw_seat d old p s before stands seat at off in
@@ -65,7 +65,7 @@ returns-in-Ok-clause-leads g c = λ d prot stands off.
     set_leads d old p r c.args.sync c.requires.free.0 s q before stands c.requires.free.1 seat seat_too at off _ after (record { there = at; later = c.in-Ok.ensures.later; disk_sets = refl; racks = refl }) c.in-Ok.ensures.role prot racks head kept (c.in-Ok.ensures.called (beside_of d s) (worked (d.world.nodes s)) stood raw)
     (with_items_is old.facts c.keep_set.new.sites (c.keep_set.auto.sites ∙ c.deref_mut.ensures.len)
     ∙ c.keep_set.ensures.world d.world (c.deref_mut.ensures.value ∙ stands.facts)
-    (set_alone d old p r c.args.sync c.requires.free.0 s q before stands c.requires.free.1 seat seat_too at off) (stands.links.rows s).places said)
+    (set_alone d old p r c.args.sync c.requires.free.0 s q before stands c.requires.free.1 seat seat_too at) (stands.links.rows s).places said)
     (record { flight = refl; assemblies = refl; feeders = refl })
 
 pub returns-in-Err-clause-leads : goal.returns-in-Err-clause-leads
@@ -82,10 +82,10 @@ returns-in-Err-clause-leads g c = λ d prot stands off.
     let at_too = get_at es s c.index.result.now c.site_of-here.ensures.disk_set c.index.ensures in
     let seat = c.site_of-here.ensures.seat in
     let seat_too = c.site_of-there.ensures.seat in
-    let is = set_state_is d old p r c.args.sync c.requires.free.0 s q before stands c.requires.free.1 seat seat_too at off c.index.result.now c.in-Some.state at_too
+    let is = set_state_is d old p r c.args.sync c.requires.free.0 s q before stands c.requires.free.1 seat seat_too at c.index.result.now c.in-Some.state at_too
     (λ beside m v stood up alone facts has said. c.in-Some.ensures.is beside m v stood up alone (c.deref.ensures.value ∙ facts) has said) in
-    let kept = set_kept d old p r c.args.sync c.requires.free.0 s q before stands c.requires.free.1 seat seat_too at off after c.in-Some.state (Err c.in-Err.no) is (λ beside m stood can. c.in-Err.ensures.kept beside m stood can) in
-    let stood = set_stood d old p r c.args.sync c.requires.free.0 s q before stands c.requires.free.1 seat seat_too at off in
+    let kept = set_kept d old p r c.args.sync c.requires.free.0 s q before stands c.requires.free.1 seat seat_too at after c.in-Some.state (Err c.in-Err.no) is (λ beside m stood can. c.in-Err.ensures.kept beside m stood can) in
+    let stood = set_stood d old p r c.args.sync c.requires.free.0 s q before stands c.requires.free.1 seat seat_too at in
     set_refused d old p r c.args.sync c.requires.free.0 s q before stands c.requires.free.1 seat seat_too at off _ after (record { there = at; later = c.in-Err.ensures.later; disk_sets = refl; racks = refl }) c.in-Err.ensures.role prot c.in-Err.no c.refused.result c.index_mut-in-Err.result.now c.refused.new.facts c.refused.ensures.said
     kept (c.in-Err.ensures.called (beside_of d s) (worked (d.world.nodes s)) stood (raw_seat d old p s before stands seat at off))
     (get_at old.facts.items s c.index_mut-in-Err.result.now c.site_of-here.ensures.fact c.index_mut-in-Err.ensures.value) c.refused.ensures.noted refl
