@@ -28,6 +28,7 @@ pub mod OverReads
 pub mod OverReceivers
 pub mod OverAsked
 pub mod OverAway
+pub mod OverBacks
 pub mod OverSettles
 pub mod OverMaking
 pub mod Rewriting

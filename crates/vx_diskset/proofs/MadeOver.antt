@@ -86,7 +86,7 @@ plain_may u note middle v b y block others inside (inr (inr among)) = inr (inr (
 -- ---- sites
 
 -- a group that is up below a site with the same disks
-group_as : (a b : Node) (note : GroupNode) (told : Bool) (core : GroupCore) (m : Meaning) → NotesGroup b note → b.state ≡ a.state → a.disks ≡ b.disks → a.blocks ≡ b.blocks → b.fuse ≡ a.fuse → GroupUp a note told core m → GroupUp b note told core m
+pub group_as : (a b : Node) (note : GroupNode) (told : Bool) (core : GroupCore) (m : Meaning) → NotesGroup b note → b.state ≡ a.state → a.disks ≡ b.disks → a.blocks ≡ b.blocks → b.fuse ≡ a.fuse → GroupUp a note told core m → GroupUp b note told core m
 group_as a b note told core m noted state disks blocks fuse it = record {
   noted = noted;
   lit = it.lit;
@@ -96,7 +96,7 @@ group_as a b note told core m noted state disks blocks fuse it = record {
 }
 
 -- a fuse that may have let calls pass, as volumes have it
-fuse_over : (f : Fuse) (m v : Meaning) → (IsFalse m.armed → IsFalse v.armed) → HasFuse (burned f) m → FuseOn (burned f) v
+pub fuse_over : (f : Fuse) (m v : Meaning) → (IsFalse m.armed → IsFalse v.armed) → HasFuse (burned f) m → FuseOn (burned f) v
 fuse_over NoFuse m v armed it = armed it
 fuse_over (FuseSet calls) m v armed it = tt
 fuse_over (FuseLit most) m v armed it = tt

@@ -47,7 +47,7 @@ pub note_read : (note : GroupNode) (c : Config) → NotesConfig note c → confi
 unfolding noted_config
 note_read note c it = spelled_back note.config c it.is (noted_is (at_serial 0 c) it.spells)
 
-units_same : (note next : GroupNode) (was now : Config) → NotesConfig note was → NotesConfig next now → now.rvg ≡ was.rvg → config_units (config_of next.config) ≡ config_units (config_of note.config)
+pub units_same : (note next : GroupNode) (was now : Config) → NotesConfig note was → NotesConfig next now → now.rvg ≡ was.rvg → config_units (config_of next.config) ≡ config_units (config_of note.config)
 units_same note next was now first last same =
     ap (λ (o : Option Config). config_units o) (note_read next now last) ∙ ap (λ (r : Option Units). units_or r) same ∙ sym (ap (λ (o : Option Config). config_units o) (note_read note was first))
 
@@ -89,7 +89,7 @@ module _ {R : Type 0} {g : Ghosts R} where
   up_running k note (Marked rack) it down = it
   up_running k note Gone it down = it
 
-  cut_down : (k : Node) (note : GroupNode) (e : GroupSite R g) → CutNoted k note e → IsTrue (site_disks e).down
+  pub cut_down : (k : Node) (note : GroupNode) (e : GroupSite R g) → CutNoted k note e → IsTrue (site_disks e).down
   cut_down k note (Up laid) it = it.cut.down
   cut_down k note (Deported idle) it = absurd it
   cut_down k note (Down idle) it = absurd it

@@ -4,7 +4,7 @@ use Rattle.vx_disk.specs.Racks.{Alike}
 use Rattle.vx_disk.specs.declared.shelf.Shelf.{Ghosts}
 use Rattle.vx_ground.specs.Accounts.{GroundSince, ground_state}
 use Rattle.vx_ground.specs.Lifted.{laid_volumes}
-use Rattle.vx_grouped.specs.Brings.{BringsAtSite}
+use Rattle.vx_grouped.specs.Brings.{BringsAtSite, CameKnown}
 use Rattle.vx_grouped.specs.GroupSites.{AwayNoted, DownNoted, idle_below, idle_disks, laid_below, laid_disks, site_below, site_disks}
 use Rattle.vx_grouped.specs.SiteMaps.{CameMapped}
 use Rattle.vx_grouped.specs.SiteReturns.{ReturnSince, SiteImports, SiteRecovers, as_imported}
@@ -125,6 +125,7 @@ module _ {R : Type 0} {g : Ghosts R} where
     pub since : ReturnSince (site_disks old) (site_disks mid)
     pub told : TellsLess (site_below old) (site_below mid)
     pub maps : CameMapped old mid answer
+    pub known : CameKnown old answer
     pub behind : BehindImport mid cut new answer r
 
   -- the same of a site that crashed, which hands out the write that its crash cut
@@ -132,3 +133,14 @@ module _ {R : Type 0} {g : Ghosts R} where
     pub answer : Result (Unit {0}) Stop
     pub by : ImportsBy old cut new answer
     pub is : HandsOut cut answer r
+
+  -- what an import of the group of a site comes to, and one of a site that crashed
+  abbrev pub ImportsIn : DiskSet R g → DiskSet R g → Result (Unit {0}) Stop → Type 0
+  ImportsIn (OfGroup s) new r = ImportsBy s.site s.cut new r
+  ImportsIn (Over s) new r = ImportsBy (site_in s) s.cut new r
+  ImportsIn old new r = Unit {0}
+
+  abbrev pub RaisesIn : DiskSet R g → DiskSet R g → Result (Option CutWrite) Stop → Type 0
+  RaisesIn (OfGroup s) new r = RaisesBy s.site s.cut new r
+  RaisesIn (Over s) new r = RaisesBy (site_in s) s.cut new r
+  RaisesIn old new r = Unit {0}

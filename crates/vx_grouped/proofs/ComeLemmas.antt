@@ -1,13 +1,17 @@
 -- What an import answers of a group that is up, and of one that is not.
 use Rattle.std.proofs.Common.{◌≡◌, refl, subst, sym}
-use Rattle.std.specs.Prelude.{Err, Result}
+use Rattle.std.specs.Prelude.{Err, IsSome, Ok, OnOk, Result}
 use Rattle.vx_disk.specs.Shelf.{Meaning}
 use Rattle.vx_disk.specs.declared.shelf.Shelf.{Ghosts}
 use Rattle.vx_model.specs.declared.errors.Stop.{Stop}
-use Rattle.vx_grouped.specs.Brings.{AnswersUp, BringsAtSite, ComesUp}
+use Rattle.vx_grouped.specs.Brings.{AnswersUp, BringsAtSite, CameKnown, ComesUp}
 use Rattle.vx_grouped.specs.declared.group_site.GroupSite.{GroupSite}
 use Rattle.vx_grouped.specs.declared.group_site.GroupSite.TheVariants.{Deported, Down, Gone, Marked, Up}
 use Rattle.vx_grouped.specs.declared.idle.Idle.{Idle}
+
+pub known_ok : {T E P : Type 0} (r : Result T E) → P → OnOk r P
+known_ok (Ok x) it = it
+known_ok (Err e) it = tt
 
 module _ {R : Type 0} {g : Ghosts R} where
   -- a refusal brings nothing
@@ -25,6 +29,24 @@ module _ {R : Type 0} {g : Ghosts R} where
   comes_refused (Down idle) stop = tt
   comes_refused (Marked rack) stop = refl
   comes_refused Gone stop = tt
+
+  -- whether it is known which volumes rest
+  pub known_refused : (s : GroupSite R g) (stop : Stop) → CameKnown s (Err stop)
+  known_refused (Up laid) stop = tt
+  known_refused (Deported idle) stop = tt
+  known_refused (Down idle) stop = tt
+  known_refused (Marked rack) stop = tt
+  known_refused Gone stop = tt
+
+  known_by : (idle : Idle R g) (r : Result (Unit {0}) Stop) → OnOk r (IsSome idle.rested) → CameKnown (Down idle) r
+  known_by idle (Ok done) known = known
+  known_by idle (Err stop) known = tt
+
+  pub known_down : (s : GroupSite R g) (idle : Idle R g) (r : Result (Unit {0}) Stop) → s ≡ Down idle → OnOk r (IsSome idle.rested) → CameKnown s r
+  known_down s idle r is known = subst (λ (e : GroupSite R g). CameKnown e r) (sym is) (known_by idle r known)
+
+  pub known_away : (s : GroupSite R g) (idle : Idle R g) (r : Result (Unit {0}) Stop) → s ≡ Deported idle → CameKnown s r
+  known_away s idle r is = subst (λ (e : GroupSite R g). CameKnown e r) (sym is) tt
 
   module _ (s new : GroupSite R g) (idle : Idle R g) (r : Result (Unit {0}) Stop) (answers : AnswersUp new r) where
     pub comes_down : s ≡ Down idle → ComesUp s new r

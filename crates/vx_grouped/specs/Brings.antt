@@ -1,5 +1,5 @@
 -- What an import makes of the volumes of a group, all of their blocks together.
-use Rattle.std.specs.Prelude.{◌≡◌, ℕ, Bool, true, IsTrue, List, Result, Ok, Err}
+use Rattle.std.specs.Prelude.{◌≡◌, ℕ, Bool, true, IsSome, IsTrue, List, Result, Ok, Err}
 use Rattle.vx_disk.specs.Shelf.{Each, Image, Goes, Meaning, Nothing}
 use Rattle.vx_disk.specs.Racks.{Alike}
 use Rattle.vx_disk.specs.declared.shelf.Shelf.{Ghosts}
@@ -7,7 +7,7 @@ use Rattle.vx_model.specs.declared.errors.Stop.{Stop}
 use Rattle.vx_untold.specs.Shades.{shade_meaning}
 use Rattle.vx_untold.specs.declared.shade.Shade.{Shade}
 use Rattle.vx_grouped.specs.declared.group_site.GroupSite.{GroupSite}
-use Rattle.vx_grouped.specs.declared.group_site.GroupSite.TheVariants.{Marked, Up}
+use Rattle.vx_grouped.specs.declared.group_site.GroupSite.TheVariants.{Down, Marked, Up}
 use Rattle.vx_grouped.specs.declared.laid.Laid.{Laid}
 use Rattle.vx_config.specs.declared.config.Config.{Config}
 use Rattle.vx_copies.specs.Answers.{returned}
@@ -74,3 +74,8 @@ module _ {R : Type 0} {g : Ghosts R} where
   ComesUp (Marked rack) new (Ok done) = ⊥
   ComesUp (Marked rack) new (Err stop) = new ≡ Marked rack
   ComesUp other new r = AnswersUp new r
+
+  -- disks that crashed come up only where it is known which volumes rest
+  abbrev pub CameKnown : GroupSite R g → Result (Unit {0}) Stop → Type 0
+  CameKnown (Down idle) (Ok done) = IsSome idle.rested
+  CameKnown old r = Unit {0}

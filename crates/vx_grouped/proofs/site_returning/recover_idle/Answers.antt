@@ -1,10 +1,11 @@
 -- An import of disks that crashed, unless their logs were stopped.
 use Rattle.std.proofs.Common.{◌∙◌, IsTrue, ap, refl, subst, sym, ◌≡◌, false, true}
 use Rattle.vx_untold.specs.Shades.{rack_of, shade_meaning}
-use Rattle.std.specs.Prelude.{Err}
+use Rattle.std.specs.Prelude.{Err, IsSome}
 use Rattle.vx_untold.specs.declared.shade.Shade.TheVariants.{Dark}
 use Rattle.vx_grouped.specs.SiteReturns.{SiteRecovers, stops_early}
 use Rattle.vx_grouped.specs.declared.group_site.GroupSite.TheVariants.{Down}
+use Rattle.vx_grouped.proofs.ComeLemmas.{known_ok}
 use Rattle.vx_grouped.proofs.GivenUpLemmas.{given_down}
 use Rattle.vx_grouped.proofs.ReadyLemmas.{recovered_ready, since_ready, told_ready}
 use Rattle.vx_grouped.proofs.SinceReturns.{return_at, return_dark}
@@ -42,3 +43,9 @@ returns-in-Some-clause-brings g c = subst (λ s. BringsAtSite (shade_meaning g.R
 
 pub returns-in-Some-clause-comes : goal.returns-in-Some-clause-comes
 returns-in-Some-clause-comes g c = c.recover_site.ensures.comes
+
+pub returns-in-Some-clause-known : goal.returns-in-Some-clause-known
+returns-in-Some-clause-known g c = known_ok c.recover_site.result.1 (subst (λ o. IsSome o) (sym c.in-Some.is) refl)
+
+pub returns-in-None-clause-known : goal.returns-in-None-clause-known
+returns-in-None-clause-known g c = tt

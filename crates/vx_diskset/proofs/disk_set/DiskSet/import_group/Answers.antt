@@ -13,6 +13,8 @@ use Rattle.vx_diskset.proofs.GroupRising.{imported_settled, rise_failing, rise_f
 use Rattle.vx_diskset.proofs.OverImports.{import_found, import_mapped, import_rises, import_settles, import_tells, past_over}
 use Rattle.vx_untold.specs.Shades.{shade_rack}
 use Rattle.vx_grouped.specs.SiteMaps.{CameMapped}
+use Rattle.vx_diskset.specs.OverStarts.{ImportsIn}
+use Rattle.vx_diskset.proofs.OverBacks.{imports_rest}
 use Rattle.vx_diskset.proofs.disk_set.DiskSet.import_group.Goals as goal
 
 pub returns-in-OfGroup-clause-imported : goal.returns-in-OfGroup-clause-imported
@@ -79,3 +81,12 @@ returns-in-Over-clause-later g c =
     let is_rack = (g.met.R.Rack g.world.𝓛 g.world.𝓜 g.world.𝓡 ((λ s x. x), (λ x. x), (λ x. x), λ x. x)).rack in
     over_later c.args.self c.import_over.result.0 c.in-Over.over c.in-Over.is (import_rises (shade_rack g.R.Shelf.meaning is_rack) (site_in c.in-Over.over) c.in-Over.over.cut c.import_over.result.0 c.import_over.result.1 c.import_over.ensures.brought)
     (import_tells (site_in c.in-Over.over) c.in-Over.over.cut c.import_over.result.0 c.import_over.result.1 c.import_over.ensures.brought)
+
+pub returns-in-OfGroup-clause-brought : goal.returns-in-OfGroup-clause-brought
+returns-in-OfGroup-clause-brought g c = subst (λ x. ImportsIn x c.import_in.result.0 c.import_in.result.1) (sym c.in-OfGroup.is) c.import_in.ensures.brought
+
+pub returns-in-Over-clause-brought : goal.returns-in-Over-clause-brought
+returns-in-Over-clause-brought g c = subst (λ x. ImportsIn x c.import_over.result.0 c.import_over.result.1) (sym c.in-Over.is) c.import_over.ensures.brought
+
+pub returns-in_default-clause-brought : goal.returns-in_default-clause-brought
+returns-in_default-clause-brought g c = imports_rest c.args.self c.args.self _ c.in_default.not-OfGroup c.in_default.not-Over

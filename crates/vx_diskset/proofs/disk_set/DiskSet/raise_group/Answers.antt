@@ -9,6 +9,8 @@ use Rattle.vx_diskset.proofs.OverImports.{import_raises, import_rises, import_te
 use Rattle.vx_diskset.proofs.OverRisen.{over_failing, over_later}
 use Rattle.vx_untold.specs.Shades.{shade_rack}
 use Rattle.vx_diskset.proofs.GroupRising.{rise_failing, rise_later}
+use Rattle.vx_diskset.specs.OverStarts.{RaisesIn}
+use Rattle.vx_diskset.proofs.OverBacks.{raises_rest}
 use Rattle.vx_diskset.proofs.disk_set.DiskSet.raise_group.Goals as goal
 
 pub returns-in-OfGroup-clause-raised : goal.returns-in-OfGroup-clause-raised
@@ -53,3 +55,12 @@ returns-in-Over-clause-later g c =
     let by = c.raise_over.ensures.brought in
     over_later c.args.self c.raise_over.result.0 c.in-Over.over c.in-Over.is (import_rises (shade_rack g.R.Shelf.meaning is_rack) (site_in c.in-Over.over) c.in-Over.over.cut c.raise_over.result.0 by.answer by.by)
     (import_tells (site_in c.in-Over.over) c.in-Over.over.cut c.raise_over.result.0 by.answer by.by)
+
+pub returns-in-OfGroup-clause-brought : goal.returns-in-OfGroup-clause-brought
+returns-in-OfGroup-clause-brought g c = subst (λ x. RaisesIn x c.raise_in.result.0 c.raise_in.result.1) (sym c.in-OfGroup.is) c.raise_in.ensures.brought
+
+pub returns-in-Over-clause-brought : goal.returns-in-Over-clause-brought
+returns-in-Over-clause-brought g c = subst (λ x. RaisesIn x c.raise_over.result.0 c.raise_over.result.1) (sym c.in-Over.is) c.raise_over.ensures.brought
+
+pub returns-in_default-clause-brought : goal.returns-in_default-clause-brought
+returns-in_default-clause-brought g c = raises_rest c.args.self c.args.self _ c.in_default.not-OfGroup c.in_default.not-Over

@@ -4,7 +4,7 @@ use Rattle.vx_grouped.specs.GroupSites.{AwayNoted, DownNoted, site_below, site_d
 use Rattle.vx_grouped.specs.SiteReturns.{ReturnSince, SiteImports, SiteRecovers, as_imported}
 use Rattle.vx_watched.specs.Traces.{TellsLess}
 use Rattle.vx_grouped.specs.Brings.{BringsAtSite}
-use Rattle.vx_grouped.proofs.ComeLemmas.{brings_refused, comes_away, comes_down, comes_refused}
+use Rattle.vx_grouped.proofs.ComeLemmas.{brings_refused, comes_away, comes_down, comes_refused, known_away, known_down, known_refused}
 use Rattle.vx_model.specs.declared.errors.Stop.TheVariants.{No as Refused}
 use Rattle.vx_model.specs.declared.no.No.TheVariants.{Role}
 use Rattle.vx_grouped.specs.SiteMaps.{CameMapped}
@@ -53,3 +53,12 @@ returns-in-Deported-clause-comes g c = comes_away c.args.self c.import_idle.resu
 
 pub returns-in_default-clause-comes : goal.returns-in_default-clause-comes
 returns-in_default-clause-comes g c = comes_refused c.args.self (Refused Role)
+
+pub returns-in-Down-clause-known : goal.returns-in-Down-clause-known
+returns-in-Down-clause-known g c = known_down c.args.self c.in-Down.idle c.recover_idle.result.1 c.in-Down.is c.recover_idle.ensures.known
+
+pub returns-in-Deported-clause-known : goal.returns-in-Deported-clause-known
+returns-in-Deported-clause-known g c = known_away c.args.self c.in-Deported.idle c.import_idle.result.1 c.in-Deported.is
+
+pub returns-in_default-clause-known : goal.returns-in_default-clause-known
+returns-in_default-clause-known g c = known_refused c.args.self (Refused Role)
