@@ -1,7 +1,7 @@
 -- What each call on a replicated volume group makes of it and of the shelf below, whatever shelf that is.
-use Rattle.std.specs.Prelude.{◌≡◌, ◌⊎◌, ℕ, ◌%◌, ◌<◌, ◌≤◌, List, length, take, Contains, None, Result, Ok, Err, IfErr, IfOk, OnOk, IsFalse, IsTrue}
+use Rattle.std.specs.Prelude.{◌≡◌, ◌⊎◌, ℕ, ◌+◌, ◌%◌, ◌<◌, ◌≤◌, List, length, take, Contains, None, Result, Ok, Err, IfErr, IfOk, OnOk, IsFalse, IsTrue}
 use Rattle.vx_disk.specs.Causes.{DeviceCause, refusal_of}
-use Rattle.vx_disk.specs.Moves.{Anything, Blocks, Moves}
+use Rattle.vx_disk.specs.Moves.{Anything, Blocks, Moves, Run}
 use Rattle.vx_disk.specs.Shelf.{Goes, Meaning}
 use Rattle.vx_disk.specs.declared.shelf.ShelfError.{ShelfError}
 use Rattle.vx_events.specs.Sayings.{received_content}
@@ -20,9 +20,10 @@ use Rattle.vx_model.specs.declared.units.Units.{Units}
 use Rattle.vx_rvg.specs.Groups.{MakeCause, new_core}
 use Rattle.vx_rvg.specs.Holdings.{nothing_logged}
 use Rattle.vx_rvg.specs.Stands.{HoldsContent, Stands}
-use Rattle.vx_rvg.specs.Starts.{IsStarted}
+use Rattle.vx_rvg.specs.Starts.{IsStarted, StartCause, Starting, ring_in}
 use Rattle.vx_rvg.specs.Views.{Core, IsSound}
 use Rattle.vx_secondary.specs.Receivers.{Wait}
+use Rattle.vx_srl.specs.Starts.{ReadsAtLimit}
 use Rattle.vx_ground.specs.Rewrites.{OneRests}
 use Rattle.vx_diskset.specs.Burning.{OffIf}
 use Rattle.vx_diskset.specs.DiskSets.{CanLog, CanRead}
@@ -141,7 +142,7 @@ DoesMake units state m m' (Err stop) = OnlyLog units m m' × MakeCause m m' stop
 
 abbrev pub DoesStart : Units → Meaning → Meaning → Result Core No → Type 0
 DoesStart units m m' (Ok c) = OnlyLog units m m' × IsSound c m' × IsStarted units m c m' × (IsTrue m'.down → ⊥)
-DoesStart units m m' (Err why) = OnlyLog units m m'
+DoesStart units m m' (Err why) = OnlyLog units m m' × Moves (Run units.srl 0 (ring_in units m + 2)) (Starting units m) m m' × StartCause units m m' why × ReadsAtLimit m m' why
 
 -- ---- volumes that are written as they read
 

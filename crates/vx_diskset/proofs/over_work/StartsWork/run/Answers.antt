@@ -13,4 +13,5 @@ returns-in-Ok g c =
     (only_log c.args.self.units.now _ _ _ (g.S.Shelf.meaning c.args.shelf) (g.S.Shelf.meaning c.in-Ok.rvg.shelf) c.in-Ok.ensures.moves, c.in-Ok.rvg.sound, c.in-Ok.ensures.starts, c.in-Ok.ensures.up)
 
 pub returns-in-Err : goal.returns-in-Err
-returns-in-Err g c = only_log c.args.self.units.now _ _ _ (g.S.Shelf.meaning c.args.shelf) (g.S.Shelf.meaning c.in-Err.shelf) c.in-Err.ensures.left
+returns-in-Err g c =
+    (only_log c.args.self.units.now _ _ _ (g.S.Shelf.meaning c.args.shelf) (g.S.Shelf.meaning c.in-Err.shelf) c.in-Err.ensures.left, c.in-Err.ensures.left, c.in-Err.ensures.cause, c.in-Err.ensures.limit)
