@@ -3,24 +3,15 @@ use Rattle.std.proofs.Common.{◌≡◌, ◌∙◌, ℕ, List, [], map, ap, sym,
 use Rattle.std.specs.Prelude.{Bool, true, Option, Some, None, slice_get}
 use Rattle.vx_model.specs.declared.site.SiteState.{SiteState}
 use Rattle.vx_model.specs.declared.site.SiteState.TheVariants.{Bare as IsBare, Up as IsUp, Deported as IsDeported, Down as IsDown}
-use Rattle.vx_disk.specs.Shelf.{Meaning}
 use Rattle.vx_disk.specs.declared.shelf.Shelf.{Ghosts}
-use Rattle.vx_config.specs.Checks.{plexes_or}
 use Rattle.vx_config.specs.declared.config.Config.{Config}
-use Rattle.vx_config.specs.declared.entry.VolumeEntry.{VolumeEntry}
-use Rattle.vx_volume.proofs.PlaceLemmas.{count_few}
 use Rattle.vx_kept.specs.Cleans.{at_serial}
-use Rattle.vx_group.specs.Holding.{GroupStands}
-use Rattle.vx_group.specs.declared.group_core.GroupCore.{GroupCore}
-use Rattle.vx_group.proofs.HoldLemmas.{narrow_sound}
 use Rattle.vx_history.specs.Doubts.{Doubted}
 use Rattle.vx_history.specs.Groups.{GroupNode}
 use Rattle.vx_history.specs.World.{Node}
-use Rattle.vx_untold.specs.Shades.{shade_meaning}
 use Rattle.vx_grouped.specs.GroupSites.{GroupSiteStands, UpNoted, site_config}
 use Rattle.vx_grouped.specs.declared.group_site.GroupSite.{GroupSite}
 use Rattle.vx_grouped.specs.declared.group_site.GroupSite.TheVariants.{Up, Deported, Down, Marked, Gone}
-use Rattle.vx_diskset.specs.Aboves.{site_in}
 use Rattle.vx_diskset.specs.GroupCalls.{AtSite, config_in}
 use Rattle.vx_diskset.specs.declared.disk_set.DiskSet.{DiskSet}
 use Rattle.vx_diskset.specs.declared.disk_set.DiskSet.TheVariants.{Bare, Spoiled, Up as RaisedSet, Receives, Down as DownSet, OfGroup, Over, Gone as GoneSet}
@@ -41,27 +32,17 @@ use Rattle.vx_yard.specs.Standing.{LeadsOver, StandsFor}
 use Rattle.vx_yard.specs.Yards.{count_of}
 use Rattle.vx_yard.specs.declared.yard.Yard.{Yard}
 use Rattle.vx_group_lines.specs.Noting.{HasConfig, HasNoConfig}
-use Rattle.vx_group_lines.specs.Views.{FitsViews, view_with}
+use Rattle.vx_group_lines.specs.Views.{view_with}
 use Rattle.vx_group_lines.proofs.GroupAt.{GroupAt, group_at, up_noted}
 use Rattle.vx_group_lines.proofs.GroupLeads.{leads_by}
 use Rattle.vx_group_lines.proofs.GroupMarks.{group_noted_at, noting_same}
 use Rattle.vx_above.proofs.GroupStatus.{config_is}
-
--- ---- room for the plexes
-
-fits_views : (core : GroupCore) (m : Meaning) → GroupStands core m → FitsViews core.inner.config
-fits_views core m it = record { plexes = λ v entry at. omega (arith, count_few core.inner.config (narrow_sound core m it) v, ap (λ (o : Option VolumeEntry). plexes_or o) at) }
+use Rattle.vx_site_lines.proofs.StatusAbove.{none_shown}
 
 -- ---- the view
 
 abbrev view_of : Node → SiteState → List Bool → List VolumeView → SiteView
 view_of n state disks volumes = record { name = n.name; state = state; disks = disks; volumes = volumes; rvg = None; links = [] }
-
-none_shown : {A : Type 0} (t : SiteState) (xs : List A) → (t ≡ IsUp → ⊥) → [] ≡ shown_up t xs
-none_shown IsBare xs off = refl
-none_shown IsUp xs off = absurd (off refl)
-none_shown IsDeported xs off = refl
-none_shown IsDown xs off = refl
 
 -- a site that is not up shows neither
 pub view_off : (n : Node) (note : GroupNode) → (n.state ≡ IsUp → ⊥) → view_with (fact_of_group n note) None ≡ grouped_view n note
@@ -75,24 +56,6 @@ view_noted n note c is up =
     ∙ ap (λ (t : SiteState). view_of n n.state (shown_up t (noted_disks note)) (shown_up t (noted_volumes note))) (sym up)
 
 module _ {R : Type 0} {g : Ghosts R} where
-  small_site : (s : GroupSite R g) (c : Config) → site_config s ≡ Some c → FitsViews c
-  small_site (Up laid) c is = subst (λ (x : Config). FitsViews x) (some_same is) (fits_views laid.core (shade_meaning g.meaning laid.shelf) laid.stands.group)
-  small_site (Deported idle) c is = absurd (cc)
-  small_site (Down idle) c is = absurd (cc)
-  small_site (Marked rack) c is = absurd (cc)
-  small_site Gone c is = absurd (cc)
-
-  -- the configuration that disks have in memory
-  pub small_set : (e : DiskSet R g) (c : Config) → config_in e ≡ Some c → FitsViews c
-  small_set (Bare rack) c is = absurd (cc)
-  small_set (Spoiled rack) c is = absurd (cc)
-  small_set (RaisedSet rvg) c is = absurd (cc)
-  small_set (Receives s) c is = absurd (cc)
-  small_set (DownSet rack) c is = absurd (cc)
-  small_set (OfGroup s) c is = small_site s.site c is
-  small_set (Over s) c is = small_site (site_in s) c is
-  small_set GoneSet c is = absurd (cc)
-
   pub config_at : (e : DiskSet R g) (o : Option Config) → AtSite (λ s. site_config s ≡ o) e → config_in e ≡ o
   config_at (Bare rack) o is = absurd is
   config_at (Spoiled rack) o is = absurd is

@@ -18,7 +18,7 @@ ghost use Rattle.vx_yard.specs.Working.{IsFree};
 ghost use Rattle.vx_yard.specs.Yards.{IsYardKept, IsTold, in_files};
 
 use crate::noting::{group_stopped, note_up};
-use crate::views::{ViewRoom, view_at};
+use crate::views::view_at;
 use std::alloc::Global;
 use std::mem;
 use vx_disk::Rack;
@@ -28,6 +28,7 @@ use vx_model::limits::BLOCK;
 use vx_model::{Name, OutOfMemory, SiteState, Stop};
 use vx_order::{SiteFacts, VolumeRoom};
 use vx_report::Kept;
+use vx_site_lines::ViewRoom;
 use vx_yard::falling::go_down;
 use vx_yard::load::let_go;
 use vx_yard::refusing::stopped;

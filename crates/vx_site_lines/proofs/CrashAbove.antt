@@ -8,7 +8,7 @@ use Rattle.vx_model.specs.declared.site.SiteState.TheVariants.{Up}
 use Rattle.vx_script.specs.declared.line.ScriptLine.TheVariants.{Crash}
 use Rattle.vx_events.specs.Facts.{seat_of}
 use Rattle.vx_events.specs.GroupNotes.{IsKnown, note_at}
-use Rattle.vx_events.specs.RvgOver.{EndsOver, lit_over}
+use Rattle.vx_events.specs.RvgOver.{EndsOver, fuse_over}
 use Rattle.vx_events.specs.RvgSteps.{over_rvg_at}
 use Rattle.vx_events.specs.RvgViews.{is_over_rvg}
 use Rattle.vx_events.specs.declared.said.Said.TheVariants.{Done}
@@ -19,7 +19,7 @@ use Rattle.vx_yard.specs.Yards.{IsTold}
 use Rattle.vx_yard.specs.declared.yard.Yard.{Yard}
 use Rattle.vx_yard.proofs.CrashSite.{crash_ends, crash_up}
 use Rattle.vx_yard.proofs.NamedSite.{place_at}
-use Rattle.vx_site_lines.proofs.AboveEnds.{lit_none, stays_over}
+use Rattle.vx_site_lines.proofs.AboveEnds.{stays_over}
 
 module _ {R : Type 0} {g : Ghosts R} where
   pub crash_above : (d : Doubted) (old new : Yard R g) (name : List ℕ) (pick s : ℕ) → StandsFor d old → over_rvg_at d.world name ≡ true → IsFree old (Crash name pick) → seat_of old.facts.items name ≡ Some s
@@ -33,8 +33,8 @@ module _ {R : Type 0} {g : Ghosts R} where
         next = e;
         fails = [];
         works = subst (λ (i : ℕ). EndsOver (IsTold new) d (Crash name pick) i [] Done e) (sym seat.number)
-            (stays_over (IsTold new) d (Crash name pick) s Done e (crash_ends (IsKnown (IsTold new) (note_at m)) d name pick s old new seat.number f) refl refl
-            (subst (λ (i : ℕ). is_over_rvg (d.world.nodes i) ≡ true) seat.number rvg) f.group (subst (λ (x : Fuse). lit_over m.fuse x ≡ x) (sym f.fuse) (lit_none m.fuse)));
+            (stays_over (IsTold new) d (Crash name pick) s Done Done e (crash_ends (IsKnown (IsTold new) (note_at m)) d name pick s old new seat.number f) refl refl
+            (subst (λ (i : ℕ). is_over_rvg (d.world.nodes i) ≡ true) seat.number rvg) f.group (subst (λ (x : Fuse). fuse_over (Crash name pick) m.fuse x ≡ x) (sym f.fuse) refl));
         carries = f.carries;
         stands = f.stands;
         rose = f.rose;

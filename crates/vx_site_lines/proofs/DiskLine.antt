@@ -48,12 +48,12 @@ use Rattle.vx_history.specs.Groups.{GroupNode}
 use Rattle.vx_events.specs.Ends.{Ends}
 use Rattle.vx_events.specs.GroupLines.{is_over_group}
 use Rattle.vx_events.specs.GroupNotes.{IsKnown, note_at}
-use Rattle.vx_events.specs.RvgOver.{EndsOver, lit_over}
+use Rattle.vx_events.specs.RvgOver.{EndsOver}
 use Rattle.vx_events.specs.RvgSteps.{over_rvg_at}
 use Rattle.vx_events.specs.RvgViews.{is_over_rvg}
 use Rattle.vx_yard.specs.AboveLines.{LeadsAbove}
 use Rattle.vx_yard.specs.Carries.{Carries}
-use Rattle.vx_site_lines.proofs.AboveEnds.{lit_same, rvg_apart, stays_over}
+use Rattle.vx_site_lines.proofs.AboveEnds.{rvg_apart, stays_over}
 
 -- a site one of whose disks is made to fail, or not any longer
 abbrev disk_node : Node → (disk : ℕ) → DiskState → Node
@@ -160,8 +160,8 @@ module _ {R : Type 0} {g : Ghosts R} where
         next = with_one d s n;
         fails = [];
         works = subst (λ (i : ℕ). EndsOver (IsTold new) d (Disk name disk state) i [] Done (with_one d s n)) (sym seat.number)
-            (stays_over (IsTold new) d (Disk name disk state) s Done (with_one d s n) (disk_ends (IsKnown (IsTold new) (note_at m)) d name disk state s seat.number) refl refl over
-            (ap (λ (x : Node). x.group) (at_place d.world.nodes s n)) (subst (λ (x : Node). lit_over m.fuse x.fuse ≡ x.fuse) (sym (at_place d.world.nodes s n)) (lit_same m.fuse)));
+            (stays_over (IsTold new) d (Disk name disk state) s Done Done (with_one d s n) (disk_ends (IsKnown (IsTold new) (note_at m)) d name disk state s seat.number) refl refl over
+            (ap (λ (x : Node). x.group) (at_place d.world.nodes s n)) refl);
         carries = disk_carries d old new disk state s before after changed load;
         stands = disk_stands d old new disk state s before after stands seat.below (rvg_apart m over) changed role noted keeps sets facts;
         rose = rose_still old new s before after changed.there changed.later changed.disk_sets;

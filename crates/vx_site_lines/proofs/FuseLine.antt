@@ -41,12 +41,12 @@ use Rattle.vx_diskset.specs.Noted.{NotedAt, OversFused}
 use Rattle.vx_events.specs.Ends.{Ends}
 use Rattle.vx_events.specs.GroupLines.{is_over_group}
 use Rattle.vx_events.specs.GroupNotes.{IsKnown, note_at}
-use Rattle.vx_events.specs.RvgOver.{EndsOver, lit_over}
+use Rattle.vx_events.specs.RvgOver.{EndsOver}
 use Rattle.vx_events.specs.RvgSteps.{over_rvg_at}
 use Rattle.vx_events.specs.RvgViews.{is_over_rvg}
 use Rattle.vx_yard.specs.AboveLines.{LeadsAbove}
 use Rattle.vx_yard.specs.Carries.{Carries}
-use Rattle.vx_site_lines.proofs.AboveEnds.{lit_set, rvg_apart, stays_over}
+use Rattle.vx_site_lines.proofs.AboveEnds.{rvg_apart, stays_over}
 
 -- a site whose fuse is set
 abbrev fused_node : Node → (calls : ℕ) → Node
@@ -123,8 +123,8 @@ module _ {R : Type 0} {g : Ghosts R} where
         next = with_one d s n;
         fails = [];
         works = subst (λ (i : ℕ). EndsOver (IsTold new) d (Fuse name calls pick) i [] Done (with_one d s n)) (sym seat.number)
-            (stays_over (IsTold new) d (Fuse name calls pick) s Done (with_one d s n) (fuse_ends (IsKnown (IsTold new) (note_at m)) d name calls pick s seat.number) refl refl over
-            (ap (λ (x : Node). x.group) (at_place d.world.nodes s n)) (subst (λ (x : Node). lit_over m.fuse x.fuse ≡ x.fuse) (sym (at_place d.world.nodes s n)) (lit_set m.fuse calls)));
+            (stays_over (IsTold new) d (Fuse name calls pick) s Done Done (with_one d s n) (fuse_ends (IsKnown (IsTold new) (note_at m)) d name calls pick s seat.number) refl refl over
+            (ap (λ (x : Node). x.group) (at_place d.world.nodes s n)) refl);
         carries = fuse_carries d old new calls s before after changed load;
         stands = fuse_stands d old new calls pick s before after stands seat.below (rvg_apart m over) (fuse_up d old name calls pick s stands free is) changed keeps noted fuses asked facts;
         rose = rose_still old new s before after changed.there changed.later changed.disk_sets;

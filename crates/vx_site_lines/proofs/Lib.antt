@@ -26,3 +26,5 @@ pub mod RecoverSite
 pub mod RiseNeeds
 pub mod SiteLine
 pub mod SiteMore
+pub mod Smalls
+pub mod StatusAbove

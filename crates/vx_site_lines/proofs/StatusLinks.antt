@@ -1,5 +1,5 @@
 -- What the status of a site shows of its links.
-use Rattle.std.proofs.Common.{◌≡◌, ◌∙◌, ◌+◌, ◌<◌, ◌≤◌, ℕ, List, [], ◌∷◌, Bool, true, false, ap, sym, refl, arith}
+use Rattle.std.proofs.Common.{◌≡◌, ◌∙◌, ◌+◌, ◌<◌, ◌≤◌, ℕ, List, [], ◌∷◌, Bool, true, false, ap, sym, subst, refl, arith}
 use Rattle.std.specs.Prelude.{Option, Some, if◌then◌else◌, nat_lt, slice_get}
 use Rattle.std.proofs.lemmas.Bool.Decides.{nat_tests}
 use Rattle.vx_history.specs.Doubts.{Doubted}
@@ -32,6 +32,8 @@ use Rattle.vx_events.specs.Facts.{group_by, group_fact, head_of, seat_of}
 use Rattle.vx_events.specs.GroupLines.{is_over_group}
 use Rattle.vx_events.specs.LinkViews.{link_view, link_views, linked_view, marked_from, views_by}
 use Rattle.vx_events.specs.LinkedFacts.{link_fact, link_facts, links_by, linked_fact}
+use Rattle.vx_events.specs.RvgSteps.{over_rvg_at}
+use Rattle.vx_events.specs.RvgViews.{is_over_rvg}
 use Rattle.vx_events.specs.StepsOver.{fact_over, facts_over, over_group_at}
 use Rattle.vx_events.specs.LinksFit.{LinksFit}
 use Rattle.vx_events.specs.Views.{group_shown, group_view, name_of}
@@ -138,14 +140,15 @@ module _ {R : Type 0} {g : Ghosts R} where
       ∙ ap (λ (fs : List SiteFacts). site_seen fs session (linked_fact d.world s) (links_seen fs (linked_fact d.world s).links)) stands.facts
       ∙ seen_is d s session stands.links (λ up. session_is (beside_of d s) (d.world.nodes s) (stands.disk_sets.sites s disk_set below disk_set_at) up apart)
 
-  pub status_leads : (d : Doubted) (y : Yard R g) (name : List ℕ) (s : ℕ) (view : SiteView) → StandsFor d y → over_group_at d.world name ≡ false → seat_of y.facts.items name ≡ Some s → ((s < d.world.sites) → is_over_group (d.world.nodes s) ≡ false → view ≡ linked_view d.world s) → Leads d (Status name) (Shown view) y y
-  status_leads d y name s view stands apart at is =
+  pub status_leads : (d : Doubted) (y : Yard R g) (name : List ℕ) (s : ℕ) (view : SiteView) → StandsFor d y → over_group_at d.world name ≡ false → over_rvg_at d.world name ≡ false → seat_of y.facts.items name ≡ Some s
+      → ((s < d.world.sites) → is_over_group (d.world.nodes s) ≡ false → is_over_rvg (d.world.nodes s) ≡ false → view ≡ linked_view d.world s) → Leads d (Status name) (Shown view) y y
+  status_leads d y name s view stands apart off at is =
       let seat = named_at d y name s stands apart at in
       record {
         next = d;
         fails = [];
         done = record {
-          ends = AllDone first_choice false tt (ap (λ (v : SiteView). Shown v) (is seat.below (apart_at d y name s stands apart at) ∙ ap (λ (i : ℕ). linked_view d.world i) (sym seat.number))) (record { world = refl; after = λ i. refl });
+          ends = AllDone first_choice false tt (ap (λ (v : SiteView). Shown v) (is seat.below (apart_at d y name s stands apart at) (subst (λ (i : ℕ). is_over_rvg (d.world.nodes i) ≡ false) seat.number off) ∙ ap (λ (i : ℕ). linked_view d.world i) (sym seat.number))) (record { world = refl; after = λ i. refl });
           counts = tt;
           works = tt;
           calls = tt;

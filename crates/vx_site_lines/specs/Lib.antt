@@ -3,3 +3,4 @@ pub mod Raised
 pub mod Rises
 pub mod Seen
 pub mod Shown
+pub mod Views

@@ -14,6 +14,7 @@ mod recover;
 mod rooms;
 mod shown;
 mod status;
+mod views;
 mod write;
 
 pub use crash::crash_line;
@@ -23,4 +24,5 @@ pub use make::{make_raw, make_site};
 pub use read::{read_line, show_line};
 pub use recover::recover_line;
 pub use status::{rvg_view, status_line};
+pub use views::{ViewRoom, views_of};
 pub use write::{put_line, write_line};

@@ -1,16 +1,22 @@
 // What the status of a site shows.
-ghost use Rattle.std.specs.Prelude.{◌≡◌, ◌<◌, IfOk, Some, false, length, slice_get};
+ghost use Rattle.std.specs.Prelude.{◌≡◌, ◌<◌, [], IfOk, Some, true, false, length, slice_get};
 ghost use Rattle.vx_history.specs.Doubts.{Doubted};
-ghost use Rattle.vx_order.specs.declared.facts.SiteFacts.{SiteFacts};
+ghost use Rattle.vx_order.specs.declared.facts.SiteFacts.{SiteFacts as Facts};
 ghost use Rattle.vx_script.specs.declared.line.ScriptLine.TheVariants.{Status as StatusLine};
 ghost use Rattle.vx_site_lines.specs.Seen.{group_seen, group_at, link_seen, links_seen, site_seen};
+ghost use Rattle.vx_site_lines.specs.Views.{full_seen};
+ghost use Rattle.vx_yard.specs.AboveLines.{LeadsAboveIs};
 ghost use Rattle.vx_yard.specs.Standing.{LeadsIs, StandsFor};
 ghost use Rattle.vx_events.specs.GroupLines.{is_over_group};
+ghost use Rattle.vx_events.specs.GroupNotes.{note_at};
 ghost use Rattle.vx_events.specs.LinkViews.{linked_view};
+ghost use Rattle.vx_events.specs.RvgSteps.{is_for_rvg};
+ghost use Rattle.vx_events.specs.RvgViews.{is_over_rvg, over_disks};
 ghost use Rattle.vx_events.specs.StepsOver.{is_for_group};
 ghost use Rattle.vx_yard.specs.Working.{IsFree};
 ghost use Rattle.vx_yard.specs.Yards.{IsYardKept};
 
+use crate::views::{ViewRoom, views_of};
 use std::alloc::Global;
 use vx_disk::Rack;
 use vx_events::Said;
@@ -106,19 +112,63 @@ pub(crate) fn view_at<R: Rack>(
 ) -> SiteView
     requires site { site < length yard.now.facts.items }
     requires disk_set { site < length yard.now.disk_sets.items }
-    ensures linked { (d : Doubted) (f : SiteFacts) → StandsFor d yard.now → site < d.world.sites → is_over_group (d.world.nodes site) ≡ false → slice_get yard.now.facts.items site ≡ Some f → links ≡ links_seen yard.now.facts.items f.links → result ≡ linked_view d.world site }
+    ensures linked { (d : Doubted) (f : Facts) → StandsFor d yard.now → site < d.world.sites → is_over_group (d.world.nodes site) ≡ false → slice_get yard.now.facts.items site ≡ Some f → links ≡ links_seen yard.now.facts.items f.links → result ≡ linked_view d.world site }
 {
     let session = yard.disk_sets[site].session();
     view(alloc, &yard.facts, session, &yard.facts[site], links)
+}
+
+fn full_view(
+    sites: &[SiteFacts],
+    session: u64,
+    site: &SiteFacts,
+    disks: DiskViews,
+    volumes: VolumeViews,
+    links: LinkViews,
+) -> SiteView
+    ensures { result ≡ full_seen sites.now session site.now disks volumes links }
+{
+    SiteView {
+        name: site.name,
+        state: site.state,
+        disks,
+        volumes,
+        rvg: rvg_view(sites, session, site),
+        links,
+    }
+}
+
+// How a site with these links stands, with the disks and volumes of the group below its replicated volume group.
+fn full_at<R: Rack>(yard: &Yard<R>, site: usize, links: LinkViews, room: ViewRoom) -> SiteView
+    requires site { site < length yard.now.facts.items }
+    requires disk_set { site < length yard.now.disk_sets.items }
+    requires disks { room.disks ≡ [] }
+    requires volumes { room.volumes ≡ [] }
+    ensures linked { (d : Doubted) (f : Facts) → StandsFor d yard.now → site < d.world.sites → is_over_group (d.world.nodes site) ≡ false → is_over_rvg (d.world.nodes site) ≡ false → slice_get yard.now.facts.items site ≡ Some f → links ≡ links_seen yard.now.facts.items f.links → result ≡ linked_view d.world site }
+    ensures above { (d : Doubted) (f : Facts) → StandsFor d yard.now → site < d.world.sites → is_over_rvg (d.world.nodes site) ≡ true → slice_get yard.now.facts.items site ≡ Some f → links ≡ links_seen yard.now.facts.items f.links → result ≡ over_disks (d.world.nodes site) (note_at (d.world.nodes site)) (linked_view d.world site) }
+{
+    let disk_set = &yard.disk_sets[site];
+    let session = disk_set.session();
+    let shown = views_of(disk_set.config(), room);
+    full_view(
+        &yard.facts,
+        session,
+        &yard.facts[site],
+        shown.0,
+        shown.1,
+        links,
+    )
 }
 
 /// The status of a site.
 pub fn status_line<R: Rack>(yard: &Yard<R>, alloc: Global, name: &Name) -> Result<Said, OutOfMemory>
     requires kept { IsYardKept yard.now }
     requires free { IsFree yard.now (StatusLine name.now) }
-    ensures leads { (d : Doubted) → StandsFor d yard.now → is_for_group d.world (StatusLine name.now) ≡ false → LeadsIs d (StatusLine name.now) yard.now yard.now result }
+    ensures leads { (d : Doubted) → StandsFor d yard.now → is_for_group d.world (StatusLine name.now) ≡ false → is_for_rvg d.world (StatusLine name.now) ≡ false → LeadsIs d (StatusLine name.now) yard.now yard.now result }
+    ensures above { (d : Doubted) → StandsFor d yard.now → is_for_rvg d.world (StatusLine name.now) ≡ true → LeadsAboveIs d (StatusLine name.now) yard.now yard.now result }
 {
+    let room = ViewRoom::new(alloc)?;
     let site = yard.site_of(name);
     let links = link_views(alloc, &yard.facts, yard.facts[site].links.as_slice())?;
-    Ok(Said::Shown(view_at(yard, alloc, site, links)))
+    Ok(Said::Shown(full_at(yard, site, links, room)))
 }

@@ -22,7 +22,8 @@ use Rattle.vx_yard.specs.Stands.{AreTold}
 use Rattle.vx_yard.specs.Yards.{in_files}
 use Rattle.vx_group_lines.proofs.BareSites.{bare_site}
 use Rattle.vx_group_lines.proofs.Founding.{bare_asks, found_done, found_none, unbegun_found}
-use Rattle.vx_group_lines.proofs.GroupShown.{config_at, small_set}
+use Rattle.vx_group_lines.proofs.GroupShown.{config_at}
+use Rattle.vx_site_lines.proofs.Smalls.{small_set}
 use Rattle.vx_group_lines.proofs.found.recover_found.Goals as goal
 
 pub site_of-site-requires-clause-named : goal.site_of-site-requires-clause-named

@@ -4,7 +4,8 @@ use Rattle.std.specs.Prelude.{Some, slice_get, slice_set, Ok, Err}
 use Rattle.vx_diskset.specs.Recovers.{LooksAt}
 use Rattle.vx_diskset.specs.declared.disk_set.DiskSet.TheVariants.{Gone}
 use Rattle.vx_yard.proofs.Lists.{get-set_same, get_at, set_twice}
-use Rattle.vx_group_lines.proofs.GroupShown.{config_at, small_set}
+use Rattle.vx_group_lines.proofs.GroupShown.{config_at}
+use Rattle.vx_site_lines.proofs.Smalls.{small_set}
 use Rattle.vx_group_lines.proofs.Recovering.{so_down, so_up, stood_by}
 use Rattle.vx_group_lines.proofs.recover.stand_up.Goals as goal
 

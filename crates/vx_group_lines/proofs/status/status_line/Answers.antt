@@ -4,7 +4,8 @@ use Rattle.vx_model.proofs.Lists.{get_there}
 use Rattle.vx_events.proofs.Refused.{status_may}
 use Rattle.vx_yard.proofs.Seats.{named_some}
 use Rattle.vx_yard.specs.Yards.{in_files}
-use Rattle.vx_group_lines.proofs.GroupShown.{config_at, small_set, status_leads}
+use Rattle.vx_group_lines.proofs.GroupShown.{config_at, status_leads}
+use Rattle.vx_site_lines.proofs.Smalls.{small_set}
 use Rattle.vx_group_lines.proofs.status.status_line.Goals as goal
 
 pub site_of-site-requires-clause-named : goal.site_of-site-requires-clause-named
