@@ -20,6 +20,7 @@ pub mod OverCrash
 pub mod OverDowns
 pub mod OverDisks
 pub mod OverFalls
+pub mod OverFinds
 pub mod OverFrames
 pub mod OverKept
 pub mod OverLikes
