@@ -18,6 +18,7 @@ pub mod OverUp
 pub mod OverReturns
 pub mod OverCrash
 pub mod OverDowns
+pub mod OverDims
 pub mod OverDisks
 pub mod OverFalls
 pub mod OverFinds
