@@ -9,6 +9,7 @@ pub mod Moved
 pub mod OverSeen
 pub mod OverComes
 pub mod OverEnds
+pub mod OverLines
 pub mod SiteCalls
 pub mod FuseGoing
 pub mod Quiet

@@ -72,3 +72,7 @@ table_like n m note next volumes rvg same =
     ∙ ap (λ (fs : List VolumeFacts). fs ++ others_by (rvg_noted note) (entries_noted next)) (data_same (entries_noted next) (entries_noted note) (data_units (rvg_noted note)) n.volumes same)
     ∙ ap (λ (fs : List VolumeFacts). data_facts (entries_noted note) (data_units (rvg_noted note)) n.volumes ++ fs) (others_same (rvg_noted note) (entries_noted next) (entries_noted note) same)
     ∙ sym (table_is n note)
+
+-- of a site with the same volumes
+pub table_again : (n m : Node) (note : GroupNode) → m.volumes ≡ n.volumes → over_table m note ≡ over_table n note
+table_again n m note volumes = ap (λ (xs : List Volume). data_facts (entries_noted note) (data_units (rvg_noted note)) xs ++ others_of (config_of note.config)) volumes

@@ -18,8 +18,10 @@ pub mod OverUp
 pub mod OverReturns
 pub mod OverCrash
 pub mod OverDowns
+pub mod OverDims
 pub mod OverDisks
 pub mod OverFalls
+pub mod OverFinds
 pub mod OverFrames
 pub mod OverKept
 pub mod OverLikes

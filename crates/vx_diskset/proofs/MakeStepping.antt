@@ -132,7 +132,7 @@ group_by n f u =
     && nat_le LEAST_BLOCKS (f u.srl)
     && nat_le (LINK_PLACES * sum_by (λ k. map_blocks (f k)) u.vols) (f u.maps)
 
-may_same : (vs us : List VolumeEntry) (u : Units) → length us ≡ length vs → blocks_of us ≡ blocks_of vs → is_group vs u ≡ true → is_group us u ≡ true
+pub may_same : (vs us : List VolumeEntry) (u : Units) → length us ≡ length vs → blocks_of us ≡ blocks_of vs → is_group vs u ≡ true → is_group us u ≡ true
 may_same vs us u count blocks may = ap (λ (k : ℕ). group_by k (blocks_of us) u) count ∙ ap (λ (f : ℕ → ℕ). group_by (length vs) f u) blocks ∙ may
 
 module _ {R : Type 0} {g : Ghosts R} where

@@ -1,6 +1,6 @@
 -- What a site notes of its group below a replicated volume group, past calls and lines that leave the group alone, and past its crash.
 use Rattle.std.proofs.Common.{◌≡◌, ◌∙◌, ℕ, ap, refl, subst, sym}
-use Rattle.std.specs.Prelude.{Option, Some}
+use Rattle.std.specs.Prelude.{Option}
 use Rattle.vx_disk.specs.declared.shelf.Shelf.{Ghosts}
 use Rattle.vx_grouped.specs.GroupSites.{idle_below, idle_disks, laid_below, laid_disks}
 use Rattle.vx_grouped.specs.SetFuses.{HasFuse}

@@ -20,6 +20,7 @@ use Rattle.vx_grouped.specs.declared.group_site.GroupSite.{GroupSite}
 use Rattle.vx_grouped.specs.declared.group_site.GroupSite.TheVariants.{Up, Deported, Down, Marked, Gone}
 use Rattle.vx_grouped.specs.declared.idle.Idle.{Idle}
 use Rattle.vx_grouped.specs.declared.laid.Laid.{Laid}
+use Rattle.vx_grouped.proofs.ReadyLemmas.{down_ready}
 use Rattle.vx_history.specs.Groups.{GroupNode, NoteWorks}
 use Rattle.vx_history.specs.Steps.{burned}
 use Rattle.vx_history.specs.World.{Fuse, FuseLit, FuseSet, NoFuse, Node}
@@ -27,10 +28,11 @@ use Rattle.vx_logimport.specs.declared.rested.Rested.{Rested}
 use Rattle.vx_model.specs.declared.errors.Stop.{Stop}
 use Rattle.vx_model.specs.declared.errors.Stop.TheVariants.{No as Refused}
 use Rattle.vx_model.specs.declared.no.No.TheVariants.{Role as NoRole}
+use Rattle.vx_model.specs.declared.site.SiteState.TheVariants.{Up as IsUp}
 use Rattle.vx_model.specs.declared.units.Units.{Units}
 use Rattle.vx_untold.specs.Shades.{shade_meaning}
 use Rattle.vx_untold.specs.declared.shade.Shade.{Shade}
-use Rattle.vx_diskset.specs.Aboves.{InsideOf, site_in}
+use Rattle.vx_diskset.specs.Aboves.{InsideOf, below_site, site_in}
 use Rattle.vx_diskset.specs.Blames.{IsGroupDisk}
 use Rattle.vx_diskset.specs.Fuses.{FuseOn}
 use Rattle.vx_diskset.specs.GroupSets.{cut_value}
@@ -39,13 +41,15 @@ use Rattle.vx_diskset.specs.Layouts.{config_units, units_by, units_of, units_or}
 use Rattle.vx_diskset.specs.Noted.{AgreesStill, NotedOn, NotesWorked, SiteNoted, below_rvg}
 use Rattle.vx_diskset.specs.OverStarts.{BehindImport, ImportsBy, ImportsIn, RaisesIn, Started, WithUnits}
 use Rattle.vx_diskset.specs.Shelves.{OfRvg}
-use Rattle.vx_diskset.specs.Stands.{AwayOver, FellOver, FellSettles, IsOverSite, RestsOver, SiteStands, idle_ready}
+use Rattle.vx_diskset.specs.Stands.{AwayOver, FellOver, FellSettles, IsOverSite, OverStands, RestsOver, SiteStands, idle_ready}
 use Rattle.vx_diskset.specs.Works.{LogBlocks}
 use Rattle.vx_diskset.specs.declared.disk_set.DiskSet.{DiskSet}
 use Rattle.vx_diskset.specs.declared.disk_set.DiskSet.TheVariants.{Bare, Spoiled, Up as UpSet, Receives, Down as DownSet, OfGroup, Over, Gone as GoneSet}
 use Rattle.vx_diskset.specs.declared.group_set.CutWrite.{CutWrite}
 use Rattle.vx_diskset.specs.declared.group_set.GroupSet.{GroupSet}
 use Rattle.vx_diskset.specs.declared.over_set.OverSet.{OverSet}
+use Rattle.vx_diskset.specs.declared.over_set.OverSite.{OverSite}
+use Rattle.vx_diskset.specs.declared.over_set.OverSite.TheVariants.{Origin as OriginSite, Receiver as ReceiverSite, Deported as GroupAway, Down as GroupFell, Gone as NoGroup}
 use Rattle.vx_diskset.proofs.MadeOver.{fuse_over, group_as}
 use Rattle.vx_diskset.proofs.OverNoted.{cut_down, note_read, units_same}
 use Rattle.vx_diskset.proofs.OverNotes.{over_notes}
@@ -230,3 +234,18 @@ module _ {R : Type 0} {g : Ghosts R} (racks : (s : Shade R) → IsRack (shade_me
       came_again racks beside n (note_dimmed (is_dimmed (Down idle)) note) (Down idle) cut s inside units_were
       (λ laid started brings told next units on. fell_again racks laws beside n next (burned (burned n.fuse)) idle laid s units over started brings told on rests settles some.0 some.1 down)
       by.mid by.answer by.brings by.behind (λ done is. subst (λ (r : Result (Unit {0}) Stop). SiteRecovers (below_rvg n) note (Down idle) by.mid r) is (by.recovered (below_rvg n) note fell))
+
+-- ---- any site with one that is not up
+
+module _ {R : Type 0} {g : Ghosts R} (racks : (s : Shade R) → IsRack (shade_meaning g.meaning s)) (laws : (s : Shade R) → Lawful (shade_meaning g.meaning s)) (beside : KeptBeside) (n : Node) (note : GroupNode) (s : OverSet R g) (group : n.group ≡ Some note) (off : n.state ≡ IsUp → ⊥) where
+  back_by : (cut : Option CutWrite) (x : OverSite R g) → IsOverSite beside n → InsideOf (units_of n) note → OverStands beside n x → NotedOn (below_rvg n) note (below_site x) → ImportsBy (below_site x) cut (Over s) (Ok tt)
+      → CameAgain beside n (note_dimmed (is_dimmed (below_site x)) note) (below_site x) s
+  back_by cut (OriginSite f) over inside stands noted by = absurd (off stands.state)
+  back_by cut (ReceiverSite f) over inside stands noted by = absurd (off stands.state)
+  back_by cut (GroupAway idle) over inside stands noted by = away_back racks laws beside n note idle cut s group over inside noted stands.1 by
+  back_by cut (GroupFell idle) over inside stands noted by =
+      fell_back racks laws beside n note idle cut s group over inside noted stands.2 stands.3 (down_ready g.meaning idle.agreed idle.rack ∙ noted.stopped.down) by
+  back_by cut NoGroup over inside stands noted by = absurd stands
+
+  pub set_back : (o : OverSet R g) → SiteStands beside n (Over o) → SiteNoted n note (Over o) → ImportsBy (site_in o) o.cut (Over s) (Ok tt) → CameAgain beside n (note_dimmed (is_dimmed (site_in o)) note) (site_in o) s
+  set_back o stands noted by = back_by o.cut o.site stands.0 noted.2 stands.1 noted.0 by

@@ -1,6 +1,6 @@
 -- The disks of a site on which a replicated volume group is made, whatever is answered.
-use Rattle.std.proofs.Common.{◌≡◌, ◌∙◌, ◌⊎◌, inl, inr, ℕ, ◌≤◌, Bool, true, false, IsFalse, IsTrue, ap, arith, refl, subst, sym}
-use Rattle.std.specs.Prelude.{None, Option, Some}
+use Rattle.std.proofs.Common.{◌≡◌, ◌∙◌, ◌⊎◌, inl, inr, ℕ, ◌≤◌, true, arith, refl, subst, sym}
+use Rattle.std.specs.Prelude.{Some}
 use Rattle.vx_config.specs.Checks.{blocks_of, is_group}
 use Rattle.vx_disk.specs.Disks.{Disks, is_set}
 use Rattle.vx_disk.specs.Moves.{Nowhere}

@@ -43,7 +43,7 @@ module _ {R : Type 0} (meaning : R → Meaning) where
   noted_ready false (Dark r) note c it = it
   noted_ready false (Bright r) note c it = none_noted note c (untold (meaning r)) (dark_none meaning (Bright r)).leaves
 
-  down_ready : (agreed : Bool) (s : Shade R) → (shade_meaning meaning (ready_of agreed s)).down ≡ (shade_meaning meaning s).down
+  pub down_ready : (agreed : Bool) (s : Shade R) → (shade_meaning meaning (ready_of agreed s)).down ≡ (shade_meaning meaning s).down
   down_ready true s = refl
   down_ready false s = dark_down meaning s
 

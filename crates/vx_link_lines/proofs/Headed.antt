@@ -132,7 +132,7 @@ module _ {R : Type 0} {g : Ghosts R} (note : (ℕ → Node) → ℕ → Node) (s
         kept = cut.kept;
         taken = cut.taken;
         next = record {
-          stands = stands_for to (crashed cut.was cut.kept) cut.moves (cut.group ∙ none) (fails_still (crashed cut.was cut.kept) (Refused Off) cut.failing calls)
+          stands = stands_for to (crashed cut.was cut.kept) cut.moves (cut.stays.group ∙ none) (fails_still (crashed cut.was cut.kept) (Refused Off) cut.stays.failing calls)
               (fused_none (crashed cut.was cut.kept) after refl);
           carries = cut.moves.carries;
           rose = rose_still old new s before after changed.there changed.later changed.disk_sets;

@@ -33,6 +33,7 @@ use Rattle.vx_effects.proofs.Halves.{stopped}
 use Rattle.vx_effects.proofs.Leaving.{fit_crashed_as, fit_halved}
 use Rattle.vx_effects.specs.Facts.{down_fact, fact_of, halted_fact, over_of}
 use Rattle.vx_linked.proofs.Heard.{site_apart}
+use Rattle.vx_above.proofs.OverComes.{StaysAs}
 use Rattle.vx_link_lines.proofs.HeadedWorlds as worlds
 use Rattle.vx_link_lines.proofs.HeadedWorlds.{stopped_noted}
 use Rattle.vx_link_lines.proofs.HeaderCalls.{Answered, IsHeader, in_doubt, over_body}
@@ -171,8 +172,7 @@ module _ {R : Type 0} {g : Ghosts R} (note : (ℕ → Node) → ℕ → Node) (s
     pub kept : ℕ
     pub taken : Bool
     pub was : Node
-    pub failing : was.failing ≡ n.failing
-    pub group : was.group ≡ n.group
+    pub stays : StaysAs n was
     pub moves : Moves start (noted_by note (crashed_as (halved d e s 0) s kept taken)) s (crashed was kept) old new after
 
   pub moved_cut : (x x' : SiteFacts) → CrashedAt (in_doubt (beside_of d s) (worked m) ls 0) (halted_at (worked n) 0) after → slice_get old.facts.items s ≡ Some x → x' ≡ down_fact x
@@ -182,9 +182,9 @@ module _ {R : Type 0} {g : Ghosts R} (note : (ℕ → Node) → ℕ → Node) (s
     where
       by : (count : ℕ) (taken : Bool) (k : Node) (links : ℕ → Link) (ks : List KeptLink) (node_is : (resolved_at (halved d e s 0) s taken).world.nodes s ≡ k)
           (row_is : (j : ℕ) → (resolved_at (halved d e s 0) s taken).world.links s j ≡ links j) (links_are : row_links links d.world.sites ≡ ks) (least : k.safe ≤ count) (most : count ≤ length k.log)
-          → is_over_group k ≡ false → k.failing ≡ n.failing → k.group ≡ n.group → down_fact (fact_of k links d.world.sites) ≡ down_fact (fact_of n links d.world.sites)
+          → is_over_group k ≡ false → StaysAs n k → down_fact (fact_of k links d.world.sites) ≡ down_fact (fact_of n links d.world.sites)
           → SiteStands (record { links = ks; headers = d.world.headers s + 1; doubt = None }) (crashed k count) after → CutMoves
-      by count taken k links ks node_is row_is links_are least most alone failing group shown stood =
+      by count taken k links ks node_is row_is links_are least most alone stays shown stood =
           let to : Doubted = noted_by note (crashed_as (halved d e s 0) s count taken) in
           let changes = worlds.fell_changes note s notes d e m h.row ls gathered h.effect h.kept h.sure count taken k links ks node_is row_is links_are least most in
           let node = worlds.fell_node note s notes d e m h.row ls gathered h.effect h.kept h.sure count taken k links ks node_is row_is links_are least most in
@@ -193,8 +193,7 @@ module _ {R : Type 0} {g : Ghosts R} (note : (ℕ → Node) → ℕ → Node) (s
             kept = count;
             taken = taken;
             was = k;
-            failing = failing;
-            group = group;
+            stays = stays;
             moves = record {
               changes = changes;
               node = node;
@@ -218,13 +217,14 @@ module _ {R : Type 0} {g : Ghosts R} (note : (ℕ → Node) → ℕ → Node) (s
       itself_by q own =
           subst (λ (y : KeptSite). (count : ℕ) → y.node.safe ≤ count → count ≤ length y.node.log → SiteStands (sure_of y) (fell_to (halted_at (worked n) 0) y.node count) after → CutMoves) (sym own)
           (λ count least most stood.
-          by count false (stopped n 0) (d.world.links s) (header_links d.world s) (worlds.own_node note s notes d e m h.row ls gathered h.effect h.kept h.sure) (λ j. refl) refl least most h.alone refl refl refl stood)
+          by count false (stopped n 0) (d.world.links s) (header_links d.world s) (worlds.own_node note s notes d e m h.row ls gathered h.effect h.kept h.sure) (λ j. refl) refl least most h.alone
+          (record { name = refl; disks = refl; blocks = refl; volumes = refl; group = refl; failing = refl }) refl stood)
 
       doubt_by : (q : KeptSite) → (in_doubt (beside_of d s) (worked m) ls 0).doubt ≡ Some q → (count : ℕ) → q.node.safe ≤ count → count ≤ length q.node.log → SiteStands (sure_of q) (fell_to (halted_at (worked n) 0) q.node count) after → CutMoves
       doubt_by q other =
           subst (λ (y : KeptSite). (count : ℕ) → y.node.safe ≤ count → count ≤ length y.node.log → SiteStands (sure_of y) (fell_to (halted_at (worked n) 0) y.node count) after → CutMoves) (some_same other)
           (λ count least most stood.
           by count true (stopped m 0) h.row ls (worlds.other_node note s notes d e m h.row ls gathered h.effect h.kept h.sure) (worlds.other_row note s notes d e m h.row ls gathered h.effect h.kept h.sure) h.kept least most (over_body n m h.like ∙ h.alone)
-          h.like.failing h.like.group
+          (record { name = h.like.name; disks = h.like.disks; blocks = h.like.blocks; volumes = h.like.volumes; group = h.like.group; failing = h.like.failing })
           (down_alike n (stopped m 0) (d.world.links s) h.row d.world.sites h.like.name h.like.disks h.like.blocks h.like.volumes h.like.group)
           (subst (λ (o : Option GroupNode). SiteStands (record { links = ls; headers = d.world.headers s + 1; doubt = None }) (let y : Node = record (crashed (stopped m 0) count) { group = o } in y) after) (sym h.like.group) stood))

@@ -6,6 +6,7 @@ pub mod DeliverCalls
 pub mod DeliverLine
 pub mod HandedOn
 pub mod Headed
+pub mod HeadedAbove
 pub mod HeadedEnds
 pub mod HeadedMoves
 pub mod HeadedWorlds
@@ -13,10 +14,12 @@ pub mod HeaderCalls
 pub mod HeardLine
 pub mod HeardWorld
 pub mod JoinLine
+pub mod LinkAbove
 pub mod LinkChain
 pub mod LinkEnding
 pub mod LinkNames
 pub mod LinkParts
+pub mod LinkedLeads
 pub mod NotedBoth
 pub mod NotedWorked
 pub mod NotedYard
@@ -26,6 +29,7 @@ pub mod PumpCalls
 pub mod PumpLine
 pub mod RawParts
 pub mod ReceiverLine
+pub mod SetAbove
 pub mod SetLine
 pub mod SetLink
 pub mod SetNames

@@ -150,6 +150,30 @@ module _ {R : Type 0} {g : Ghosts R} (d : Doubted) (old : Yard R g) (first secon
       ap (λ (k : ℕ). let es : List Event = SetAt k (site_number w second) sync FailsWhenFull ∷ [] in es) set_here.number
       ∙ ap (λ (k : ℕ). let es : List Event = SetAt s k sync FailsWhenFull ∷ [] in es) set_there.number
 
+  -- how the line goes
+  pub set_notes : (prot : Prot) (v : World) → link_noted w (Set first second sync prot) v ≡ record v { nodes = note_one s v.nodes }
+  set_notes prot v = ap (λ (k : ℕ). worked_on v k) set_here.number
+
+  pub set_behind : (prot : Prot) → IsBehind d (Set first second sync prot) (note_one s) event s d
+  set_behind prot = record {
+    before = [];
+    rest = [];
+    split = set_numbers prot;
+    runs = refl;
+    none = refl;
+    opens = set_opens;
+    writes = refl;
+    takes = refl;
+    notes = set_notes prot;
+    fused = λ f. f;
+  }
+
+  pub set_ends : (told : Type 0) (prot : Prot) → LinkEnds told d (Set first second sync prot) [] Done (noted_by (note_one s) (behind d event))
+  set_ends told prot =
+      LinksDone (behind d event) (subst (λ (es : List Event). Runs d es (behind d event)) (sym (set_numbers prot)) (false, refl)) (ap (λ (es : List Event). all_fails es) (set_numbers prot)) refl
+      (subst (λ (es : List Event). LinkReplies (Set first second sync prot) d (behind d event) es Done) (sym (set_numbers prot)) (subst (λ (o : EventSaid). RepeatsSaid (step w event).world 0 o Done) (sym set_said) refl))
+      (record { world = sym (set_notes prot (behind d event).world); after = λ i. refl })
+
   -- ---- the call on the disks
 
   pub set_stood : SiteStands (beside_of d s) (worked n) before
@@ -198,17 +222,12 @@ module _ {R : Type 0} {g : Ghosts R} (d : Doubted) (old : Yard R g) (first secon
         rose = next.rose;
       }
 
-      notes : (v : World) → link_noted w line v ≡ record v { nodes = note_one s v.nodes }
-      notes v = ap (λ (k : ℕ). worked_on v k) set_here.number
-
       -- it is done
       pub set_leads : ((r : R) → IsRack (g.meaning r)) → HeadUnder 2 Done before after → KeptAt (beside_of d s) (worked n) state before after (Ok tt) → LeavesFuse NoMore Done before after → new.facts.items ≡ facts_over (step w event).world → SameLoad old new → Leads d line Done old new
       set_leads racks head is calls facts load =
           let stood : SiteStands (beside_of d s) n before = stands.disk_sets.sites s before set_here.below at in
           leads_by {fails = []}
-          (LinksDone (behind d event) (subst (λ (es : List Event). Runs d es (behind d event)) (sym (set_numbers prot)) (false, refl)) (ap (λ (es : List Event). all_fails es) (set_numbers prot)) refl
-          (subst (λ (es : List Event). LinkReplies line d (behind d event) es Done) (sym (set_numbers prot)) (subst (λ (o : EventSaid). RepeatsSaid (step w event).world 0 o Done) (sym set_said) refl))
-          (record { world = sym (notes (behind d event).world); after = λ i. refl }))
+          (set_ends (IsTold new) prot)
           (λ is. (
             head_works racks 2 (beside_of d s) n before after stood head (omega arith) (stands.failing s before set_here.below at),
             head_passes racks 2 (beside_of d s) n before after stood head (stands.fuses s before set_here.below at),
@@ -220,17 +239,5 @@ module _ {R : Type 0} {g : Ghosts R} (d : Doubted) (old : Yard R g) (first secon
           → x' ≡ noted_facts why x → new.facts.items ≡ slice_set old.facts.items s x' → LetsGoBy why old new s → Leads d line said old new
       set_refused why said x x' says is calls there_too shown facts lets =
           let h = kept_refused (note_one s) s (notes_one s) d event state set_header none old before noted set_here.below at new after changed keeps why said x x' says is calls there_too shown facts lets in
-          let b : IsBehind d line (note_one s) event s d = record {
-            before = [];
-            rest = [];
-            split = set_numbers prot;
-            runs = refl;
-            none = refl;
-            opens = set_opens;
-            writes = refl;
-            takes = refl;
-            notes = notes;
-            fused = λ f. f;
-          } in
-          let e = headed_ends d line (note_one s) event s d b old new h.0 h.2 in
+          let e = headed_ends d line (note_one s) event s d (set_behind prot) old new h.0 h.2 in
           subst (λ (r : Said). Leads d line r old new) (sym h.1) (leads_by e.ends (λ (is : Refused h.0 ≡ Done). absurd (refused_undone h.0 is)) e.goes)

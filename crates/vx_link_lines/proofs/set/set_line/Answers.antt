@@ -14,7 +14,9 @@ use Rattle.vx_events.specs.declared.said.Said.TheVariants.{Done, Refused}
 use Rattle.vx_yard.proofs.ApplySite.{calls_keep}
 use Rattle.vx_yard.proofs.Lists.{get_at, set_same}
 use Rattle.vx_yard.proofs.NamedSite.{asks_at, place_at}
+use Rattle.vx_link_lines.proofs.LinkAbove.{stops_above}
 use Rattle.vx_link_lines.proofs.RawParts.{raw_seat}
+use Rattle.vx_link_lines.proofs.SetAbove.{set_denied, set_linked}
 use Rattle.vx_link_lines.proofs.SetLine.{set_alone, set_kept, set_leads, set_refused, set_said, set_state_is, set_stood}
 use Rattle.vx_link_lines.proofs.SetNames.{set_first, set_second}
 use Rattle.vx_link_lines.proofs.set.set_line.Goals as goal
@@ -90,6 +92,56 @@ returns-in-Err-clause-leads g c = λ d prot stands off.
     kept (c.in-Err.ensures.called (beside_of d s) (worked (d.world.nodes s)) stood (raw_seat d old p s before stands seat at off))
     (get_at old.facts.items s c.index_mut-in-Err.result.now c.site_of-here.ensures.fact c.index_mut-in-Err.ensures.value) c.refused.ensures.noted refl
     (record { flight = refl; assemblies = c.let_go_if_down.ensures; feeders = refl })
+
+pub returns-in-Ok-clause-above : goal.returns-in-Ok-clause-above
+returns-in-Ok-clause-above g c = λ d prot stands over.
+    let old = c.args.yard.now in
+    let es = old.disk_sets.items in
+    let s = c.site_of-here.result in
+    let q = c.site_of-there.result in
+    let p = c.args.first.now in
+    let r = c.args.second.now in
+    let before = c.index_mut.result.now in
+    let after = c.keep.new.self in
+    let at = get_at es s before c.site_of-here.ensures.disk_set c.index_mut.ensures.value in
+    let at_too = get_at es s c.index.result.now c.site_of-here.ensures.disk_set c.index.ensures in
+    let seat = c.site_of-here.ensures.seat in
+    let seat_too = c.site_of-there.ensures.seat in
+    let is = set_state_is d old p r c.args.sync c.requires.free.0 s q before stands c.requires.free.1 seat seat_too at c.index.result.now c.in-Some.state at_too
+    (λ beside m v stood up alone facts has said. c.in-Some.ensures.is beside m v stood up alone (c.deref.ensures.value ∙ facts) has said) in
+    let kept = set_kept d old p r c.args.sync c.requires.free.0 s q before stands c.requires.free.1 seat seat_too at after c.in-Some.state (Ok tt) is (λ beside m stood can. c.in-Ok.ensures.kept beside m stood can) in
+    let said = set_said d old p r c.args.sync c.requires.free.0 s q before stands c.requires.free.1 seat seat_too at in
+    set_linked d old p r c.args.sync c.requires.free.0 s q before stands c.requires.free.1 seat seat_too at over _ after (record { there = at; later = c.in-Ok.ensures.later; disk_sets = refl; racks = refl }) c.in-Ok.ensures.role
+    c.in-Ok.ensures.notes prot kept
+    (with_items_is old.facts c.keep_set.new.sites (c.keep_set.auto.sites ∙ c.deref_mut.ensures.len)
+    ∙ c.keep_set.ensures.world d.world (c.deref_mut.ensures.value ∙ stands.facts)
+    (set_alone d old p r c.args.sync c.requires.free.0 s q before stands c.requires.free.1 seat seat_too at) (stands.links.rows s).places said)
+    (record { flight = refl; assemblies = refl; feeders = refl })
+
+pub returns-in-Err-clause-above : goal.returns-in-Err-clause-above
+returns-in-Err-clause-above g c = λ d prot stands over.
+    let old = c.args.yard.now in
+    let es = old.disk_sets.items in
+    let s = c.site_of-here.result in
+    let q = c.site_of-there.result in
+    let p = c.args.first.now in
+    let r = c.args.second.now in
+    let before = c.index_mut.result.now in
+    let after = c.keep.new.self in
+    let at = get_at es s before c.site_of-here.ensures.disk_set c.index_mut.ensures.value in
+    let at_too = get_at es s c.index.result.now c.site_of-here.ensures.disk_set c.index.ensures in
+    let seat = c.site_of-here.ensures.seat in
+    let seat_too = c.site_of-there.ensures.seat in
+    let is = set_state_is d old p r c.args.sync c.requires.free.0 s q before stands c.requires.free.1 seat seat_too at c.index.result.now c.in-Some.state at_too
+    (λ beside m v stood up alone facts has said. c.in-Some.ensures.is beside m v stood up alone (c.deref.ensures.value ∙ facts) has said) in
+    let kept = set_kept d old p r c.args.sync c.requires.free.0 s q before stands c.requires.free.1 seat seat_too at after c.in-Some.state (Err c.in-Err.no) is (λ beside m stood can. c.in-Err.ensures.kept beside m stood can) in
+    set_denied d old p r c.args.sync c.requires.free.0 s q before stands c.requires.free.1 seat seat_too at over _ after (record { there = at; later = c.in-Err.ensures.later; disk_sets = refl; racks = refl }) c.in-Err.ensures.role
+    c.in-Err.ensures.notes prot c.in-Err.no c.refused.result c.index_mut-in-Err.result.now c.refused.new.facts c.refused.ensures.said kept
+    (get_at old.facts.items s c.index_mut-in-Err.result.now c.site_of-here.ensures.fact c.index_mut-in-Err.ensures.value) c.refused.ensures.noted refl
+    (record { flight = refl; assemblies = c.let_go_if_down.ensures; feeders = refl })
+
+pub returns-in_default-clause-above : goal.returns-in_default-clause-above
+returns-in_default-clause-above g c = λ d prot stands over. stops_above d _ c.args.yard.now stands
 
 pub returns-in-Ok-clause-asked : goal.returns-in-Ok-clause-asked
 returns-in-Ok-clause-asked g c = λ d prot stands off.

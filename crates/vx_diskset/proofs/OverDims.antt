@@ -1,0 +1,70 @@
+-- The disks of a site whose group has a replicated volume group, once it is no longer known what they hold.
+use Rattle.std.proofs.Common.{◌≡◌, ◌∙◌, true, IsTrue, refl, subst, sym}
+use Rattle.std.specs.Prelude.{None, Option}
+use Rattle.vx_config.specs.Checks.{blocks_of}
+use Rattle.vx_config.specs.declared.config.Config.{Config}
+use Rattle.vx_disk.specs.Shelf.{Lawful, Meaning}
+use Rattle.vx_disk.specs.declared.shelf.Shelf.{Ghosts}
+use Rattle.vx_events.specs.RvgNotes.{inside_of}
+use Rattle.vx_grouped.specs.Readies.{ready_of}
+use Rattle.vx_grouped.specs.declared.idle.Idle.{Idle}
+use Rattle.vx_history.specs.Groups.{GroupNode}
+use Rattle.vx_history.specs.World.{Fuse, Node, NoFuse}
+use Rattle.vx_model.specs.declared.site.SiteState.{SiteState}
+use Rattle.vx_model.specs.declared.site.SiteState.TheVariants.{Deported as IsAway, Down as IsDown}
+use Rattle.vx_model.specs.declared.units.Units.{Units}
+use Rattle.vx_untold.specs.Shades.{shade_lawful}
+use Rattle.vx_diskset.specs.Holds.{KeptBeside}
+use Rattle.vx_diskset.specs.Layouts.{IsLaidBy, units_by, units_of}
+use Rattle.vx_diskset.specs.Stands.{AwayOver, FellOver, IsOverSite, OverStands, RestsOver, RvgSettles, SiteStands, idle_ready}
+use Rattle.vx_diskset.specs.declared.disk_set.DiskSet.TheVariants.{Over}
+use Rattle.vx_diskset.specs.declared.over_set.OverSet.{OverSet}
+use Rattle.vx_diskset.specs.declared.over_set.OverSite.{OverSite}
+use Rattle.vx_diskset.specs.declared.over_set.OverSite.TheVariants.{Deported as GroupAway, Down as GroupFell}
+use Rattle.vx_diskset.proofs.StaysUp.{not_true}
+
+-- disks that tell nothing leave no image
+settles_dim : (units : Units) (m : Meaning) → Lawful m → (IsTrue m.tells → ⊥) → RvgSettles units m
+settles_dim units m law untold = record { each = λ i x v all found inside. absurd (law.none (not_true m.tells untold) 0 0 (i 0 0) (all 0 0)) }
+
+module _ (beside : KeptBeside) (n : Node) (state : SiteState) (fuse : Fuse) (group : Option GroupNode) (units : units_by group n.disks ≡ units_of n) where
+  abbrev k : Node
+  k = record n { state = state; fuse = fuse; group = group }
+
+  rests_dim : (P Q : Config → Type 0) (a b : Meaning) → (IsTrue b.tells → ⊥) → RestsOver P beside n a → RestsOver Q beside k b
+  rests_dim P Q a b untold it = record {
+    config = it.config;
+    sure = it.sure;
+    lies = subst (λ (u : Units). IsLaidBy u n.ring n.volumes n.base.size (blocks_of it.config.volumes)) (sym units) it.lies;
+    there = λ j is. it.there j (subst (λ (u : Units). inside_of u j ≡ true) units is);
+    low = it.low;
+    logged = it.logged;
+    begun = λ told. absurd (untold told);
+    left = λ told. absurd (untold told);
+  }
+
+  ground_dim : (group ≡ None → ⊥) → IsOverSite beside n → IsOverSite beside k
+  ground_dim has it = (has, λ x is. record { units = (it.1 x is).units ∙ sym units; disks = (it.1 x is).disks; blocks = (it.1 x is).blocks }, it.2, it.3)
+
+module _ {R : Type 0} {g : Ghosts R} (beside : KeptBeside) (n : Node) (fuse : Fuse) (group : Option GroupNode) (units : units_by group n.disks ≡ units_of n) (has : group ≡ None → ⊥) (P : Config → Type 0) (a : Meaning) (rests : RestsOver P beside n a) (over : IsOverSite beside n) (idle : Idle R g)
+    (untold : IsTrue (idle_ready idle).tells → ⊥) where
+  away_by : (s : OverSite R g) → s ≡ GroupAway idle → OverStands beside (record n { state = IsAway; fuse = fuse; group = group }) s
+  away_by s is = subst (λ (x : OverSite R g). OverStands beside (record n { state = IsAway; fuse = fuse; group = group }) x) (sym is)
+      (refl, rests_dim beside n IsAway fuse group units P (λ c. AwayOver c beside (record n { state = IsAway; fuse = fuse; group = group }) (idle_ready idle)) a (idle_ready idle) untold rests)
+
+  -- they are by themselves
+  pub away_dim : (s : OverSet R g) → s.site ≡ GroupAway idle → SiteStands beside (record n { state = IsAway; fuse = fuse; group = group }) (Over s)
+  away_dim s is = (ground_dim beside n IsAway fuse group units has over, away_by s.site is)
+
+  module _ (laws : (r : R) → Lawful (g.meaning r)) where
+    fell_by : (s : OverSite R g) → s ≡ GroupFell idle → OverStands beside (record n { state = IsDown; fuse = NoFuse; group = group }) s
+    fell_by s is = subst (λ (x : OverSite R g). OverStands beside (record n { state = IsDown; fuse = NoFuse; group = group }) x) (sym is) (
+      refl,
+      refl,
+      rests_dim beside n IsDown NoFuse group units P (λ c. FellOver c beside (record n { state = IsDown; fuse = NoFuse; group = group }) (idle_ready idle)) a (idle_ready idle) untold rests,
+      λ r came. settles_dim (units_of (record n { state = IsDown; fuse = NoFuse; group = group })) (idle_ready idle) (shade_lawful g.meaning laws (ready_of idle.agreed idle.rack)) untold,
+    )
+
+    -- they are down
+    pub fell_dim : (s : OverSet R g) → s.site ≡ GroupFell idle → SiteStands beside (record n { state = IsDown; fuse = NoFuse; group = group }) (Over s)
+    fell_dim s is = (ground_dim beside n IsDown NoFuse group units has over, fell_by s.site is)
