@@ -36,8 +36,7 @@ use Rattle.vx_events.specs.GroupNotes.{note_at}
 use Rattle.vx_events.specs.GroupViews.{volumes_of}
 use Rattle.vx_events.specs.RvgFits.{config_rvg, entries_noted, rvg_noted}
 use Rattle.vx_events.specs.RvgNotes.{units_named}
-use Rattle.vx_events.specs.RvgSteps.{fact_over, facts_over}
-use Rattle.vx_events.specs.StepsOver.{fact_over}
+use Rattle.vx_events.specs.StepsOver.{fact_over, facts_over}
 use Rattle.vx_yard.proofs.OverGroup.{bare_apart, both_ways, over_is, set_notes}
 use Rattle.vx_yard.specs.Working.{IsFree}
 use Rattle.vx_yard.specs.Yards.{in_files}

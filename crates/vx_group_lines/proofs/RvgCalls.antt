@@ -1,5 +1,5 @@
--- The calls of a line that makes a replicated volume group, and the fuse Rattle.vx_above.proofs.FuseGoing.{fused_goes}
-use behind them.
+-- The calls of a line that makes a replicated volume group, and the fuse behind them.
+use Rattle.vx_above.proofs.FuseGoing.{fused_goes}
 use Rattle.std.proofs.Common.{◌≡◌, ℕ, refl}
 use Rattle.std.proofs.lemmas.Bool.{false_from_ne_true}
 use Rattle.std.specs.Prelude.{IsTrue}

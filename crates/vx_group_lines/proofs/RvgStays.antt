@@ -24,9 +24,9 @@ use Rattle.vx_diskset.specs.declared.group_set.GroupSet.{GroupSet}
 use Rattle.vx_events.specs.GroupLines.{is_over_group, noting}
 use Rattle.vx_events.specs.GroupNotes.{note_at}
 use Rattle.vx_events.specs.GroupViews.{noted_table}
-use Rattle.vx_events.specs.RvgSteps.{HasNoRvgs, fact_over}
+use Rattle.vx_events.specs.RvgSteps.{HasNoRvgs}
 use Rattle.vx_events.specs.RvgViews.{is_over_rvg}
-use Rattle.vx_events.specs.StepsOver.{fact_of_group}
+use Rattle.vx_events.specs.StepsOver.{fact_of_group, fact_over}
 use Rattle.vx_yard.proofs.Carrying.{Feeds, SameLoad, carries_at}
 use Rattle.vx_yard.proofs.FailsStay.{fails_then}
 use Rattle.vx_yard.proofs.Lists.{set_same}
