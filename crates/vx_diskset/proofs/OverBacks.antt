@@ -91,7 +91,7 @@ burned_twice (FuseLit most) = refl
 never_ok : (e : Stop) → ◌≡◌ {A = Result (Unit {0}) Stop} (Ok tt) (Err e) → ⊥
 never_ok e is = cc
 
-some_in : (o : Option Rested) → IsSome o → (r : Rested) × (o ≡ Some r)
+pub some_in : (o : Option Rested) → IsSome o → (r : Rested) × (o ≡ Some r)
 some_in None is = absurd (let clash : false ≡ true = is in cc)
 some_in (Some r) is = (r, refl)
 

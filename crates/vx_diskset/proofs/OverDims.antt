@@ -1,26 +1,32 @@
 -- The disks of a site whose group has a replicated volume group, once it is no longer known what they hold.
 use Rattle.std.proofs.Common.{◌≡◌, ◌∙◌, true, IsTrue, refl, subst, sym}
-use Rattle.std.specs.Prelude.{None, Option}
+use Rattle.std.specs.Prelude.{Err, None, Option}
 use Rattle.vx_config.specs.Checks.{blocks_of}
 use Rattle.vx_config.specs.declared.config.Config.{Config}
 use Rattle.vx_disk.specs.Shelf.{Lawful, Meaning}
 use Rattle.vx_disk.specs.declared.shelf.Shelf.{Ghosts}
 use Rattle.vx_events.specs.RvgNotes.{inside_of}
+use Rattle.vx_grouped.specs.Brings.{RestKnown}
 use Rattle.vx_grouped.specs.Readies.{ready_of}
+use Rattle.vx_grouped.specs.SiteReturns.{LeftLess, LessLeft, stops_early}
+use Rattle.vx_grouped.specs.declared.group_site.GroupSite.TheVariants.{Deported, Down}
 use Rattle.vx_grouped.specs.declared.idle.Idle.{Idle}
 use Rattle.vx_history.specs.Groups.{GroupNode}
 use Rattle.vx_history.specs.World.{Fuse, Node, NoFuse}
+use Rattle.vx_model.specs.declared.errors.Stop.{Stop}
 use Rattle.vx_model.specs.declared.site.SiteState.{SiteState}
 use Rattle.vx_model.specs.declared.site.SiteState.TheVariants.{Deported as IsAway, Down as IsDown}
 use Rattle.vx_model.specs.declared.units.Units.{Units}
 use Rattle.vx_untold.specs.Shades.{shade_lawful}
 use Rattle.vx_diskset.specs.Holds.{KeptBeside}
 use Rattle.vx_diskset.specs.Layouts.{IsLaidBy, units_by, units_of}
-use Rattle.vx_diskset.specs.Stands.{AwayOver, FellOver, IsOverSite, OverStands, RestsOver, RvgSettles, SiteStands, idle_ready}
+use Rattle.vx_diskset.specs.Stands.{AwayOver, FellOver, FellSettles, IsOverSite, OverStands, RestsOver, RvgSettles, SiteStands, idle_ready}
 use Rattle.vx_diskset.specs.declared.disk_set.DiskSet.TheVariants.{Over}
 use Rattle.vx_diskset.specs.declared.over_set.OverSet.{OverSet}
 use Rattle.vx_diskset.specs.declared.over_set.OverSite.{OverSite}
 use Rattle.vx_diskset.specs.declared.over_set.OverSite.TheVariants.{Deported as GroupAway, Down as GroupFell}
+use Rattle.vx_diskset.proofs.OverBacks.{some_in}
+use Rattle.vx_diskset.proofs.OverDisks.{LeavesLess, away_less, fell_less, settles_less}
 use Rattle.vx_diskset.proofs.StaysUp.{not_true}
 
 -- disks that tell nothing leave no image
@@ -68,3 +74,31 @@ module _ {R : Type 0} {g : Ghosts R} (beside : KeptBeside) (n : Node) (fuse : Fu
     -- they are down
     pub fell_dim : (s : OverSet R g) → s.site ≡ GroupFell idle → SiteStands beside (record n { state = IsDown; fuse = NoFuse; group = group }) (Over s)
     fell_dim s is = (ground_dim beside n IsDown NoFuse group units has over, fell_by s.site is)
+
+-- ---- an import that was refused before anything was written
+
+less_left : (m m' : Meaning) → LeftLess m m' → LeavesLess m m'
+less_left m m' it = record { units = it.units; size = it.size; tells = it.tells; leaves = it.leaves }
+
+module _ {R : Type 0} {g : Ghosts R} (beside : KeptBeside) (n : Node) (s : OverSet R g) (stop : Stop) (early : stops_early stop ≡ true) (over : IsOverSite beside n) (idle now : Idle R g) where
+  -- the site was deported, and is so still
+  pub away_still : n.state ≡ IsAway → RestsOver (λ c. AwayOver c beside n (idle_ready idle)) beside n (idle_ready idle) → LessLeft (idle_ready idle) (Deported now) (Err stop) → s.site ≡ GroupAway now → SiteStands beside n (Over s)
+  away_still state rests less is = (
+    over,
+    subst (λ (x : OverSite R g). OverStands beside n x) (sym is) (state, away_less beside n (idle_ready idle) (idle_ready now) (less_left (idle_ready idle) (idle_ready now) (less early)) rests),
+  )
+
+  -- it crashed, and is down still
+  pub fell_still : n.state ≡ IsDown → n.fuse ≡ NoFuse → RestsOver (λ c. FellOver c beside n (idle_ready idle)) beside n (idle_ready idle) → FellSettles n idle → RestKnown idle.rested (Err stop) → LessLeft (idle_ready idle) (Down now) (Err stop) → s.site ≡ GroupFell now
+      → SiteStands beside n (Over s)
+  fell_still state unfused rests settles known less is =
+      let lower : LeavesLess (idle_ready idle) (idle_ready now) = less_left (idle_ready idle) (idle_ready now) (less early) in
+      let some = some_in idle.rested (known early) in (
+        over,
+        subst (λ (x : OverSite R g). OverStands beside n x) (sym is) (
+          state,
+          unfused,
+          fell_less beside n (idle_ready idle) (idle_ready now) lower rests,
+          λ r came. settles_less beside n (idle_ready idle) (idle_ready now) lower (units_of n) (settles some.0 some.1),
+        ),
+      )

@@ -18,7 +18,7 @@ use Rattle.vx_watched.specs.Traces.{TellsLess}
 use Rattle.vx_grouped.specs.Brings.{AnswersUp, BringsAtSite, CameKnown, ComesUp}
 use Rattle.vx_grouped.specs.GroupSites.{AwayNoted, DownNoted, idle_disks, laid_below, laid_disks, site_below, site_disks}
 use Rattle.vx_grouped.specs.SiteMaps.{CameMapped}
-use Rattle.vx_grouped.specs.SiteReturns.{ReturnSince, SiteImports, SiteRecovers, as_imported}
+use Rattle.vx_grouped.specs.SiteReturns.{LessLeft, ReturnSince, SiteImports, SiteRecovers, as_imported}
 use Rattle.vx_grouped.specs.declared.group_site.GroupSite.{GroupSite}
 use Rattle.vx_grouped.specs.declared.group_site.GroupSite.TheVariants.{Up, Deported, Down, Marked, Gone}
 use Rattle.vx_grouped.specs.declared.laid.Laid.{Laid}
@@ -91,7 +91,7 @@ module _ {R : Type 0} {g : Ghosts R} where
 
   module _ (old mid : GroupSite R g) (cut : Option CutWrite) (new : DiskSet R g) (answer r : Result (Unit {0}) Stop) (imported : (n : Node) (note : GroupNode) → AwayNoted n note old → SiteImports n note old mid answer)
       (recovered : (n : Node) (note : GroupNode) → DownNoted n note old → SiteRecovers n note old mid answer) (brings : BringsAtSite (as_imported old) mid answer) (since : ReturnSince (site_disks old) (site_disks mid)) (told : TellsLess (site_below old) (site_below mid)) (maps : CameMapped old mid answer)
-      (known : CameKnown old answer) where
+      (known : CameKnown old answer) (less : LessLeft (as_imported old) mid answer) where
     pub imports_ok : answer ≡ Ok tt → WithRvg mid cut new r → ImportsBy old cut new r
     imports_ok is over = record {
       mid = mid;
@@ -103,6 +103,7 @@ module _ {R : Type 0} {g : Ghosts R} where
       told = told;
       maps = maps;
       known = known;
+      less = less;
       behind = subst (λ (a : Result (Unit {0}) Stop). BehindImport mid cut new a r) (sym is) over;
     }
 
@@ -117,6 +118,7 @@ module _ {R : Type 0} {g : Ghosts R} where
       told = told;
       maps = maps;
       known = known;
+      less = less;
       behind = subst (λ (a : Result (Unit {0}) Stop). BehindImport mid cut new a r) (sym is) (at, cut_is, answers);
     }
 

@@ -7,7 +7,7 @@ use Rattle.vx_ground.specs.Lifted.{laid_volumes}
 use Rattle.vx_grouped.specs.Brings.{BringsAtSite, CameKnown}
 use Rattle.vx_grouped.specs.GroupSites.{AwayNoted, DownNoted, idle_below, idle_disks, laid_below, laid_disks, site_below, site_disks}
 use Rattle.vx_grouped.specs.SiteMaps.{CameMapped}
-use Rattle.vx_grouped.specs.SiteReturns.{ReturnSince, SiteImports, SiteRecovers, as_imported}
+use Rattle.vx_grouped.specs.SiteReturns.{LessLeft, ReturnSince, SiteImports, SiteRecovers, as_imported}
 use Rattle.vx_grouped.specs.declared.group_site.GroupSite.{GroupSite}
 use Rattle.vx_grouped.specs.declared.group_site.GroupSite.TheVariants.{Up, Deported, Down}
 use Rattle.vx_grouped.specs.declared.idle.Idle.{Idle}
@@ -126,6 +126,7 @@ module _ {R : Type 0} {g : Ghosts R} where
     pub told : TellsLess (site_below old) (site_below mid)
     pub maps : CameMapped old mid answer
     pub known : CameKnown old answer
+    pub less : LessLeft (as_imported old) mid answer
     pub behind : BehindImport mid cut new answer r
 
   -- the same of a site that crashed, which hands out the write that its crash cut

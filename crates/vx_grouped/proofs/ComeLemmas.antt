@@ -1,17 +1,18 @@
 -- What an import answers of a group that is up, and of one that is not.
 use Rattle.std.proofs.Common.{◌≡◌, refl, subst, sym}
-use Rattle.std.specs.Prelude.{Err, IsSome, Ok, OnOk, Result}
+use Rattle.std.specs.Prelude.{Err, IsSome, Ok, Option, Result}
 use Rattle.vx_disk.specs.Shelf.{Meaning}
 use Rattle.vx_disk.specs.declared.shelf.Shelf.{Ghosts}
 use Rattle.vx_model.specs.declared.errors.Stop.{Stop}
-use Rattle.vx_grouped.specs.Brings.{AnswersUp, BringsAtSite, CameKnown, ComesUp}
+use Rattle.vx_grouped.specs.Brings.{AnswersUp, BringsAtSite, CameKnown, ComesUp, RestKnown}
 use Rattle.vx_grouped.specs.declared.group_site.GroupSite.{GroupSite}
 use Rattle.vx_grouped.specs.declared.group_site.GroupSite.TheVariants.{Deported, Down, Gone, Marked, Up}
 use Rattle.vx_grouped.specs.declared.idle.Idle.{Idle}
+use Rattle.vx_logimport.specs.declared.rested.Rested.{Rested}
 
-pub known_ok : {T E P : Type 0} (r : Result T E) → P → OnOk r P
-known_ok (Ok x) it = it
-known_ok (Err e) it = tt
+pub rest_known : (o : Option Rested) (r : Result (Unit {0}) Stop) → IsSome o → RestKnown o r
+rest_known o (Ok done) is = is
+rest_known o (Err stop) is = λ early. is
 
 module _ {R : Type 0} {g : Ghosts R} where
   -- a refusal brings nothing
@@ -31,19 +32,15 @@ module _ {R : Type 0} {g : Ghosts R} where
   comes_refused Gone stop = tt
 
   -- whether it is known which volumes rest
-  pub known_refused : (s : GroupSite R g) (stop : Stop) → CameKnown s (Err stop)
-  known_refused (Up laid) stop = tt
-  known_refused (Deported idle) stop = tt
-  known_refused (Down idle) stop = tt
-  known_refused (Marked rack) stop = tt
-  known_refused Gone stop = tt
+  pub known_rest : (s : GroupSite R g) (r : Result (Unit {0}) Stop) → ((idle : Idle R g) → s ≡ Down idle → ⊥) → CameKnown s r
+  known_rest (Up laid) r never = tt
+  known_rest (Deported idle) r never = tt
+  known_rest (Down idle) r never = absurd (never idle refl)
+  known_rest (Marked rack) r never = tt
+  known_rest Gone r never = tt
 
-  known_by : (idle : Idle R g) (r : Result (Unit {0}) Stop) → OnOk r (IsSome idle.rested) → CameKnown (Down idle) r
-  known_by idle (Ok done) known = known
-  known_by idle (Err stop) known = tt
-
-  pub known_down : (s : GroupSite R g) (idle : Idle R g) (r : Result (Unit {0}) Stop) → s ≡ Down idle → OnOk r (IsSome idle.rested) → CameKnown s r
-  known_down s idle r is known = subst (λ (e : GroupSite R g). CameKnown e r) (sym is) (known_by idle r known)
+  pub known_down : (s : GroupSite R g) (idle : Idle R g) (r : Result (Unit {0}) Stop) → s ≡ Down idle → RestKnown idle.rested r → CameKnown s r
+  known_down s idle r is known = subst (λ (e : GroupSite R g). CameKnown e r) (sym is) known
 
   pub known_away : (s : GroupSite R g) (idle : Idle R g) (r : Result (Unit {0}) Stop) → s ≡ Deported idle → CameKnown s r
   known_away s idle r is = subst (λ (e : GroupSite R g). CameKnown e r) (sym is) tt

@@ -66,3 +66,4 @@ pub mod ReturnMapLemmas
 pub mod StayMapLemmas
 pub mod RunMapLemmas
 pub mod StayPartLemmas
+pub mod LessLemmas

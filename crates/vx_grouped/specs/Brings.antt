@@ -1,5 +1,5 @@
 -- What an import makes of the volumes of a group, all of their blocks together.
-use Rattle.std.specs.Prelude.{◌≡◌, ℕ, Bool, true, IsSome, IsTrue, List, Result, Ok, Err}
+use Rattle.std.specs.Prelude.{◌≡◌, ℕ, Bool, true, IsSome, IsTrue, List, Option, Result, Ok, Err}
 use Rattle.vx_disk.specs.Shelf.{Each, Image, Goes, Meaning, Nothing}
 use Rattle.vx_disk.specs.Racks.{Alike}
 use Rattle.vx_disk.specs.declared.shelf.Shelf.{Ghosts}
@@ -9,6 +9,8 @@ use Rattle.vx_untold.specs.declared.shade.Shade.{Shade}
 use Rattle.vx_grouped.specs.declared.group_site.GroupSite.{GroupSite}
 use Rattle.vx_grouped.specs.declared.group_site.GroupSite.TheVariants.{Down, Marked, Up}
 use Rattle.vx_grouped.specs.declared.laid.Laid.{Laid}
+use Rattle.vx_grouped.specs.SiteReturns.{stops_early}
+use Rattle.vx_logimport.specs.declared.rested.Rested.{Rested}
 use Rattle.vx_config.specs.declared.config.Config.{Config}
 use Rattle.vx_copies.specs.Answers.{returned}
 use Rattle.vx_copyfmt.specs.Imports.{Found}
@@ -47,6 +49,11 @@ abbrev pub BringsGroup : {S G E : Type 0} → Meaning → (S → Meaning) → (G
 BringsGroup old meaning core shelf (Ok g) = BringsVolumes old (core g) (meaning (shelf g))
 BringsGroup old meaning core shelf (Err e) = Unit {0}
 
+-- it is known which volumes rest, where this is answered
+abbrev pub RestKnown : Option Rested → Result (Unit {0}) Stop → Type 0
+RestKnown o (Ok done) = IsSome o
+RestKnown o (Err stop) = stops_early stop ≡ true → IsSome o
+
 module _ {R : Type 0} {g : Ghosts R} where
   -- the same of a group that came up of disks that were alike
   pub record BringsSite (old : Meaning) (laid : Laid R g) : Type 0 where
@@ -75,7 +82,7 @@ module _ {R : Type 0} {g : Ghosts R} where
   ComesUp (Marked rack) new (Err stop) = new ≡ Marked rack
   ComesUp other new r = AnswersUp new r
 
-  -- disks that crashed come up only where it is known which volumes rest
+  -- disks that crashed come up, or are refused before anything was written, only where it is known which volumes rest
   abbrev pub CameKnown : GroupSite R g → Result (Unit {0}) Stop → Type 0
-  CameKnown (Down idle) (Ok done) = IsSome idle.rested
+  CameKnown (Down idle) r = RestKnown idle.rested r
   CameKnown old r = Unit {0}

@@ -100,6 +100,13 @@ pub record ReturnSince (old new : Meaning) : Type 0 where
   pub rack : is_rack new.disks ≡ is_rack old.disks
   pub told : (o n : Disks) → old.disks ≡ Some o → new.disks ≡ Some n → FailsFused o n
 
+-- the same disks, of which a crash leaves no more
+pub record LeftLess (old new : Meaning) : Type 0 where
+  pub units : new.units ≡ old.units
+  pub size : (u : ℕ) → new.size u ≡ old.size u
+  pub tells : new.tells ≡ old.tells
+  pub leaves : (u b : ℕ) (v : List ℕ) → new.leaves u b v → old.leaves u b v
+
 module _ {R : Type 0} {g : Ghosts R} where
   -- the disks as an import sees them: where imports of them may disagree, it is not known what they hold
   abbrev pub as_imported : GroupSite R g → Meaning
@@ -162,3 +169,8 @@ module _ {R : Type 0} {g : Ghosts R} where
   -- An import of a site that was deported: its group is up. Refused, its disks are by themselves still; or its fuse ran out, and they are down.
   abbrev pub SiteImports : Node → GroupNode → GroupSite R g → GroupSite R g → Result (Unit {0}) Stop → Type 0
   SiteImports n note old new r = ImportsFrom (dimmed_site (is_dimmed old) note n) (note_dimmed (is_dimmed old) note) (as_imported old) new r
+
+  -- an import that was refused before anything was written leaves the disks as they were, as an import sees them
+  abbrev pub LessLeft : Meaning → GroupSite R g → Result (Unit {0}) Stop → Type 0
+  LessLeft old new (Ok done) = Unit {0}
+  LessLeft old new (Err stop) = stops_early stop ≡ true → LeftLess old (as_imported new)

@@ -1,5 +1,5 @@
 // A site's group that comes up again, behind a crash or a deport.
-ghost use Rattle.std.specs.Prelude.{◌≡◌, ℕ, IfErr, IfOk, IsFalse, IsSome, IsTrue, OnOk, Some, false, true};
+ghost use Rattle.std.specs.Prelude.{◌≡◌, ℕ, IfErr, IfOk, IsFalse, IsTrue, Some, false, true};
 ghost use Rattle.vx_disk.specs.Causes.{OnDisks};
 ghost use Rattle.vx_disk.specs.Disks.{Crashed, Untouched};
 ghost use Rattle.vx_disk.specs.Racks.{Alike, Stopped};
@@ -10,12 +10,12 @@ ghost use Rattle.vx_group.specs.Imports.{ImportStops};
 ghost use Rattle.vx_group.specs.Resumes.{CanImport, CanImportBehind};
 ghost use Rattle.vx_grouped.specs.Away.{AwayLies};
 ghost use Rattle.vx_grouped.specs.Begins.{CreateSince};
-ghost use Rattle.vx_grouped.specs.Brings.{AnswersUp, BringsAtSite, BringsGroup, CameKnown, ComesUp};
+ghost use Rattle.vx_grouped.specs.Brings.{AnswersUp, BringsAtSite, BringsGroup, CameKnown, ComesUp, RestKnown};
 ghost use Rattle.vx_grouped.specs.GroupSites.{AreStopped, AwayNoted, DownNoted, GroupAway, GroupDown, idle_below, idle_disks, site_below, site_disks};
 ghost use Rattle.vx_grouped.specs.Readies.{ready_of};
 ghost use Rattle.vx_grouped.specs.PlainMaps.{ComesMaps, map_parts};
 ghost use Rattle.vx_grouped.specs.Returns.{ImportLeaves};
-ghost use Rattle.vx_grouped.specs.SiteReturns.{ImportsFrom, RecoversFrom, ReturnSince, SiteImports, SiteRecovers, TellsNone, as_imported, stops_early};
+ghost use Rattle.vx_grouped.specs.SiteReturns.{ImportsFrom, LessLeft, RecoversFrom, ReturnSince, SiteImports, SiteRecovers, TellsNone, as_imported, stops_early};
 ghost use Rattle.vx_grouped.specs.SiteMaps.{CameMapped, ImportMapped, RecoverMapped};
 ghost use Rattle.vx_config.specs.Table.{greatest};
 ghost use Rattle.vx_logimport.specs.Rests.{LogsTell};
@@ -234,6 +234,7 @@ fn recover_site<R: Rack>(
     requires tells { LogsTell rested (shade_meaning (λ s. R.meaning s) rack) }
     ensures recovered { (n : Node) (note : GroupNode) → GroupDown n note true (R.meaning (rack_of rack)).tells (shade_meaning (λ s. R.meaning s) rack) → RecoversFrom n note (shade_meaning (λ s. R.meaning s) rack) result.0 result.1 }
     ensures maps { RecoverMapped (Some rested) (shade_meaning (λ s. R.meaning s) rack) result.0 result.1 }
+    ensures less { LessLeft (shade_meaning (λ s. R.meaning s) rack) result.0 result.1 }
     ensures since { ReturnSince (shade_meaning (λ s. R.meaning s) rack) (site_disks result.0) }
     ensures told { TellsLess (R.meaning (rack_of rack)) (site_below result.0) }
     ensures brings { BringsAtSite (shade_meaning (λ s. R.meaning s) rack) result.0 result.1 }
@@ -271,6 +272,7 @@ fn import_site<R: Rack>(
     requires tells { LogsTell rested (shade_meaning (λ s. R.meaning s) rack) }
     ensures imported { (n : Node) (note : GroupNode) → GroupAway n note true (R.meaning (rack_of rack)).tells (shade_meaning (λ s. R.meaning s) rack) → ImportsFrom n note (shade_meaning (λ s. R.meaning s) rack) result.0 result.1 }
     ensures maps { ImportMapped (Some rested) (shade_meaning (λ s. R.meaning s) rack) result.0 result.1 }
+    ensures less { LessLeft (shade_meaning (λ s. R.meaning s) rack) result.0 result.1 }
     ensures since { ReturnSince (shade_meaning (λ s. R.meaning s) rack) (site_disks result.0) }
     ensures told { TellsLess (R.meaning (rack_of rack)) (site_below result.0) }
     ensures brings { BringsAtSite (shade_meaning (λ s. R.meaning s) rack) result.0 result.1 }
@@ -335,7 +337,8 @@ fn too_few() -> Stop
 fn recover_idle<R: Rack>(alloc: Global, idle: Idle<R>) -> (GroupSite<R>, Result<(), Stop>)
     ensures recovered { (n : Node) (note : GroupNode) → DownNoted n note (GroupSite.Down idle) → SiteRecovers n note (GroupSite.Down idle) result.0 result.1 }
     ensures maps { RecoverMapped idle.rested (idle_disks idle) result.0 result.1 }
-    ensures known { OnOk result.1 (IsSome idle.rested) }
+    ensures known { RestKnown idle.rested result.1 }
+    ensures less { LessLeft (shade_meaning (λ s. R.meaning s) (ready_of idle.agreed idle.rack)) result.0 result.1 }
     ensures since { ReturnSince (idle_disks idle) (site_disks result.0) }
     ensures told { TellsLess (idle_below idle) (site_below result.0) }
     ensures brings { BringsAtSite (shade_meaning (λ s. R.meaning s) (ready_of idle.agreed idle.rack)) result.0 result.1 }
@@ -352,6 +355,7 @@ fn recover_idle<R: Rack>(alloc: Global, idle: Idle<R>) -> (GroupSite<R>, Result<
 fn import_idle<R: Rack>(alloc: Global, idle: Idle<R>) -> (GroupSite<R>, Result<(), Stop>)
     ensures imported { (n : Node) (note : GroupNode) → AwayNoted n note (GroupSite.Deported idle) → SiteImports n note (GroupSite.Deported idle) result.0 result.1 }
     ensures maps { ImportMapped idle.rested (idle_disks idle) result.0 result.1 }
+    ensures less { LessLeft (shade_meaning (λ s. R.meaning s) (ready_of idle.agreed idle.rack)) result.0 result.1 }
     ensures since { ReturnSince (idle_disks idle) (site_disks result.0) }
     ensures told { TellsLess (idle_below idle) (site_below result.0) }
     ensures brings { BringsAtSite (shade_meaning (λ s. R.meaning s) (ready_of idle.agreed idle.rack)) result.0 result.1 }
@@ -374,6 +378,7 @@ impl<R: Rack> GroupSite<R> {
         ensures imported { (n : Node) (note : GroupNode) → AwayNoted n note self → SiteImports n note self result.0 result.1 }
         ensures maps { CameMapped self result.0 result.1 }
         ensures known { CameKnown self result.1 }
+        ensures less { LessLeft (as_imported self) result.0 result.1 }
         ensures since { ReturnSince (site_disks self) (site_disks result.0) }
         ensures told { TellsLess (site_below self) (site_below result.0) }
         ensures brings { BringsAtSite (as_imported self) result.0 result.1 }

@@ -11,7 +11,7 @@ use Rattle.vx_diskset.proofs.group_starts.import_in.Goals as goal
 pub returns-in-Ok-clause-brought : goal.returns-in-Ok-clause-brought
 returns-in-Ok-clause-brought g c =
     imports_ok c.args.group.site c.import-site.result.0 c.args.group.cut c.with_rvg.result.0 c.import-site.result.1 c.with_rvg.result.1
-    c.import-site.ensures.imported c.import-site.ensures.recovered c.import-site.ensures.brings c.import-site.ensures.since c.import-site.ensures.told c.import-site.ensures.maps c.import-site.ensures.known c.in-Ok.is c.with_rvg.ensures.over
+    c.import-site.ensures.imported c.import-site.ensures.recovered c.import-site.ensures.brings c.import-site.ensures.since c.import-site.ensures.told c.import-site.ensures.maps c.import-site.ensures.known c.import-site.ensures.less c.in-Ok.is c.with_rvg.ensures.over
 
 pub returns-in-Ok-clause-imported : goal.returns-in-Ok-clause-imported
 returns-in-Ok-clause-imported g c = λ n note away.
@@ -31,7 +31,7 @@ returns-in-Ok-clause-told g c = import_tells c.args.group.site c.args.group.cut 
 pub returns-in-Err-clause-brought : goal.returns-in-Err-clause-brought
 returns-in-Err-clause-brought g c =
     imports_err c.args.group.site c.import-site.result.0 c.args.group.cut _ c.import-site.result.1 _
-    c.import-site.ensures.imported c.import-site.ensures.recovered c.import-site.ensures.brings c.import-site.ensures.since c.import-site.ensures.told c.import-site.ensures.maps c.import-site.ensures.known c.in-Err.stop c.in-Err.is refl refl refl
+    c.import-site.ensures.imported c.import-site.ensures.recovered c.import-site.ensures.brings c.import-site.ensures.since c.import-site.ensures.told c.import-site.ensures.maps c.import-site.ensures.known c.import-site.ensures.less c.in-Err.stop c.in-Err.is refl refl refl
 
 pub returns-in-Err-clause-imported : goal.returns-in-Err-clause-imported
 returns-in-Err-clause-imported g c = λ n note away.

@@ -14,12 +14,12 @@ pub returns-in-Ok : goal.returns-in-Ok
 returns-in-Ok g c = record {
   brought = imports_as c.parts-site.result.0 (site_in c.args.over) c.parts-site.result.2 c.args.over.cut c.with_rvg.result.0 c.with_rvg.result.1 c.parts-site.ensures.site c.parts-site.ensures.cut
       (imports_ok c.parts-site.result.0 c.import-site.result.0 c.parts-site.result.2 c.with_rvg.result.0 c.import-site.result.1 c.with_rvg.result.1
-      c.import-site.ensures.imported c.import-site.ensures.recovered c.import-site.ensures.brings c.import-site.ensures.since c.import-site.ensures.told c.import-site.ensures.maps c.import-site.ensures.known c.in-Ok.is c.with_rvg.ensures.over);
+      c.import-site.ensures.imported c.import-site.ensures.recovered c.import-site.ensures.brings c.import-site.ensures.since c.import-site.ensures.told c.import-site.ensures.maps c.import-site.ensures.known c.import-site.ensures.less c.in-Ok.is c.with_rvg.ensures.over);
 }
 
 pub returns-in-Err : goal.returns-in-Err
 returns-in-Err g c = record {
   brought = imports_as c.parts-site.result.0 (site_in c.args.over) c.parts-site.result.2 c.args.over.cut _ _ c.parts-site.ensures.site c.parts-site.ensures.cut
       (imports_err c.parts-site.result.0 c.import-site.result.0 c.parts-site.result.2 _ c.import-site.result.1 _
-      c.import-site.ensures.imported c.import-site.ensures.recovered c.import-site.ensures.brings c.import-site.ensures.since c.import-site.ensures.told c.import-site.ensures.maps c.import-site.ensures.known c.in-Err.stop c.in-Err.is c.of.ensures.site (ap (λ k. cut_value k) c.of.ensures.cut) refl);
+      c.import-site.ensures.imported c.import-site.ensures.recovered c.import-site.ensures.brings c.import-site.ensures.since c.import-site.ensures.told c.import-site.ensures.maps c.import-site.ensures.known c.import-site.ensures.less c.in-Err.stop c.in-Err.is c.of.ensures.site (ap (λ k. cut_value k) c.of.ensures.cut) refl);
 }

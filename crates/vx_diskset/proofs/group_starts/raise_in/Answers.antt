@@ -12,7 +12,7 @@ pub returns-in-Ok-clause-brought : goal.returns-in-Ok-clause-brought
 returns-in-Ok-clause-brought g c =
     raises_by c.args.group.site c.args.group.cut c.with_rvg-disk_set.result.0 c.with_rvg-disk_set.result.1 c.hands_out.result
     (imports_ok c.args.group.site c.import-site.result.0 c.args.group.cut c.with_rvg-disk_set.result.0 c.import-site.result.1 c.with_rvg-disk_set.result.1
-    c.import-site.ensures.imported c.import-site.ensures.recovered c.import-site.ensures.brings c.import-site.ensures.since c.import-site.ensures.told c.import-site.ensures.maps c.import-site.ensures.known c.in-Ok.is c.with_rvg-disk_set.ensures.over)
+    c.import-site.ensures.imported c.import-site.ensures.recovered c.import-site.ensures.brings c.import-site.ensures.since c.import-site.ensures.told c.import-site.ensures.maps c.import-site.ensures.known c.import-site.ensures.less c.in-Ok.is c.with_rvg-disk_set.ensures.over)
     c.hands_out.ensures
 
 pub returns-in-Ok-clause-raised : goal.returns-in-Ok-clause-raised
@@ -35,7 +35,7 @@ pub returns-in-Err-clause-brought : goal.returns-in-Err-clause-brought
 returns-in-Err-clause-brought g c =
     raises_by c.args.group.site c.args.group.cut _ _ _
     (imports_err c.args.group.site c.import-site.result.0 c.args.group.cut _ c.import-site.result.1 _
-    c.import-site.ensures.imported c.import-site.ensures.recovered c.import-site.ensures.brings c.import-site.ensures.since c.import-site.ensures.told c.import-site.ensures.maps c.import-site.ensures.known c.in-Err.stop c.in-Err.is refl refl refl)
+    c.import-site.ensures.imported c.import-site.ensures.recovered c.import-site.ensures.brings c.import-site.ensures.since c.import-site.ensures.told c.import-site.ensures.maps c.import-site.ensures.known c.import-site.ensures.less c.in-Err.stop c.in-Err.is refl refl refl)
     refl
 
 pub returns-in-Err-clause-raised : goal.returns-in-Err-clause-raised

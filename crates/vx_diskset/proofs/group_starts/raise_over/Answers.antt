@@ -15,7 +15,7 @@ returns-in-Ok g c = record {
   brought = raises_by (site_in c.args.over) c.args.over.cut c.with_rvg-disk_set.result.0 c.with_rvg-disk_set.result.1 c.hands_out.result
       (imports_as c.parts-site.result.0 (site_in c.args.over) c.parts-site.result.2 c.args.over.cut c.with_rvg-disk_set.result.0 c.with_rvg-disk_set.result.1 c.parts-site.ensures.site c.parts-site.ensures.cut
       (imports_ok c.parts-site.result.0 c.import-site.result.0 c.parts-site.result.2 c.with_rvg-disk_set.result.0 c.import-site.result.1 c.with_rvg-disk_set.result.1
-      c.import-site.ensures.imported c.import-site.ensures.recovered c.import-site.ensures.brings c.import-site.ensures.since c.import-site.ensures.told c.import-site.ensures.maps c.import-site.ensures.known c.in-Ok.is c.with_rvg-disk_set.ensures.over))
+      c.import-site.ensures.imported c.import-site.ensures.recovered c.import-site.ensures.brings c.import-site.ensures.since c.import-site.ensures.told c.import-site.ensures.maps c.import-site.ensures.known c.import-site.ensures.less c.in-Ok.is c.with_rvg-disk_set.ensures.over))
       (hands_as c.parts-site.result.2 c.args.over.cut c.with_rvg-disk_set.result.1 c.hands_out.result c.parts-site.ensures.cut c.hands_out.ensures);
 }
 
@@ -24,6 +24,6 @@ returns-in-Err g c = record {
   brought = raises_by (site_in c.args.over) c.args.over.cut _ _ _
       (imports_as c.parts-site.result.0 (site_in c.args.over) c.parts-site.result.2 c.args.over.cut _ _ c.parts-site.ensures.site c.parts-site.ensures.cut
       (imports_err c.parts-site.result.0 c.import-site.result.0 c.parts-site.result.2 _ c.import-site.result.1 _
-      c.import-site.ensures.imported c.import-site.ensures.recovered c.import-site.ensures.brings c.import-site.ensures.since c.import-site.ensures.told c.import-site.ensures.maps c.import-site.ensures.known c.in-Err.stop c.in-Err.is c.of.ensures.site (ap (λ k. cut_value k) c.of.ensures.cut) refl))
+      c.import-site.ensures.imported c.import-site.ensures.recovered c.import-site.ensures.brings c.import-site.ensures.since c.import-site.ensures.told c.import-site.ensures.maps c.import-site.ensures.known c.import-site.ensures.less c.in-Err.stop c.in-Err.is c.of.ensures.site (ap (λ k. cut_value k) c.of.ensures.cut) refl))
       refl;
 }

@@ -3,7 +3,7 @@ use Rattle.std.proofs.Common.{◌∙◌, IsTrue, ap, refl, subst, sym, ◌≡◌
 use Rattle.vx_untold.specs.Shades.{rack_of, shade_meaning}
 use Rattle.std.specs.Prelude.{Err}
 use Rattle.vx_untold.specs.declared.shade.Shade.TheVariants.{Dark}
-use Rattle.vx_grouped.specs.SiteReturns.{SiteImports, stops_early}
+use Rattle.vx_grouped.specs.SiteReturns.{LessLeft, SiteImports, stops_early}
 use Rattle.vx_grouped.specs.declared.group_site.GroupSite.TheVariants.{Deported}
 use Rattle.vx_grouped.proofs.GivenUpLemmas.{given_away}
 use Rattle.vx_grouped.proofs.ReadyLemmas.{imported_ready, since_ready, told_ready}
@@ -42,3 +42,9 @@ returns-in-Some-clause-brings g c = subst (λ s. BringsAtSite (shade_meaning g.R
 
 pub returns-in-Some-clause-comes : goal.returns-in-Some-clause-comes
 returns-in-Some-clause-comes g c = c.import_site.ensures.comes
+
+pub returns-in-Some-clause-less : goal.returns-in-Some-clause-less
+returns-in-Some-clause-less g c = subst (λ s. LessLeft (shade_meaning g.R.Shelf.meaning s) c.import_site.result.0 c.import_site.result.1) c.into_ready.ensures.ready c.import_site.ensures.less
+
+pub returns-in-None-clause-less : goal.returns-in-None-clause-less
+returns-in-None-clause-less g c = λ early. absurd (let clash : false ≡ true = sym (ap stops_early c.too_few.ensures) ∙ early in cc)

@@ -11,6 +11,7 @@ use Rattle.vx_grouped.proofs.TellLemmas.{alike_tells, early_tells, none_tells}
 use Rattle.vx_grouped.proofs.BringLemmas.{alike_self}
 use Rattle.std.specs.Prelude.{Some}
 use Rattle.vx_grouped.proofs.ReturnMapLemmas.{came_up, down_late, idle_of, less_idle, never_early}
+use Rattle.vx_grouped.proofs.LessLemmas.{left_goes, left_self, less_away}
 use Rattle.vx_grouped.proofs.site_returning.import_site.Goals as goal
 
 pub returns-then-is_down-clause-since : goal.returns-then-is_down-clause-since
@@ -148,3 +149,25 @@ of-idle-requires-clause-tells g c = λ κs lives r agreed is. rested_tells r c.a
 
 pub returns-in-Ok-clause-brings : goal.returns-in-Ok-clause-brings
 returns-in-Ok-clause-brings g c = record { first = c.args.rack; revived = alike_self (shade_meaning g.R.Shelf.meaning c.args.rack); brings = c.in-Ok.ensures.brings }
+
+pub returns-then-is_down-clause-less : goal.returns-then-is_down-clause-less
+returns-then-is_down-clause-less g c = λ early.
+    less_away c.of.result c.args.rack (shade_meaning g.R.Shelf.meaning c.args.rack) c.of.ensures.agreed c.of.ensures.rack (left_self (shade_meaning g.R.Shelf.meaning c.args.rack))
+
+pub returns-in-Ok-clause-less : goal.returns-in-Ok-clause-less
+returns-in-Ok-clause-less g c = tt
+
+pub returns-else-fell-clause-less : goal.returns-else-fell-clause-less
+returns-else-fell-clause-less g c = λ early.
+    less_away c.of-kept.result c.in-Err.rack (shade_meaning g.R.Shelf.meaning c.args.rack) c.of-kept.ensures.agreed c.of-kept.ensures.rack
+    (left_goes (shade_meaning g.R.Shelf.meaning c.args.rack) (shade_meaning g.R.Shelf.meaning c.in-Err.rack)
+    (early_goes (shade_meaning g.R.Shelf.meaning c.args.rack) (shade_meaning g.R.Shelf.meaning c.in-Err.rack) c.in-Err.stop early c.in-Err.ensures.stops))
+
+pub returns-then-fell-clause-less : goal.returns-then-fell-clause-less
+returns-then-fell-clause-less g c = λ early. absurd (let clash : false ≡ true = early in cc)
+
+pub returns-then-is_down_stop-clause-less : goal.returns-then-is_down_stop-clause-less
+returns-then-is_down_stop-clause-less g c = λ early. absurd (down_late c.in-Err.stop (sym c.is_down_stop.ensures ∙ c.if-is_down_stop.true) early)
+
+pub returns-else-is_down_stop-clause-less : goal.returns-else-is_down_stop-clause-less
+returns-else-is_down_stop-clause-less g c = λ early. absurd (never_early c.in-Err.stop (sym c.is_early.ensures ∙ c.if-is_early.false) early)

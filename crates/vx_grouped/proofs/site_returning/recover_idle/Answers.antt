@@ -3,9 +3,9 @@ use Rattle.std.proofs.Common.{◌∙◌, IsTrue, ap, refl, subst, sym, ◌≡◌
 use Rattle.vx_untold.specs.Shades.{rack_of, shade_meaning}
 use Rattle.std.specs.Prelude.{Err, IsSome}
 use Rattle.vx_untold.specs.declared.shade.Shade.TheVariants.{Dark}
-use Rattle.vx_grouped.specs.SiteReturns.{SiteRecovers, stops_early}
+use Rattle.vx_grouped.specs.SiteReturns.{LessLeft, SiteRecovers, stops_early}
 use Rattle.vx_grouped.specs.declared.group_site.GroupSite.TheVariants.{Down}
-use Rattle.vx_grouped.proofs.ComeLemmas.{known_ok}
+use Rattle.vx_grouped.proofs.ComeLemmas.{rest_known}
 use Rattle.vx_grouped.proofs.GivenUpLemmas.{given_down}
 use Rattle.vx_grouped.proofs.ReadyLemmas.{recovered_ready, since_ready, told_ready}
 use Rattle.vx_grouped.proofs.SinceReturns.{return_at, return_dark}
@@ -45,7 +45,13 @@ pub returns-in-Some-clause-comes : goal.returns-in-Some-clause-comes
 returns-in-Some-clause-comes g c = c.recover_site.ensures.comes
 
 pub returns-in-Some-clause-known : goal.returns-in-Some-clause-known
-returns-in-Some-clause-known g c = known_ok c.recover_site.result.1 (subst (λ o. IsSome o) (sym c.in-Some.is) refl)
+returns-in-Some-clause-known g c = rest_known c.args.idle.rested c.recover_site.result.1 (subst (λ o. IsSome o) (sym c.in-Some.is) refl)
 
 pub returns-in-None-clause-known : goal.returns-in-None-clause-known
-returns-in-None-clause-known g c = tt
+returns-in-None-clause-known g c = λ early. absurd (let clash : false ≡ true = sym (ap stops_early c.too_few.ensures) ∙ early in cc)
+
+pub returns-in-Some-clause-less : goal.returns-in-Some-clause-less
+returns-in-Some-clause-less g c = subst (λ s. LessLeft (shade_meaning g.R.Shelf.meaning s) c.recover_site.result.0 c.recover_site.result.1) c.into_ready.ensures.ready c.recover_site.ensures.less
+
+pub returns-in-None-clause-less : goal.returns-in-None-clause-less
+returns-in-None-clause-less g c = λ early. absurd (let clash : false ≡ true = sym (ap stops_early c.too_few.ensures) ∙ early in cc)

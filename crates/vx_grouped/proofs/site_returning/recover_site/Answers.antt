@@ -9,6 +9,7 @@ use Rattle.vx_grouped.proofs.TellLemmas.{alike_tells, fallen_tells}
 use Rattle.std.specs.Prelude.{Some}
 use Rattle.vx_grouped.proofs.ReturnMapLemmas.{came_up, crashed_down, down_of, less_down}
 use Rattle.vx_grouped.proofs.StopLemmas.{early_goes}
+use Rattle.vx_grouped.proofs.LessLemmas.{left_back, left_self, less_fell}
 use Rattle.vx_grouped.proofs.site_returning.recover_site.Goals as goal
 
 pub returns-in-Ok-clause-recovered : goal.returns-in-Ok-clause-recovered
@@ -86,3 +87,16 @@ returns-in-Err-clause-maps g c = λ early w x it.
 
 pub returns-in-Ok-clause-brings : goal.returns-in-Ok-clause-brings
 returns-in-Ok-clause-brings g c = record { first = c.risen.result; revived = c.risen.ensures.alike; brings = c.in-Ok.ensures.brings }
+
+pub returns-then-not-is_down-clause-less : goal.returns-then-not-is_down-clause-less
+returns-then-not-is_down-clause-less g c = λ early.
+    less_fell c.of.result c.args.rack (shade_meaning g.R.Shelf.meaning c.args.rack) c.of.ensures.agreed c.of.ensures.rack (left_self (shade_meaning g.R.Shelf.meaning c.args.rack))
+
+pub returns-in-Ok-clause-less : goal.returns-in-Ok-clause-less
+returns-in-Ok-clause-less g c = tt
+
+pub returns-in-Err-clause-less : goal.returns-in-Err-clause-less
+returns-in-Err-clause-less g c = λ early.
+    less_fell c.of-in-Err.result c.fallen.result (shade_meaning g.R.Shelf.meaning c.args.rack) c.of-in-Err.ensures.agreed c.of-in-Err.ensures.rack
+    (left_back (shade_meaning g.R.Shelf.meaning c.args.rack) (shade_meaning g.R.Shelf.meaning c.risen.result) (shade_meaning g.R.Shelf.meaning c.in-Err.rack) (shade_meaning g.R.Shelf.meaning c.fallen.result) c.risen.ensures.alike
+    (early_goes (shade_meaning g.R.Shelf.meaning c.risen.result) (shade_meaning g.R.Shelf.meaning c.in-Err.rack) c.in-Err.stop early c.in-Err.ensures.stops) (c.fallen.ensures.stopped (c.is_early-early.ensures ∙ early)))

@@ -1,10 +1,11 @@
 -- `import`: a recovery, or an import of disks that were deported.
 use Rattle.std.proofs.Common.{subst, sym}
 use Rattle.vx_grouped.specs.GroupSites.{AwayNoted, DownNoted, site_below, site_disks}
-use Rattle.vx_grouped.specs.SiteReturns.{ReturnSince, SiteImports, SiteRecovers, as_imported}
+use Rattle.vx_grouped.specs.SiteReturns.{LessLeft, ReturnSince, SiteImports, SiteRecovers, as_imported}
 use Rattle.vx_watched.specs.Traces.{TellsLess}
 use Rattle.vx_grouped.specs.Brings.{BringsAtSite}
-use Rattle.vx_grouped.proofs.ComeLemmas.{brings_refused, comes_away, comes_down, comes_refused, known_away, known_down, known_refused}
+use Rattle.vx_grouped.proofs.LessLemmas.{left_self}
+use Rattle.vx_grouped.proofs.ComeLemmas.{brings_refused, comes_away, comes_down, comes_refused, known_away, known_down, known_rest}
 use Rattle.vx_model.specs.declared.errors.Stop.TheVariants.{No as Refused}
 use Rattle.vx_model.specs.declared.no.No.TheVariants.{Role}
 use Rattle.vx_grouped.specs.SiteMaps.{CameMapped}
@@ -61,4 +62,13 @@ pub returns-in-Deported-clause-known : goal.returns-in-Deported-clause-known
 returns-in-Deported-clause-known g c = known_away c.args.self c.in-Deported.idle c.import_idle.result.1 c.in-Deported.is
 
 pub returns-in_default-clause-known : goal.returns-in_default-clause-known
-returns-in_default-clause-known g c = known_refused c.args.self (Refused Role)
+returns-in_default-clause-known g c = known_rest c.args.self _ c.in_default.not-Down
+
+pub returns-in-Down-clause-less : goal.returns-in-Down-clause-less
+returns-in-Down-clause-less g c = subst (λ e. LessLeft (as_imported e) c.recover_idle.result.0 c.recover_idle.result.1) (sym c.in-Down.is) c.recover_idle.ensures.less
+
+pub returns-in-Deported-clause-less : goal.returns-in-Deported-clause-less
+returns-in-Deported-clause-less g c = subst (λ e. LessLeft (as_imported e) c.import_idle.result.0 c.import_idle.result.1) (sym c.in-Deported.is) c.import_idle.ensures.less
+
+pub returns-in_default-clause-less : goal.returns-in_default-clause-less
+returns-in_default-clause-less g c = λ early. left_self (as_imported c.args.self)
