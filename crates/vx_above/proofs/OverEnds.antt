@@ -34,7 +34,7 @@ use Rattle.vx_events.specs.GroupEnds.{AreOf}
 use Rattle.vx_events.specs.GroupLines.{is_over_group}
 use Rattle.vx_events.specs.GroupNotes.{IsKnown, note_at, no_note}
 use Rattle.vx_events.specs.LinkedFacts.{linked_fact}
-use Rattle.vx_events.specs.RvgOver.{EndsOver, NotesLine, OverRvg, SaysOver, fuse_over, noting_over}
+use Rattle.vx_events.specs.RvgOver.{EndsOver, NotesLine, OverRvg, SaysOver, fuse_behind, noting_over}
 use Rattle.vx_events.specs.RvgSteps.{rvg_place}
 use Rattle.vx_events.specs.RvgViews.{is_over_rvg, over_table}
 use Rattle.vx_events.specs.RvgWorks.{FuseRanOut, NotesWork}
@@ -123,11 +123,11 @@ module _ {R : Type 0} {g : Ghosts R} where
         fact_left : fact_over left.world s ≡ linked_fact e.world s
         fact_left = fact_noted m next fuse was_over is_over same_table e s reach.here
 
-        module _ (line : ScriptLine) (lit : fuse_over line n.fuse m.fuse ≡ fuse) where
+        module _ (line : ScriptLine) (lit : fuse_behind line n.fuse m.fuse ≡ fuse) where
           left_as : IsAs e (noting_over line d.world e.world s next) left
           left_as = record {
             world = ap (λ (x : Fuse). with_node e.world s (noted_node m next x)) (sym lit)
-                ∙ ap (λ (y : Node). with_node e.world s (noted_node y next (fuse_over line n.fuse y.fuse))) (sym reach.here);
+                ∙ ap (λ (y : Node). with_node e.world s (noted_node y next (fuse_behind line n.fuse y.fuse))) (sym reach.here);
             after = λ i. refl;
           }
 
@@ -165,7 +165,7 @@ module _ {R : Type 0} {g : Ghosts R} where
           (wrap : (fails : Fails) (x : Doubted) → EndsOver (IsTold new) d line s fails said x → OverRvg (IsTold new) d line (rvg_place d.world line) fails said x)
           (says : SaysOver n next inner said) (f : SiteFacts) (shown : f ≡ linked_fact e.world s) (facts : new.facts.items ≡ slice_set old.facts.items s f) where
         -- the site is up still
-        module _ (up : m.state ≡ IsUp) (lit : fuse_over line n.fuse m.fuse ≡ burned n.fuse) (on : (x : Meaning) → FuseOn m.fuse x → FuseOn (burned n.fuse) x) (off : m.fuse ≡ NoFuse → burned n.fuse ≡ NoFuse)
+        module _ (up : m.state ≡ IsUp) (lit : fuse_behind line n.fuse m.fuse ≡ burned n.fuse) (on : (x : Meaning) → FuseOn m.fuse x → FuseOn (burned n.fuse) x) (off : m.fuse ≡ NoFuse → burned n.fuse ≡ NoFuse)
             (carries : Carries d old → Carries (with_one e s (noted_node m next (burned n.fuse))) new) where
           abbrev agrees : AgreesStill note next (site_disks (site_in o)) (site_disks (site_in p))
           agrees = (call_up d old new s o p call (beside_of e s) m reach.stands up).1
@@ -201,7 +201,7 @@ module _ {R : Type 0} {g : Ghosts R} where
               (ended_rose d old new s o p call disk rose extra)
 
         -- its fuse ran out
-        pub over_off : m.state ≡ IsDown → m.fuse ≡ NoFuse → fuse_over line n.fuse m.fuse ≡ NoFuse → (Carries d old → Carries (with_one e s (noted_node m next NoFuse)) new) → inner ≡ Refused IsOff
+        pub over_off : m.state ≡ IsDown → m.fuse ≡ NoFuse → fuse_behind line n.fuse m.fuse ≡ NoFuse → (Carries d old → Carries (with_one e s (noted_node m next NoFuse)) new) → inner ≡ Refused IsOff
             → Ends (IsKnown (IsTold new) note) d line (site_of d.world line) [] inner e → LeadsAbove d line said old new
         over_off down unfused lit carries is ends =
             let fails : Fails = done_calls d old new s o p call 0 in

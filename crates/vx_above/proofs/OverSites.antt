@@ -1,5 +1,5 @@
 -- The disks of a site with a replicated volume group over its group.
-use Rattle.std.proofs.Common.{◌≡◌, ◌∙◌, ◌<◌, ℕ, Bool, true, false, List, length, ap, sym, refl, ⊎_elim}
+use Rattle.std.proofs.Common.{◌≡◌, ◌∙◌, ◌<◌, ℕ, Bool, true, false, List, length, ap, sym, refl, ⊎_elim, subst}
 use Rattle.std.specs.Prelude.{◌&&◌, eqb, not, Option, Some, None, is_some, unwrap_or, slice_get}
 use Rattle.vx_history.specs.Doubts.{Doubted}
 use Rattle.vx_history.specs.Groups.{GroupNode}
@@ -86,3 +86,7 @@ module _ {R : Type 0} {g : Ghosts R} where
 
   pub down_not_up : (beside : KeptBeside) (n k : Node) (note : GroupNode) (o : OverSet R g) → SiteStands beside n (Over o) → n.state ≡ IsDown → SiteNoted k note (Over o) → k.state ≡ IsUp → ⊥
   down_not_up beside n k note o stands down it up = let clash : IsDown ≡ IsUp = sym (down_on n (below_rvg k) note beside o.site stands.1 down it.0) ∙ up in absurd (cc)
+
+  -- what holds of two such disk sets, by what they are
+  pub at_over : {T : Type 0} (F : DiskSet R g → DiskSet R g → Type 0) (a b : DiskSet R g) → OverIs a → OverIs b → ((o p : OverSet R g) → F (Over o) (Over p) → T) → F a b → T
+  at_over F a b first second then it = then first.set second.set (subst (λ (x : DiskSet R g). F x (Over second.set)) first.is (subst (λ (x : DiskSet R g). F a x) second.is it))

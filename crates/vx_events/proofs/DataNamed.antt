@@ -27,7 +27,7 @@ use Rattle.vx_model.specs.declared.site.SiteState.{SiteState}
 use Rattle.vx_model.specs.declared.site.SiteState.TheVariants.{Up as IsUp}
 use Rattle.vx_script.specs.declared.line.ScriptLine.TheVariants.{Read}
 use Rattle.vx_order.specs.declared.span.Span.{Span}
-use Rattle.vx_order.specs.declared.span.Way.TheVariants.{Reads}
+use Rattle.vx_order.specs.declared.span.Way.TheVariants.{Reads, Writes}
 use Rattle.vx_order.specs.declared.facts.SiteFacts.{SiteFacts}
 use Rattle.vx_order.specs.Sites.{rvg_of, volume_of}
 
@@ -75,3 +75,40 @@ read_role w s sites files name volume start count n is up plain free =
     asks_primary found (group_fact m) volume Reads refl
     (λ v there. written_kind m volume v (Some (group_fact m)) there (subst (λ (o : Option VolumeFacts). call_role (Some (group_fact m)) o Reads ≡ None) there role_led) plain)
     (subst (λ (o : Option VolumeFacts). call_unknown o volume ≡ None) volume_is known) role_led
+
+-- ---- a write that no test refuses
+
+-- the tests of its volume
+pub record SpanTests (f : SiteFacts) (volume : List ℕ) (start count : ℕ) : Type 0 where
+  pub known : span_unknown (Some f) (Some (record { volume = volume; start = start; count = count; way = Writes })) ≡ None
+  pub role : span_role (Some f) (Some (record { volume = volume; start = start; count = count; way = Writes })) ≡ None
+
+module _ (w : World) (s : ℕ) (volume : List ℕ) (start count : ℕ) (up : (w.nodes s).state ≡ IsUp) (plain : is_over_rvg (w.nodes s) ≡ true → is_plain_kind (kind_named (w.nodes s) volume) ≡ false)
+    (tests : SpanTests (linked_fact w s) volume start count) where
+  abbrev m : Node
+  m = w.nodes s
+
+  abbrev f : SiteFacts
+  f = linked_fact w s
+
+  abbrev found : Option VolumeFacts
+  found = find (λ (v : VolumeFacts). bytes_eq v.name volume) (table_at m)
+
+  volume_is : volume_of (Some f) volume ≡ found
+  volume_is = ap (λ (t : SiteState). if is_up t then found else None) up
+
+  rvg_is : rvg_of (Some f) ≡ Some (group_fact m)
+  rvg_is = ap (λ (t : SiteState). if is_up t then group_by t m else None) up
+
+  role_led : call_role (Some (group_fact m)) found Writes ≡ None
+  role_led =
+      subst (λ (o : Option VolumeFacts). call_role (Some (group_fact m)) o Writes ≡ None) volume_is
+      (subst (λ (o : Option RvgFacts). call_role o (volume_of (Some f) volume) Writes ≡ None) rvg_is tests.role)
+
+  -- its volume is a data volume
+  pub span_kind : (v : VolumeFacts) → find (λ (x : VolumeFacts). bytes_eq x.name volume) (table_at (w.nodes s)) ≡ Some v → v.kind ≡ Data
+  span_kind v there = written_kind m volume v (Some (group_fact m)) there (subst (λ (o : Option VolumeFacts). call_role (Some (group_fact m)) o Writes ≡ None) there role_led) plain
+
+  -- and its site a primary
+  pub span_led : (w.nodes s).role ≡ Primary
+  span_led = asks_primary found (group_fact m) volume Writes refl span_kind (subst (λ (o : Option VolumeFacts). call_unknown o volume ≡ None) volume_is tests.known) role_led

@@ -29,6 +29,7 @@ pub record CallMay (sites : List SiteFacts) (name volume : List ℕ) (start coun
   pub up : site.facts.state ≡ Up
   pub running : (rvg : RvgFacts) → site.facts.rvg ≡ Some rvg → rvg.halted ≡ None
   pub found : VolumeFacts
+  pub finds : find (λ (v : VolumeFacts). bytes_eq v.name volume) site.facts.volumes ≡ Some found
   pub at : FoundAt (λ (v : VolumeFacts). bytes_eq v.name volume) site.facts.volumes found
   pub some : 1 ≤ count
   pub few : count ≤ 16
@@ -112,6 +113,7 @@ call_by sites name span run c = record {
   up = c.up;
   running = λ rvg is. running_by run.site.facts rvg run.running c.rvg_is is;
   found = c.volume;
+  finds = c.found;
   at = found_at (λ (v : VolumeFacts). bytes_eq v.name span.volume) run.site.facts.volumes c.volume c.found;
   some = (sized _ _ span run.call_size).some;
   few = (sized _ _ span run.call_size).few;

@@ -33,7 +33,7 @@ use Rattle.vx_events.specs.RvgBack.{FindsNoRvg, FindsPlain, FindsRvg, GetsRvg, G
 use Rattle.vx_events.specs.RvgLinks.{AllKnown, LinksOver, noting_each, noted_there}
 use Rattle.vx_events.specs.RvgMakes.{RvgStops, noting_in}
 use Rattle.vx_events.specs.RvgNotes.{volume_events}
-use Rattle.vx_events.specs.RvgOver.{CutBelow, EndsOrShows, EndsOver, OpensFor, OverRvg, OverRvgBy, ShowFails, ShowsAny, TakesOr, is_below, is_inside, noting_over, fuse_over}
+use Rattle.vx_events.specs.RvgOver.{CutBelow, EndsOrShows, EndsOver, OpensFor, OverRvg, OverRvgBy, ShowFails, ShowsAny, TakesOr, is_below, is_inside, noting_over, fuse_behind}
 use Rattle.vx_events.specs.RvgParts.{RvgShort, ShortGroup, ShortLog, ShortMade}
 use Rattle.vx_events.specs.RvgViews.{is_over_rvg}
 use Rattle.vx_events.specs.RvgWorks.{AgreesOr}
@@ -186,7 +186,7 @@ module _ (told : Type 0) (d : Doubted) (line : ScriptLine) (s : ℕ) (fails : Fa
         ending = stops.ending;
         stops = ends_like d stops.events stops.ending h.middle new stops.stops
             (as_like h.middle new (noting_over line d.world h.middle.world s h.next)
-            (like_site h.middle.world s (h.middle.world.nodes s).failing (Some h.next) (fuse_over line (d.world.nodes s).fuse (h.middle.world.nodes s).fuse)) h.left);
+            (like_site h.middle.world s (h.middle.world.nodes s).failing (Some h.next) (fuse_behind line (d.world.nodes s).fuse (h.middle.world.nodes s).fuse)) h.left);
       }
 
 -- what want of memory leaves of a recovery or an import

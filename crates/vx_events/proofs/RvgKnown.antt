@@ -22,7 +22,7 @@ use Rattle.vx_events.specs.Known.{MayDarken}
 use Rattle.vx_events.specs.RvgBack.{FindsNoRvg, FindsPlain, FindsRvg, GetsRvg, GroupCutOff, GroupHeld, GroupUnfound, HadRvg, IsLeftBack, KeptLost, LogCut, LogFails, LogLacks, RestsWithRvg, RvgBack, RvgFinds, RvgUp, fuse_left}
 use Rattle.vx_events.specs.RvgMakes.{IsLeftRvg, MakesRvg, RvgCut, RvgDone, RvgFails, RvgLacks, units_at}
 use Rattle.vx_events.specs.RvgNotes.{NotesNarrowed}
-use Rattle.vx_events.specs.RvgOver.{EndsOrShows, NotesLine, OverRvg, OverRvgBy, ShowFails, ShowsAny, TakesOr, is_below, is_inside, noting_over, fuse_over}
+use Rattle.vx_events.specs.RvgOver.{EndsOrShows, NotesLine, OverRvg, OverRvgBy, ShowFails, ShowsAny, TakesOr, is_below, is_inside, noting_over, fuse_behind}
 use Rattle.vx_events.specs.RvgWorks.{FuseRanOut, NotesWork, WorksAs}
 use Rattle.vx_events.specs.declared.said.Said.{Said}
 
@@ -39,7 +39,7 @@ pub worked_note : (w : World) (s : ℕ) → note_at ((worked_on w s).nodes s) �
 worked_note w s = ap (λ (n : Node). note_at n) (at_place w.nodes s (record (w.nodes s) { fuse = burned (w.nodes s).fuse }))
 
 pub noted_over_here : (line : ScriptLine) (w v : World) (s : ℕ) (next : GroupNode) → ((noting_over line w v s next).nodes s).group ≡ Some next
-noted_over_here line w v s next = ap (λ (n : Node). n.group) (at_place v.nodes s (record (v.nodes s) { group = Some next; fuse = fuse_over line (w.nodes s).fuse (v.nodes s).fuse }))
+noted_over_here line w v s next = ap (λ (n : Node). n.group) (at_place v.nodes s (record (v.nodes s) { group = Some next; fuse = fuse_behind line (w.nodes s).fuse (v.nodes s).fuse }))
 
 back_note : (s : ℕ) (line : ScriptLine) (taken : Bool) (next : GroupNode) (before last new : Doubted) → IsLeftBack s line taken next before last new → next.dark ≡ false
     → (note_at (new.world.nodes s)).dark ≡ false

@@ -94,15 +94,15 @@ burnt_over old (FuseSet calls) = burned old
 burnt_over old (FuseLit most) = burned old
 
 -- the fuse behind a line
-abbrev pub fuse_over : ScriptLine → (old new : Fuse) → Fuse
-fuse_over (Disk site disk state) old new = new
-fuse_over (FuseLine site calls pick) old new = new
-fuse_over (Status site) old new = new
-fuse_over other old new = burnt_over old new
+abbrev pub fuse_behind : ScriptLine → (old new : Fuse) → Fuse
+fuse_behind (Disk site disk state) old new = new
+fuse_behind (FuseLine site calls pick) old new = new
+fuse_behind (Status site) old new = new
+fuse_behind other old new = burnt_over old new
 
 -- the world v behind a line that began in the world w, in which the site has this note of its group
 abbrev pub noting_over : ScriptLine → (w v : World) → (s : ℕ) → GroupNode → World
-noting_over line w v s note = with_node v s (record (v.nodes s) { group = Some note; fuse = fuse_over line (w.nodes s).fuse (v.nodes s).fuse })
+noting_over line w v s note = with_node v s (record (v.nodes s) { group = Some note; fuse = fuse_behind line (w.nodes s).fuse (v.nodes s).fuse })
 
 -- ---- ends
 

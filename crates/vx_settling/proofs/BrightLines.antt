@@ -32,7 +32,7 @@ use Rattle.vx_events.specs.RvgBack.{GetsRvg, GroupCutOff, GroupHeld, GroupUnfoun
 use Rattle.vx_events.specs.RvgLinks.{AllKnown, LinksOver, NotesThere, links_rvg, noting_each, works_at, noted_there}
 use Rattle.vx_events.specs.RvgMakes.{IsLeftRvg, MakesRvg, RvgCut, RvgDone, RvgFails, RvgLacks, noting_in, units_at}
 use Rattle.vx_events.specs.RvgNotes.{volume_events}
-use Rattle.vx_events.specs.RvgOver.{EndsOrShows, OverRvg, OverRvgBy, ShowFails, ShowsAny, TakesOr, is_below, is_inside, noting_over, fuse_over}
+use Rattle.vx_events.specs.RvgOver.{EndsOrShows, OverRvg, OverRvgBy, ShowFails, ShowsAny, TakesOr, is_below, is_inside, noting_over, fuse_behind}
 use Rattle.vx_events.specs.RvgSteps.{AsBefore, FoundOne, FullBy, Gained, StepFull, WorksAbove, WorksBeside, WorksFull, is_for_rvg, rvg_place}
 use Rattle.vx_events.specs.RvgViews.{is_over_rvg}
 use Rattle.vx_events.specs.RvgWorks.{FuseRanOut}
@@ -196,7 +196,7 @@ module _ (told : Type 0) (tells : told) (d : Doubted) (b : AllBright d) (fails :
       let known : h.next.dark ≡ false = next_bright (new.world.nodes s) h.next (over_group h.middle s h.next h.left) here in
       let u : World = h.middle.world in
       as_bright h.middle (noting_over line d.world u s h.next) new h.left
-      (node_bright u s (record (u.nodes s) { group = Some h.next; fuse = fuse_over line (d.world.nodes s).fuse (u.nodes s).fuse }) known middle.sites) middle
+      (node_bright u s (record (u.nodes s) { group = Some h.next; fuse = fuse_behind line (d.world.nodes s).fuse (u.nodes s).fuse }) known middle.sites) middle
     where
       over_group : (middle : Doubted) (s : ℕ) (next : GroupNode) → IsAs middle (noting_over line d.world middle.world s next) new → (new.world.nodes s).group ≡ Some next
       over_group middle s next left = ap (λ (w : World). (w.nodes s).group) left.world ∙ noted_over_here line d.world middle.world s next

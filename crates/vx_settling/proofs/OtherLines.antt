@@ -32,7 +32,7 @@ use Rattle.vx_events.specs.RvgBack.{FindsNoRvg, FindsPlain, FindsRvg, GetsRvg, G
 use Rattle.vx_events.specs.RvgLinks.{AllKnown, LinksOver, NotesThere, links_rvg, noting_each, works_at, noted_there}
 use Rattle.vx_events.specs.RvgMakes.{IsLeftRvg, MakesRvg, RvgCut, RvgDone, RvgFails, RvgLacks, noting_in, units_at}
 use Rattle.vx_events.specs.RvgNotes.{volume_events}
-use Rattle.vx_events.specs.RvgOver.{EndsOrShows, OverRvgBy, ShowFails, ShowsAny, TakesOr, is_below, is_inside, noting_over, fuse_over}
+use Rattle.vx_events.specs.RvgOver.{EndsOrShows, OverRvgBy, ShowFails, ShowsAny, TakesOr, is_below, is_inside, noting_over, fuse_behind}
 use Rattle.vx_events.specs.RvgSteps.{AsBefore, FoundOne, FullBy, Gained, StepFull, WorksAbove, WorksBeside, WorksFull, is_for_rvg, rvg_place}
 use Rattle.vx_events.specs.RvgViews.{is_over_rvg}
 use Rattle.vx_events.specs.RvgWorks.{FuseRanOut}
@@ -361,7 +361,7 @@ module _ (i : ℕ) (o : Option GroupNode) where
           ends_notes (IsKnown told (note_at (d.world.nodes s))) line (place_of d.world line) h.ending h.inner h.middle (recover_apart d.world line i off) h.ends in
           let u : World = h.middle.world in
           OtherNotes.as_notes i o h.middle (noting_over line d.world u s h.next) new h.left
-          (OtherNotes.apart_notes i o u s (record (u.nodes s) { group = Some h.next; fuse = fuse_over line (d.world.nodes s).fuse (u.nodes s).fuse }) apart middle.note) middle
+          (OtherNotes.apart_notes i o u s (record (u.nodes s) { group = Some h.next; fuse = fuse_behind line (d.world.nodes s).fuse (u.nodes s).fuse }) apart middle.note) middle
 
       takes_notes : (line : ScriptLine) (s : ℕ) → may_note d.world line i ≡ false → eqb i s ≡ false → TakesOr told d line s fails said new → HasNote i o new
       takes_notes (GroupImport site) s off apart (inl back) = rises_notes (GroupImport site) s apart back

@@ -1,6 +1,7 @@
 -- A line that reads blocks of a site that may keep links.
-use Rattle.std.proofs.Common.{◌≡◌, ◌∙◌, ◌+◌, ◌*◌, ◌<◌, ◌≤◌, ℕ, false, List, [], ◌∷◌, length, ap, sym, subst, refl, arith, inl, inr}
+use Rattle.std.proofs.Common.{◌≡◌, ◌∙◌, ◌+◌, ◌*◌, ◌<◌, ◌≤◌, ℕ, Bool, false, List, [], ◌∷◌, length, ap, sym, subst, refl, arith, inl, inr}
 use Rattle.std.specs.Prelude.{None, Option, Some, Ok, Err, map, slice_get, unwrap_or}
+use Rattle.std.specs.Str.{bytes_eq}
 use Rattle.std.proofs.lemmas.Option.{slice_get_within}
 use Rattle.vx_history.specs.Doubts.{Doubted}
 use Rattle.vx_history.specs.Refusals.{Outcome}
@@ -37,7 +38,7 @@ use Rattle.vx_events.proofs.Steps.{read_step}
 use Rattle.vx_events.specs.Ends.{Ends, noted}
 use Rattle.vx_events.specs.Fails.{Fails}
 use Rattle.vx_events.proofs.Passing.{IsCall}
-use Rattle.vx_events.proofs.Testing.{volume_at}
+use Rattle.vx_events.proofs.Testing.{volume_at, volume_kind}
 use Rattle.vx_rvg.specs.Contents.{ShowsContent}
 use Rattle.vx_events.specs.Facts.{group_by, group_fact, place_of, seat_of, site_number, volume_fact, volume_number}
 use Rattle.vx_events.specs.GroupLines.{is_over_group}
@@ -59,16 +60,24 @@ use Rattle.vx_yard.proofs.CrashLine.{rose_still}
 use Rattle.vx_yard.proofs.FailsStay.{alone_keeps, fails_then}
 use Rattle.vx_yard.proofs.FuseStays.{fused_on}
 use Rattle.vx_yard.proofs.Lists.{get-set_same}
-use Rattle.vx_yard.proofs.NamedSite.{SiteAt, apart_at, fact_named, site_at}
+use Rattle.vx_yard.proofs.NamedSite.{SiteAt, apart_at, fact_named, named_at, site_at}
 use Rattle.vx_yard.proofs.NoteSite.{comes_same, one_left, only_left}
 use Rattle.vx_yard.proofs.OneSite.{Changed, Comes, beside_same, role_kept, rose_at, stands_still, told_by}
 use Rattle.vx_site_lines.proofs.Apart.{never_up}
 use Rattle.vx_diskset.specs.Noted.{NotedAt}
-use Rattle.vx_yard.proofs.OverGroup.{noted_none}
+use Rattle.vx_yard.proofs.OverGroup.{noted_none, none_rvg}
 use Rattle.vx_yard.proofs.RawSites.{raw_site, raw_told, ungrouped_over, ungrouped_site}
 use Rattle.vx_yard.proofs.SiteEvents.{first_choice}
 use Rattle.vx_diskset.proofs.Laying.{laid_in}
 use Rattle.vx_ground.specs.Lifted.{laid_volumes}
+use Rattle.vx_order.specs.declared.facts.VolumeKind.TheVariants.{Data}
+use Rattle.vx_events.proofs.DataPlaces.{DataPlaced, data_placed}
+use Rattle.vx_events.proofs.Refused.{FoundAt, found_at}
+use Rattle.vx_order.specs.declared.facts.VolumeFacts.{VolumeFacts}
+use Rattle.std.specs.List.{find}
+use Rattle.vx_events.specs.RvgViews.{is_over_rvg, over_table, table_at}
+use Rattle.vx_events.specs.GroupNotes.{note_at}
+use Rattle.vx_events.specs.StepsOver.{over_group_at}
 
 -- ---- the event
 
@@ -146,7 +155,45 @@ module _ {R : Type 0} {g : Ghosts R} where
   whole_at beside n (Over s) apart up h = over_whole beside n s.site h.1
   whole_at beside n Gone apart up h = absurd h
 
-  -- a run of blocks, by the numbers of its site and its volume
+  -- a run of blocks of a data volume, by the numbers of its site and its volume
+  pub record FetchAt (d : Doubted) (y : Yard R g) (name volume : List ℕ) (start count s place : ℕ) : Type 0 where
+    pub seat : SiteAt d y name s
+    pub apart : is_over_group (d.world.nodes s) ≡ false
+    pub volume_is : volume_number (d.world.nodes s) volume ≡ place
+    pub some : 1 ≤ count
+    pub few : count ≤ 16
+    pub can : CanRead (d.world.nodes s) place start count
+
+  pub fetch_at : (d : Doubted) (y : Yard R g) (name volume : List ℕ) (start count s place : ℕ) (e : DiskSet R g) → StandsFor d y → over_group_at d.world name ≡ false → (may : CallMay y.facts.items name volume start count) → may.found.kind ≡ Data
+      → seat_of y.facts.items name ≡ Some s → slice_get y.disk_sets.items s ≡ Some e → ((f : SiteFacts) → slice_get y.facts.items s ≡ Some f → place_of f.volumes volume ≡ Some place) → FetchAt d y name volume start count s place
+  fetch_at d y name volume start count s place e stands apart may kind at there place_is =
+      let over = apart_at d y name s stands apart at in
+      let here = site_at d y name s stands over at in
+      let n : Node = d.world.nodes s in
+      let fact = fact_named d y name s here at may.site in
+      let placed : DataPlaced n volume may.found =
+      data_placed n volume may.found (ap (λ (k : SiteFacts). find (λ (v : VolumeFacts). bytes_eq v.name volume) k.volumes) (sym fact) ∙ may.finds) kind in
+      let found : place_of (map volume_fact n.volumes) volume ≡ Some place = sym placed.same ∙ place_is (linked_fact d.world s) here.fact in
+      let seen : FoundAt (λ (v : VolumeFacts). bytes_eq v.name volume) (map volume_fact n.volumes) placed.fact = found_at (λ (v : VolumeFacts). bytes_eq v.name volume) (map volume_fact n.volumes) placed.fact placed.found in
+      let where_found : seen.place ≡ place = some_same (sym seen.is ∙ found) in
+      let up : n.state ≡ IsUp = sym (ap (λ (k : SiteFacts). k.state) fact) ∙ may.up in
+      let whole = whole_at (beside_of d s) n e over up (stands.disk_sets.sites s e here.below there) in
+      let vol = volume_at n.volumes place placed.fact (ap (λ (i : ℕ). slice_get (map volume_fact n.volumes) i) (sym where_found) ∙ seen.there) in
+      record {
+        seat = here;
+        apart = over;
+        volume_is = ap (λ (o : Option ℕ). unwrap_or o 0) found;
+        some = may.some;
+        few = may.few;
+        can = record {
+          up = up;
+          running = may.running (group_fact n) (ap (λ (k : SiteFacts). k.rvg) fact ∙ ap (λ (t : SiteState). group_by t n) up);
+          volume_exists = slice_get_within n.volumes place vol.0 vol.1;
+          within = omega (arith, may.range, vol.2, placed.blocks, whole.named place vol.0 vol.1);
+        };
+      }
+
+  -- the same at a site that notes no group
   pub record Fetching (d : Doubted) (y : Yard R g) (name volume : List ℕ) (start count s place : ℕ) : Type 0 where
     pub seat : SiteAt d y name s
     pub apart : is_over_group (d.world.nodes s) ≡ false
@@ -156,32 +203,29 @@ module _ {R : Type 0} {g : Ghosts R} where
     pub few : count ≤ 16
     pub can : CanRead (d.world.nodes s) place start count
 
+  -- the volumes that the tests see there are data volumes
+  raw_data : (d : Doubted) (y : Yard R g) (name volume : List ℕ) (start count s : ℕ) → StandsFor d y → IsUngroupedAt d.world name → seat_of y.facts.items name ≡ Some s → (may : CallMay y.facts.items name volume start count) → may.found.kind ≡ Data
+  raw_data d y name volume start count s stands apart at may =
+      let here = named_at d y name s stands (ungrouped_over d.world name apart) at in
+      let n : Node = d.world.nodes s in
+      let fact = fact_named d y name s here at may.site in
+      let off : is_over_rvg n ≡ false = none_rvg n (ungrouped_site d.world name s here.number apart) in
+      let table : table_at n ≡ map volume_fact n.volumes = ap (λ (b : Bool). if b then over_table n (note_at n) else map volume_fact n.volumes) off in
+      volume_kind n.volumes may.at.place may.found
+      (ap (λ (vs : List VolumeFacts). slice_get vs may.at.place) (sym (ap (λ (k : SiteFacts). k.volumes) fact ∙ table)) ∙ may.at.there)
+
   pub fetching : (d : Doubted) (y : Yard R g) (name volume : List ℕ) (start count s place : ℕ) (e : DiskSet R g) → StandsFor d y → IsUngroupedAt d.world name → CallMay y.facts.items name volume start count → seat_of y.facts.items name ≡ Some s
       → slice_get y.disk_sets.items s ≡ Some e → ((f : SiteFacts) → slice_get y.facts.items s ≡ Some f → place_of f.volumes volume ≡ Some place) → Fetching d y name volume start count s place
   fetching d y name volume start count s place e stands apart may at there place_is =
-      let over = apart_at d y name s stands (ungrouped_over d.world name apart) at in
-      let here = site_at d y name s stands over at in
-      let n : Node = d.world.nodes s in
-      let fact = fact_named d y name s here at may.site in
-      let found : place_of (map volume_fact n.volumes) volume ≡ Some place = place_is (linked_fact d.world s) here.fact in
-      let where_found : may.at.place ≡ place = some_same (sym may.at.is ∙ ap (λ (k : SiteFacts). place_of k.volumes volume) fact ∙ found) in
-      let up : n.state ≡ IsUp = sym (ap (λ (k : SiteFacts). k.state) fact) ∙ may.up in
-      let whole = whole_at (beside_of d s) n e over up (stands.disk_sets.sites s e here.below there) in
-      let vol = volume_at n.volumes place may.found
-      (ap (λ (k : SiteFacts). slice_get k.volumes place) (sym fact) ∙ ap (λ (i : ℕ). slice_get may.site.facts.volumes i) (sym where_found) ∙ may.at.there) in
+      let it = fetch_at d y name volume start count s place e stands (ungrouped_over d.world name apart) may (raw_data d y name volume start count s stands apart at may) at there place_is in
       record {
-        seat = here;
-        apart = over;
-        none = ungrouped_site d.world name s here.number apart;
-        volume_is = ap (λ (o : Option ℕ). unwrap_or o 0) found;
-        some = may.some;
-        few = may.few;
-        can = record {
-          up = up;
-          running = may.running (group_fact n) (ap (λ (k : SiteFacts). k.rvg) fact ∙ ap (λ (t : SiteState). group_by t n) up);
-          volume_exists = slice_get_within n.volumes place vol.0 vol.1;
-          within = omega (arith, may.range, vol.2, whole.named place vol.0 vol.1);
-        };
+        seat = it.seat;
+        apart = it.apart;
+        none = ungrouped_site d.world name s it.seat.number apart;
+        volume_is = it.volume_is;
+        some = it.some;
+        few = it.few;
+        can = it.can;
       }
 
   -- ---- the disk set gave the blocks, or one of its disks failed

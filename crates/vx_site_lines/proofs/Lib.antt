@@ -12,6 +12,7 @@ pub mod StatusLinks
 pub mod WriteSite
 pub mod ShownLine
 pub mod WriteEnds
+pub mod WriteAbove
 pub mod WriteCalls
 pub mod WriteLinks
 pub mod WriteTests

@@ -76,7 +76,7 @@ use Rattle.vx_site_lines.proofs.Apart.{fact_at, over_is}
 use Rattle.vx_site_lines.proofs.WriteCalls.{calls_pass, fails_behind, fuse_burned, fuse_spent, links_count, log_works, small_ring, whole_log}
 use Rattle.vx_site_lines.proofs.WriteEnds.{cut_ends, done_ends, half_ends, let_in, none_ends}
 use Rattle.vx_site_lines.proofs.WriteSite.{cut_comes, cut_events, cut_for, half_comes, half_shown, written_comes, written_fact, written_for}
-use Rattle.vx_site_lines.proofs.WriteTests.{Writing, the_write}
+use Rattle.vx_site_lines.proofs.WriteTests.{Writing, WritingAt, the_write}
 use Rattle.vx_yard.proofs.FirstSites.{begins_like, never_bare}
 
 -- the event of the line, by the number of its volume
@@ -178,7 +178,7 @@ module _ {R : Type 0} {g : Ghosts R} where
   answers_under false number bytes a b under = under
 
   -- what the call asks of the room beside the links
-  pub room_as : (d : Doubted) (y : Yard R g) (name volume : List ℕ) (start : ℕ) (bytes : List ℕ) (s v : ℕ) (e : DiskSet R g) (f : SiteFacts) (hold : ℕ) → StandsFor d y → Writing d y name volume start bytes s v
+  pub room_as : (d : Doubted) (y : Yard R g) (name volume : List ℕ) (start : ℕ) (bytes : List ℕ) (s v : ℕ) (e : DiskSet R g) (f : SiteFacts) (hold : ℕ) → StandsFor d y → WritingAt d y name volume start bytes s v
       → slice_get y.disk_sets.items s ≡ Some e → slice_get y.facts.items s ≡ Some f → hold ≡ least_hold f → HasRoom (beside_of d s).links (d.world.nodes s) hold (blocks_in bytes)
   room_as d y name volume start bytes s v e f hold stands to there at is =
       let whole = whole_log (beside_of d s) (d.world.nodes s) e (stands.disk_sets.sites s e to.seat.below there) to.can.up to.can.running to.can.origin in
@@ -195,16 +195,16 @@ module _ {R : Type 0} {g : Ghosts R} where
     x = the_write v start bytes
 
     stood : SiteStands (beside_of d s) n before
-    stood = stands.disk_sets.sites s before to.seat.below changed.there
+    stood = stands.disk_sets.sites s before to.at.seat.below changed.there
 
     whole : length n.log ≡ n.safe
-    whole = whole_log (beside_of d s) n before stood to.can.up to.can.running to.can.origin
+    whole = whole_log (beside_of d s) n before stood to.at.can.up to.at.can.running to.at.can.origin
 
     counted : list_any (is_over (blocks_in bytes + 1)) (linked_fact d.world s).links ≡ false
-    counted = links_count d.world s x to.changes (stands.links.rows s) to.can.up to.goes to.few (small_ring (beside_of d s) n before stood to.apart to.can.up)
+    counted = links_count d.world s x to.at.changes (stands.links.rows s) to.at.can.up to.at.goes to.at.few (small_ring (beside_of d s) n before stood to.at.apart to.at.can.up)
 
     lets : n.safe < MOST_NUMBER → IsLetIn d.world s x
-    lets free = let_in d.world s x to.changes to.seat.below to.can to.primary to.some to.few free to.goes
+    lets free = let_in d.world s x to.at.changes to.at.seat.below to.at.can to.at.primary to.at.some to.at.few free to.at.goes
 
     raw_after : (b : KeptBeside) (k : Node) → k.group ≡ n.group → SiteStands b k after → IsRawSet after
     raw_after b k same here = raw_site b k after (same ∙ to.none) here
@@ -213,20 +213,20 @@ module _ {R : Type 0} {g : Ghosts R} where
     told_after raw told = raw_told after raw (told.each s after (ap (λ es. slice_get es s) changed.disk_sets ∙ get-set_same old.disk_sets.items s after (slice_get_within old.disk_sets.items s before changed.there)))
 
     fits : FailsAs n before
-    fits = stands.failing s before to.seat.below changed.there
+    fits = stands.failing s before to.at.seat.below changed.there
 
     lit : FusedAs n before
-    lit = stands.fuses s before to.seat.below changed.there
+    lit = stands.fuses s before to.at.seat.below changed.there
 
     kind : RoleIs n after
-    kind = role_kept d old s before after stands to.seat.below changed.there keeps
+    kind = role_kept d old s before after stands to.at.seat.below changed.there keeps
 
     leads_by : (fails : Fails) (said : Said) (next : Doubted) → WriteEnding (IsTold new) d s v start bytes fails said next → StandsFor next new → (Carries d old → Carries next new) → RoseAll fails (count_of old) (count_of new)
         → Leads d line said old new
     leads_by fails said next ending stands_next carries rose = record {
       next = next;
       fails = fails;
-      done = line_done (IsTold new) d line name volume start bytes s v fails said next is to.seat.number to.place ending;
+      done = line_done (IsTold new) d line name volume start bytes s v fails said next is to.at.seat.number to.at.place ending;
       stands = stands_next;
       carries = carries;
       rose = rose;
@@ -240,16 +240,16 @@ module _ {R : Type 0} {g : Ghosts R} where
         let can : IsLetIn d.world s x = lets wrote.1 in
         let e : Doubted = written_for d s x None in
         let eff = line_written d s x (stands.links.rows s) can in
-        let there : f ≡ linked_fact d.world s = some_same (sym at ∙ to.seat.fact) in
+        let there : f ≡ linked_fact d.world s = some_same (sym at ∙ to.at.seat.fact) in
         let waited : Bool = some_below d.world.sites (λ k. is_waited_for k (d.world.links s k)) in
-        let awaited : awaits_one f ≡ waited = ap (λ (q : SiteFacts). awaits_one q) there ∙ sym (waited_as d s stands.links to.can.up) in
+        let awaited : awaits_one f ≡ waited = ap (λ (q : SiteFacts). awaits_one q) there ∙ sym (waited_as d s stands.links to.at.can.up) in
         let so : said ≡ answer_by waited (n.safe + 1) = says ∙ ap (λ (w : Bool). answer_by w number) awaited ∙ ap (λ (k : ℕ). answer_by waited k) wrote.0 in
         let burns : LeavesFuse IsLogged (answer_by waited number) before after = (answers_under waited number bytes before after under).burns in
         let written : is_written (answer_by waited number) ≡ true = written_so waited number in
         let shown : f' ≡ linked_fact e.world s =
         noted (subst (λ (q : SiteFacts). list_any (is_over (blocks_in bytes + 1)) q.links ≡ false) (sym there) counted)
         ∙ ap (λ (q : SiteFacts). logged_fact number (blocks_in bytes + 1) q) there ∙ ap (λ (k : ℕ). logged_fact k (blocks_in bytes + 1) (linked_fact d.world s)) wrote.0
-        ∙ sym (written_fact d s x stands.links can to.can.origin whole) in
+        ∙ sym (written_fact d s x stands.links can to.at.can.origin whole) in
         subst (λ (r : Said). Leads d line r old new) (sym so) (leads_by [] (answer_by waited (n.safe + 1)) e
         (record {
           ends = λ l events notes. done_ends (IsTold new) d l s x first_choice (events first_choice) notes (stands.links.rows s) can;
@@ -257,12 +257,12 @@ module _ {R : Type 0} {g : Ghosts R} where
           works = λ w. log_works (beside_of d s) n before after stood (answer_by waited number) burns racks fits written;
           calls = λ w. calls_pass (beside_of d s) n before after stood (answer_by waited number) burns racks lit written;
         })
-        (stands_at d e old new s f' before after stands to.seat.below changed
+        (stands_at d e old new s f' before after stands to.at.seat.below changed
         (written_comes d s x after stands.links can wrote.2 (fails_behind (beside_of d s) n before after stood (answer_by waited number) burns n refl fits)
         (fuse_spent (beside_of d s) n before after stood (answer_by waited number) burns x written lit) kind)
         (λ first. subst (λ (q : Node). BeginsFirst s q) (sym eff.is.node) (begins_like s n (logged n x) (λ bare. bare) refl refl refl refl first))
         (λ _. noted_none (beside_of d s) (logged n x) (e.world.nodes s) after wrote.2 to.none)
-        (fact_at e.world s f' (over_is (logged n x) (e.world.nodes s) eff.is.node to.apart) shown) facts)
+        (fact_at e.world s f' (over_is (logged n x) (e.world.nodes s) eff.is.node to.at.apart) shown) facts)
         (carries_node s d e (logged n x) old new load eff.site eff.sent eff.gathering eff.is.node refl refl refl (told_by old new s before after changed))
         (rose_still old new s before after changed.there changed.later changed.disk_sets))
 
@@ -274,11 +274,11 @@ module _ {R : Type 0} {g : Ghosts R} where
         let can : IsLetIn d.world s x = lets wrote.2 in
         let e : Doubted = written_for d s x (Some disk) in
         let eff = line_halted d s x (stands.links.rows s) can disk in
-        let there : f ≡ linked_fact d.world s = some_same (sym at ∙ to.seat.fact) in
+        let there : f ≡ linked_fact d.world s = some_same (sym at ∙ to.at.seat.fact) in
         let shown : f' ≡ linked_fact e.world s =
         noted (subst (λ (q : SiteFacts). list_any (is_over (blocks_in bytes + 1)) q.links ≡ false) (sym there) counted)
         ∙ ap (λ (q : SiteFacts). half_fact disk number (blocks_in bytes + 1) q) there ∙ ap (λ (k : ℕ). half_fact disk k (blocks_in bytes + 1) (linked_fact d.world s)) (next_is wrote.2)
-        ∙ sym (half_shown d s x stands.links can disk to.can.origin whole) in
+        ∙ sym (half_shown d s x stands.links can disk to.at.can.origin whole) in
         leads_by ((s, disk) ∷ []) (Refused (Device disk)) e
         (record {
           ends = λ l events notes. half_ends (IsTold new) d l s x first_choice (events first_choice) notes disk names;
@@ -286,12 +286,12 @@ module _ {R : Type 0} {g : Ghosts R} where
           works = λ w. absurd (never_written (Device disk) w);
           calls = λ w. absurd (never_written (Device disk) w);
         })
-        (stands_at d e old new s f' before after stands to.seat.below changed
+        (stands_at d e old new s f' before after stands to.at.seat.below changed
         (half_comes d s x disk after stands.links can wrote.0 (fails_behind (beside_of d s) n before after stood (Refused (Device disk)) under.burns n refl fits)
         (fuse_burned (beside_of d s) n before after stood (Refused (Device disk)) under.burns (halted_with n x disk) refl (λ a b burnt. device_passes IsLogged (size_in before) disk a b burnt) lit) kind)
         (λ first. subst (λ (q : Node). BeginsFirst s q) (sym eff.is.node) (begins_like s n (halted_with n x disk) (λ bare. bare) refl refl refl refl first))
         (λ _. noted_none (beside_of d s) (halted_with n x disk) (e.world.nodes s) after wrote.0 to.none)
-        (fact_at e.world s f' (over_is (halted_with n x disk) (e.world.nodes s) eff.is.node to.apart) shown) facts)
+        (fact_at e.world s f' (over_is (halted_with n x disk) (e.world.nodes s) eff.is.node to.at.apart) shown) facts)
         (carries_node s d e (halted_with n x disk) old new load eff.site eff.sent eff.gathering eff.is.node refl refl refl (told_by old new s before after changed))
         (rose_at old new s disk before after changed wrote.1)
 
@@ -300,7 +300,7 @@ module _ {R : Type 0} {g : Ghosts R} where
         → f' ≡ f → new.facts.items ≡ slice_set old.facts.items s f' → SameLoad old new → Leads d line (Refused (Limit what most)) old new
     none_leads what most f f' wrote under at noted facts load =
         let e : Doubted = with_one d s (worked n) in
-        let there : f ≡ linked_fact d.world s = some_same (sym at ∙ to.seat.fact) in
+        let there : f ≡ linked_fact d.world s = some_same (sym at ∙ to.at.seat.fact) in
         let shown : f' ≡ linked_fact e.world s =
         noted ∙ there
         ∙ sym (fact_same (worked n) (e.world.nodes s) (d.world.links s) (d.world.links s) d.world.sites d.world.sites (at_place d.world.nodes s (worked n)) (λ j. refl) refl
@@ -313,13 +313,13 @@ module _ {R : Type 0} {g : Ghosts R} where
           works = λ w. absurd (never_written (Limit Number MOST_NUMBER) w);
           calls = λ w. absurd (never_written (Limit Number MOST_NUMBER) w);
         })
-        (stands_at d e old new s f' before after stands to.seat.below changed
+        (stands_at d e old new s f' before after stands to.at.seat.below changed
         (comes_one d s (worked n) after refl stands.links wrote.2
         (fails_behind (beside_of d s) n before after stood (Refused (Limit Number MOST_NUMBER)) burns (worked n) refl fits)
         (fuse_burned (beside_of d s) n before after stood (Refused (Limit Number MOST_NUMBER)) burns (worked n) refl (λ a b burnt. limit_passes IsLogged (size_in before) a b burnt) lit) kind)
         (λ first. subst (λ (q : Node). BeginsFirst s q) (sym (at_place d.world.nodes s (worked n))) (begins_like s n (worked n) (λ bare. bare) refl refl refl refl first))
         (λ _. noted_none (beside_of d s) (worked n) (e.world.nodes s) after wrote.2 to.none)
-        (fact_at e.world s f' (over_is (worked n) (e.world.nodes s) (at_place d.world.nodes s (worked n)) to.apart) shown) facts)
+        (fact_at e.world s f' (over_is (worked n) (e.world.nodes s) (at_place d.world.nodes s (worked n)) to.at.apart) shown) facts)
         (carries_node s d e (worked n) old new load (changes_one d s (worked n)) refl refl (at_place d.world.nodes s (worked n)) refl refl refl (told_by old new s before after changed))
         (rose_still old new s before after changed.there changed.later changed.disk_sets))
 
@@ -333,7 +333,7 @@ module _ {R : Type 0} {g : Ghosts R} where
         can = lets wrote.3
 
         sure : (beside_of d s).doubt ≡ None
-        sure = running_sure (beside_of d s) n before stood to.can.up to.can.running
+        sure = running_sure (beside_of d s) n before stood to.at.can.up to.at.can.running
 
         by_own : (k : KeptSite) → k ≡ itself (beside_of d s) (half_begun n x) → (count : ℕ) → k.node.safe ≤ count → count ≤ length k.node.log → SiteStands (sure_of k) (fell_to (half_begun n x) k.node count) after → Leads d line (Refused Off) old new
         by_own k own =
@@ -348,14 +348,14 @@ module _ {R : Type 0} {g : Ghosts R} where
               works = λ w. absurd (never_written Off w);
               calls = λ w. absurd (never_written Off w);
             })
-            (stands_at d e old new s f' before after stands to.seat.below changed
+            (stands_at d e old new s f' before after stands to.at.seat.below changed
             (cut_comes d s x count after stands.links can least most stays (fails_behind (beside_of d s) n before after stood (Refused Off) under.burns n refl fits))
             (λ first. subst (λ (q : Node). BeginsFirst s q) (sym eff.is.node)
-            (begins_like s n (crashed (half_begun n x) count) (λ bare. never_bare n to.can.up bare) refl refl refl refl first))
+            (begins_like s n (crashed (half_begun n x) count) (λ bare. never_bare n to.at.can.up bare) refl refl refl refl first))
             (λ _. noted_none (sure_of (itself (beside_of d s) (half_begun n x))) (fell_to (half_begun n x) (half_begun n x) count) (e.world.nodes s) after stays to.none)
-            (fact_at e.world s f' (over_is (crashed (half_begun n x) count) (e.world.nodes s) eff.is.node to.apart)
-            (noted ∙ ap down_fact (some_same (sym at ∙ to.seat.fact)) ∙ cut_fact d s x count stands.links can least most)) facts)
-            (carries_let s d e old new gone (omega (arith, to.seat.below, stands.disk_sets.few)) eff.site eff.sent eff.gathering (λ up. down_up (sym (ap (λ (q : Node). q.state) eff.is.node) ∙ up))
+            (fact_at e.world s f' (over_is (crashed (half_begun n x) count) (e.world.nodes s) eff.is.node to.at.apart)
+            (noted ∙ ap down_fact (some_same (sym at ∙ to.at.seat.fact)) ∙ cut_fact d s x count stands.links can least most)) facts)
+            (carries_let s d e old new gone (omega (arith, to.at.seat.below, stands.disk_sets.few)) eff.site eff.sent eff.gathering (λ up. down_up (sym (ap (λ (q : Node). q.state) eff.is.node) ∙ up))
             (told_by old new s before after changed))
             (rose_still old new s before after changed.there changed.later changed.disk_sets))
 
@@ -366,7 +366,7 @@ module _ {R : Type 0} {g : Ghosts R} where
     write_stops why said number f f' blames wrote under says next_is at noted facts gone = subst (λ (r : Said). Leads d line r old new) (sym says) (by_why why blames wrote under noted gone)
       where
         free : list_any (is_over (blocks_in bytes + 1)) f.links ≡ false
-        free = subst (λ (q : SiteFacts). list_any (is_over (blocks_in bytes + 1)) q.links ≡ false) (sym (some_same (sym at ∙ to.seat.fact))) counted
+        free = subst (λ (q : SiteFacts). list_any (is_over (blocks_in bytes + 1)) q.links ≡ false) (sym (some_same (sym at ∙ to.at.seat.fact))) counted
 
         by_why : (why : No) → BlamesSite n why → WroteAt (beside_of d s) n x before after (Err why) → WritesUnder bytes (Refused why) before after
             → (list_any (is_over (blocks_in bytes + 1)) f.links ≡ false → f' ≡ unwritten_facts why number (blocks_in bytes + 1) f) → LetsGoBy why old new s → Leads d line (Refused why) old new

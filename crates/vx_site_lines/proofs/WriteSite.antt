@@ -26,11 +26,11 @@ use Rattle.vx_effects.proofs.Leaving.{fit_worked}
 use Rattle.vx_effects.proofs.Rows.{touch_kept}
 use Rattle.vx_effects.proofs.WriteLines.{line_cut, line_halted, line_written, worked_effect}
 use Rattle.vx_events.proofs.Places.{never_some}
-use Rattle.vx_yard.proofs.ApplySite.{comes_effect}
 use Rattle.vx_yard.proofs.CrashSite.{beside_sure, down_up}
 use Rattle.vx_yard.proofs.FuseStays.{fused_none}
 use Rattle.vx_yard.proofs.OneSite.{Comes, role_off}
 use Rattle.vx_yard.proofs.Rows.{row_links_same}
+use Rattle.vx_yard.proofs.Reaching.{Reaches, comes_reached, reaches_effect}
 
 -- the world behind a write that is done, and behind one that met a failing disk, with what the line notes
 abbrev pub written_for : Doubted → (s : ℕ) → Write → Option ℕ → Doubted
@@ -73,40 +73,54 @@ module _ (d : Doubted) (s : ℕ) (x : Write) (fits : LinksFit d) (can : IsLetIn 
 
 module _ {R : Type 0} {g : Ghosts R} where
   -- the write is done
+  pub written_reaches : (d : Doubted) (s : ℕ) (x : Write) (after : DiskSet R g) → LinksFit d → IsLetIn d.world s x → SiteStands (beside_of d s) (logged (d.world.nodes s) x) after → RoleIs (d.world.nodes s) after
+      → Reaches d (written_for d s x None) s (logged (d.world.nodes s) x) after
+  written_reaches d s x after fits can stands role =
+      reaches_effect d (written_for d s x None) s (logged (d.world.nodes s) x) d.world.packets (d.world.gathering s) after (line_written d s x (fits.rows s) can) (written_fits d s x None fits)
+      refl refl refl refl refl stands role
+
   pub written_comes : (d : Doubted) (s : ℕ) (x : Write) (after : DiskSet R g) → LinksFit d → IsLetIn d.world s x → SiteStands (beside_of d s) (logged (d.world.nodes s) x) after
       → FailsAs (d.world.nodes s) after → FusedAs (logged (d.world.nodes s) x) after → RoleIs (d.world.nodes s) after → Comes d (written_for d s x None) s after
   written_comes d s x after fits can stands failing fuse role =
-      comes_effect d (written_for d s x None) s (logged (d.world.nodes s) x) d.world.packets (d.world.gathering s) after (line_written d s x (fits.rows s) can) (written_fits d s x None fits)
-      refl refl refl refl refl stands (record { told = failing.told }) fuse role
+      comes_reached d (written_for d s x None) s (logged (d.world.nodes s) x) after (written_reaches d s x after fits can stands role) (record { told = failing.told }) fuse
 
   -- a disk failed in it
+  pub half_reaches : (d : Doubted) (s : ℕ) (x : Write) (disk : ℕ) (after : DiskSet R g) → LinksFit d → IsLetIn d.world s x → SiteStands (beside_of d s) (halted_with (d.world.nodes s) x disk) after → RoleIs (d.world.nodes s) after
+      → Reaches d (written_for d s x (Some disk)) s (halted_with (d.world.nodes s) x disk) after
+  half_reaches d s x disk after fits can stands role =
+      reaches_effect d (written_for d s x (Some disk)) s (halted_with (d.world.nodes s) x disk) d.world.packets (d.world.gathering s) after (line_halted d s x (fits.rows s) can disk)
+      (written_fits d s x (Some disk) fits) refl refl refl refl refl stands role
+
   pub half_comes : (d : Doubted) (s : ℕ) (x : Write) (disk : ℕ) (after : DiskSet R g) → LinksFit d → IsLetIn d.world s x → SiteStands (beside_of d s) (halted_with (d.world.nodes s) x disk) after
       → FailsAs (d.world.nodes s) after → FusedAs (halted_with (d.world.nodes s) x disk) after → RoleIs (d.world.nodes s) after → Comes d (written_for d s x (Some disk)) s after
   half_comes d s x disk after fits can stands failing fuse role =
-      comes_effect d (written_for d s x (Some disk)) s (halted_with (d.world.nodes s) x disk) d.world.packets (d.world.gathering s) after (line_halted d s x (fits.rows s) can disk)
-      (written_fits d s x (Some disk) fits) refl refl refl refl refl stands (record { told = failing.told }) fuse role
+      comes_reached d (written_for d s x (Some disk)) s (halted_with (d.world.nodes s) x disk) after (half_reaches d s x disk after fits can stands role) (record { told = failing.told }) fuse
 
   -- the fuse of its site ran out in it
-  pub cut_comes : (d : Doubted) (s : ℕ) (x : Write) (count : ℕ) (after : DiskSet R g) → LinksFit d → IsLetIn d.world s x → (d.world.nodes s).safe ≤ count
-      → count ≤ length ((d.world.nodes s).log ++ x ∷ []) → SiteStands (record (beside_of d s) { doubt = None }) (crashed (half_begun (d.world.nodes s) x) count) after
-      → FailsAs (d.world.nodes s) after → Comes d (cut_for d s x count) s after
-  cut_comes d s x count after fits can least most stands failing =
+  pub cut_reaches : (d : Doubted) (s : ℕ) (x : Write) (count : ℕ) (after : DiskSet R g) → LinksFit d → IsLetIn d.world s x → (d.world.nodes s).safe ≤ count → count ≤ length ((d.world.nodes s).log ++ x ∷ [])
+      → SiteStands (record (beside_of d s) { doubt = None }) (crashed (half_begun (d.world.nodes s) x) count) after → Reaches d (cut_for d s x count) s (crashed (half_begun (d.world.nodes s) x) count) after
+  cut_reaches d s x count after fits can least most stands =
       let last : Doubted = cut_events d s x count in
       let e : Doubted = cut_for d s x count in
       let n : Node = crashed (half_begun (d.world.nodes s) x) count in
       let row : ℕ → Link = d.world.links s in
       let eff : EffectAt s d e n (λ k. lost_touch (row k)) (d.world.headers s) None d.world.packets None = worked_effect s d last n (line_cut d s x (fits.rows s) can count least most) in
-      let here : n ≡ e.world.nodes s = sym eff.is.node in
       let there : beside_of e s ≡ record (beside_of d s) { doubt = None } =
       beside_sure e s (row_links row d.world.sites) (d.world.headers s)
       (row_links_same (λ k. lost_touch (row k)) (e.world.links s) eff.is.links e.world.sites ∙ ap (λ (k : ℕ). row_links (λ j. lost_touch (row j)) k) eff.site.sites ∙ touch_kept row d.world.sites)
       eff.is.headers eff.is.after in
       record {
         changes = eff.site;
+        here = eff.is.node;
         links = fit_worked last s (fit_run false d (WriteAt s x.volume x.start x.bytes (Some 0) ∷ CrashAt s count ∷ []) (tt, (tt, tt)) fits);
-        stands = subst (λ (m : Node). SiteStands (beside_of e s) m after) here (subst (λ (b : KeptBeside). SiteStands b n after) (sym there) stands);
-        failing = subst (λ (m : Node). FailsAs m after) here (record { told = failing.told });
-        fuse = subst (λ (m : Node). FusedAs m after) here (fused_none n after refl);
-        role = role_off (record (beside_of d s) { doubt = None }) n (e.world.nodes s) after stands (λ up. down_up up);
+        stands = subst (λ (b : KeptBeside). SiteStands b n after) (sym there) stands;
+        role = role_off (record (beside_of d s) { doubt = None }) n n after stands (λ up. down_up up);
         doubt = λ was a is. absurd (never_some (sym eff.is.after ∙ is));
       }
+
+  pub cut_comes : (d : Doubted) (s : ℕ) (x : Write) (count : ℕ) (after : DiskSet R g) → LinksFit d → IsLetIn d.world s x → (d.world.nodes s).safe ≤ count
+      → count ≤ length ((d.world.nodes s).log ++ x ∷ []) → SiteStands (record (beside_of d s) { doubt = None }) (crashed (half_begun (d.world.nodes s) x) count) after
+      → FailsAs (d.world.nodes s) after → Comes d (cut_for d s x count) s after
+  cut_comes d s x count after fits can least most stands failing =
+      let n : Node = crashed (half_begun (d.world.nodes s) x) count in
+      comes_reached d (cut_for d s x count) s n after (cut_reaches d s x count after fits can least most stands) (record { told = failing.told }) (fused_none n after refl)

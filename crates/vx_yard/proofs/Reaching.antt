@@ -13,7 +13,9 @@ use Rattle.vx_diskset.proofs.Roles.{role_like}
 use Rattle.vx_events.specs.Effects.{ChangesNode, EffectAt}
 use Rattle.vx_events.specs.LinksFit.{LinksFit}
 use Rattle.vx_yard.specs.Standing.{IsSameSite}
+use Rattle.vx_yard.proofs.NoteSite.{IsNoted, changes_one, fits_one, with_one}
 use Rattle.vx_yard.proofs.OneSite.{Comes, beside_same}
+use Rattle.vx_history.proofs.Updates.{at_place}
 
 module _ {R : Type 0} {g : Ghosts R} where
   -- the site has this node, with which its disk set stands
@@ -64,4 +66,22 @@ module _ {R : Type 0} {g : Ghosts R} where
     stands = stands;
     role = role;
     doubt = λ was a is. was a is;
+  }
+
+  -- one of which nothing but what is noted of its disks changed
+  pub reaches_one : (d : Doubted) (s : ℕ) (m : Node) (after : DiskSet R g) → IsNoted (d.world.nodes s) m → LinksFit d → SiteStands (beside_of d s) m after → RoleIs (d.world.nodes s) after → Reaches d (with_one d s m) s m after
+  reaches_one d s m after noted fits stands role = record {
+    changes = changes_one d s m;
+    here = at_place d.world.nodes s m;
+    links = fits_one d s m noted fits;
+    stands = stands;
+    role = role_like (d.world.nodes s) m after (ap (λ (k : Node). is_origin k.role) noted) role;
+    doubt = λ was a is.
+        let w = was a is in
+        record {
+          name = w.name ∙ sym (ap (λ (k : Node). k.name) noted);
+          disks = w.disks ∙ sym (ap (λ (k : Node). k.disks) noted);
+          blocks = w.blocks ∙ sym (ap (λ (k : Node). k.blocks) noted);
+          volumes = w.volumes ∙ sym (ap (λ (k : Node). k.volumes) noted);
+        };
   }

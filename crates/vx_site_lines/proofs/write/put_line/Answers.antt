@@ -4,6 +4,7 @@ use Rattle.vx_events.specs.Facts.{site_number}
 use Rattle.vx_events.specs.StepsOver.{over_group_at}
 use Rattle.vx_script.specs.declared.line.ScriptLine.TheVariants.{Put as PutLine}
 use Rattle.vx_yard.specs.Standing.{Leads}
+use Rattle.vx_yard.specs.AboveLines.{LeadsAbove}
 use Rattle.vx_yard.specs.Working.{IsFree}
 use Rattle.vx_yard.specs.Writes.IsWriteLine.{OfPut}
 use Rattle.vx_yard.proofs.OfSites.{bytes_as, writes_keep}
@@ -22,6 +23,13 @@ pub returns-clause-leads : goal.returns-clause-leads
 returns-clause-leads g c = λ d stands apart off.
     subst (λ (bs : List ℕ). Leads d (PutLine c.args.name.now c.args.volume.now c.args.start bs) c.write_blocks.result c.args.yard.now c.write_blocks.new.yard) c.as_bytes.ensures.bytes
     (c.write_blocks.ensures.leads d (PutLine c.args.name.now c.args.volume.now c.args.start c.as_bytes.result.now) stands (ungrouped_at d.world c.args.name.now apart off)
+    (OfPut refl (ap (λ (bs : List ℕ). length bs) c.as_bytes.ensures.bytes ∙ c.as_bytes.ensures.whole))
+    (subst (λ (bs : List ℕ). IsFree c.args.yard.now (PutLine c.args.name.now c.args.volume.now c.args.start bs)) (sym c.as_bytes.ensures.bytes) c.requires.free))
+
+pub returns-clause-above : goal.returns-clause-above
+returns-clause-above g c = λ d stands over plain.
+    subst (λ (bs : List ℕ). LeadsAbove d (PutLine c.args.name.now c.args.volume.now c.args.start bs) c.write_blocks.result c.args.yard.now c.write_blocks.new.yard) c.as_bytes.ensures.bytes
+    (c.write_blocks.ensures.above d (PutLine c.args.name.now c.args.volume.now c.args.start c.as_bytes.result.now) stands over plain
     (OfPut refl (ap (λ (bs : List ℕ). length bs) c.as_bytes.ensures.bytes ∙ c.as_bytes.ensures.whole))
     (subst (λ (bs : List ℕ). IsFree c.args.yard.now (PutLine c.args.name.now c.args.volume.now c.args.start bs)) (sym c.as_bytes.ensures.bytes) c.requires.free))
 

@@ -36,6 +36,11 @@ returns-clause-leads g c = λ d stands apart off.
     c.write_blocks.ensures.leads d (WriteLine c.args.name.now c.args.volume.now c.args.start c.args.count c.args.fill) stands (ungrouped_at d.world c.args.name.now apart off)
     (OfWrite c.args.count c.args.fill refl (c.requires.bytes ∙ ap (λ (n : ℕ). replicate (512 * n) c.args.fill) (few_blocks c.args.count (omega (arith, c.if-count-lt1.false))))) c.requires.free
 
+pub returns-clause-above : goal.returns-clause-above
+returns-clause-above g c = λ d stands over plain.
+    c.write_blocks.ensures.above d (WriteLine c.args.name.now c.args.volume.now c.args.start c.args.count c.args.fill) stands over plain
+    (OfWrite c.args.count c.args.fill refl (c.requires.bytes ∙ ap (λ (n : ℕ). replicate (512 * n) c.args.fill) (few_blocks c.args.count (omega (arith, c.if-count-lt1.false))))) c.requires.free
+
 pub returns-clause-called : goal.returns-clause-called
 returns-clause-called g c = λ d stands apart off.
     writes_alone (over_group_at d.world c.args.name.now) (site_number d.world c.args.name.now) (replicate (512 * c.args.count) c.args.fill) c.write_blocks.result c.args.yard.now _ apart
