@@ -29,7 +29,7 @@ use Rattle.vx_events.specs.declared.said.Said.TheVariants.{Refused}
 use Rattle.vx_yard.proofs.Carrying.{SameLoad}
 use Rattle.vx_yard.proofs.Lists.{set_same}
 use Rattle.vx_yard.specs.Standing.{LeadsOver, LeadsOverIs, StandsFor}
-use Rattle.vx_yard.specs.Writes.{noted_facts}
+use Rattle.vx_yard.specs.Writes.{below_facts}
 use Rattle.vx_yard.specs.Yards.{IsTold}
 use Rattle.vx_yard.specs.declared.yard.Yard.{Yard}
 use Rattle.vx_group_lines.proofs.GroupCalls.{SetThen, calls_all, calls_are, calls_named, calls_names, calls_none, note_uncut, sets_then, maps_were}
@@ -117,7 +117,7 @@ module _ {R : Type 0} {g : Ghosts R} where
           let k : GroupNode = with_maps go.maps b.next in
           up_leads d line old new name s before after stands it (Refused (Device disk)) (calls s old new many) k then.set then.is (up_with_maps go.maps (with_note b.next n) b.next then.set.site b.noted) go.stands b.keeps.same.cut
           (table.same many (site_disks was_site) (site_disks then.set.site) s (calls s old new many) b.next b.goes.was b.goes.now names b.goes.noted b.goes.noted_now b.goes.change)
-          (facts_same (noted_facts (Device disk) f) refl r.facts) (load_on old mid new half r.same r.assemblies)
+          (facts_same (below_facts (Device disk) f) refl r.facts) (load_on old mid new half r.same r.assemblies)
           (GroupFails disk k (calls_are d old new name s before after stands it.call many)
           (calls_named d old new name s before after stands it.call it.call.at.set then.set it.call.at.is_set then.is many disk (omega arith) b.rose)
           (spoils.ends many (calls s old new many) (site_disks was_site) (site_disks then.set.site) b.next b.goes.was b.goes.now names b.goes.noted b.goes.noted_now (omega arith) (omega arith) b.goes.change b.keeps go.maps go.by) refl (it.is_line.broke k))
@@ -137,7 +137,7 @@ module _ {R : Type 0} {g : Ghosts R} where
           (off_stands (crashed (with_note b.next n) 0) b.next b.next b.goes.now then.set.site b.goes.noted_now b.noted then.holds.1.1) b.keeps.same.cut
           (note_uncut d old new name s before after stands it.call it.up)
           (table.same many (site_disks was_site) (site_disks then.set.site) s (calls s old new many) b.next b.goes.was b.goes.now names b.goes.noted b.goes.noted_now b.goes.change)
-          (noted_facts IsOff f) refl (r.facts ∙ ap (λ (fs : List SiteFacts). slice_set fs s (noted_facts IsOff f)) half.facts) (lets_on old mid new s half r.same r.assemblies)
+          (below_facts IsOff f) refl (r.facts ∙ ap (λ (fs : List SiteFacts). slice_set fs s (below_facts IsOff f)) half.facts) (lets_on old mid new s half r.same r.assemblies)
           (GroupCut k (calls_are d old new name s before after stands it.call many) b.fused
           (cuts.ends many (calls s old new many) (site_disks was_site) (site_disks then.set.site) b.next b.goes.was b.goes.now names b.goes.noted b.goes.noted_now (omega arith) (omega arith) b.goes.change b.keeps no_maps (record { none = λ v. refl })) refl (it.is_line.off k))
           (calls_all d old new name s before after stands it.call many))
@@ -148,7 +148,7 @@ module _ {R : Type 0} {g : Ghosts R} where
           subst (λ (x : Result Said OutOfMemory). LeadsOverIs d line old new x) (sym refusal.said)
           (up_leads d line old new name s before after stands it (Refused why) [] note then.set then.is
           (burned_noted n note then.set.site (group_noted_at d old name s before it.call.at) w.noted) (w.maps note had) refl refl
-          (facts_same (noted_facts why f) (w.quiet.facts f) refusal.facts) (load_on old mid new half refusal.same (w.quiet.loads s mid.assemblies.items new.assemblies.items refusal.assemblies))
+          (facts_same (below_facts why f) (w.quiet.facts f) refusal.facts) (load_on old mid new half refusal.same (w.quiet.loads s mid.assemblies.items new.assemblies.items refusal.assemblies))
           (GroupLacks why (wants w.lacks) refl refl (it.is_line.lacks note)) (calls_none d old new name s before after stands it.call))
 
       pub refused_leads : (T : Type 0) (twice : Bool) (Done Lost Cut : Turns) (By : Goes) (Lacks : GroupSite R g → No → Type 0) → Means s note (NoteUnsettles twice) Lost By (λ fails k. GroupSpoils s note line fails k) → Means s note (NoteUnsettles twice) Cut (λ o e. MapsLost) (λ fails k. GroupCuts s note line fails k)

@@ -43,7 +43,7 @@ use Rattle.vx_yard.proofs.Lists.{set_same}
 use Rattle.vx_yard.specs.Loads.{LetGoBy}
 use Rattle.vx_yard.specs.Standing.{LeadsOver, StandsFor}
 use Rattle.vx_yard.specs.Stands.{RoseAll}
-use Rattle.vx_yard.specs.Writes.{noted_facts}
+use Rattle.vx_yard.specs.Writes.{below_facts}
 use Rattle.vx_yard.specs.Yards.{IsTold, count_of}
 use Rattle.vx_yard.specs.declared.yard.Yard.{Yard}
 use Rattle.vx_group_lines.proofs.GroupAt.{no_value}
@@ -59,7 +59,7 @@ use Rattle.vx_group_lines.specs.Noting.{KeepsRest}
 
 -- a refusal of which the tests see nothing, and at which no site lets anything go
 pub record IsQuiet (why : No) : Type 0 where
-  pub facts : (f : SiteFacts) → noted_facts why f ≡ f
+  pub facts : (f : SiteFacts) → below_facts why f ≡ f
   pub loads : (s : ℕ) (a b : List Assembled) → LetGoBy why s a b → b ≡ a
 
 -- the worlds behind a call: with this note at a site that is up, and at one whose fuse ran out
@@ -207,7 +207,7 @@ module _ {R : Type 0} {g : Ghosts R} where
 
     -- its fuse ran out in no write
     pub off_leads : (said : Said) (fails : Fails) (k : GroupNode) (next : GroupSet R g) → after ≡ OfGroup next → DownNoted (crashed (with_note k n) 0) k next.site → StandMaps k next.site → k.cut ≡ note.cut → note.cut ≡ None → noted_table k ≡ noted_table note
-        → (f : SiteFacts) → f ≡ noted_facts IsOff (fact_of_group n note) → new.facts.items ≡ slice_set old.facts.items s f → LetsGo old new s → GroupEnds (IsTold new) d line s fails said (world_off d s k)
+        → (f : SiteFacts) → f ≡ below_facts IsOff (fact_of_group n note) → new.facts.items ≡ slice_set old.facts.items s f → LetsGo old new s → GroupEnds (IsTold new) d line s fails said (world_off d s k)
         → RoseAll fails (count_of old) (count_of new) → LeadsOver d line said old new
     off_leads said fails k next is noted maps cut uncut table f fact facts lets ends rose =
         let none : cut_in after ≡ None = it.cut ∙ ap (λ (x : DiskSet R g). cut_in x) it.call.at.is_set ∙ set_uncut d old new name s before after stands it.call it.up in

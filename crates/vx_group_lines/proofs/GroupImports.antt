@@ -52,7 +52,7 @@ use Rattle.vx_yard.proofs.OverGroup.{set_notes}
 use Rattle.vx_effects.specs.Facts.{down_fact}
 use Rattle.vx_yard.specs.GroupFacts.{group_up_facts}
 use Rattle.vx_yard.specs.Standing.{LeadsOver, LeadsOverIs, LeadsOverOrStops, StandsFor, StopsFor}
-use Rattle.vx_yard.specs.Writes.{noted_facts}
+use Rattle.vx_yard.specs.Writes.{below_facts}
 use Rattle.vx_yard.specs.Yards.{IsTold}
 use Rattle.vx_yard.specs.declared.yard.Yard.{Yard}
 use Rattle.vx_group_lines.proofs.Arriving.{Arrives, arrives_crash, arrives_unfused, arrives_up, arrives_worked}
@@ -270,7 +270,7 @@ module _ {R : Type 0} {g : Ghosts R} where
           let of = calls_are d old new name s before after stands call many in
           let has : Contains (calls s old new many) (s, disk) = names_at next is many disk (omega arith) rose in
           subst (λ (x : Result Said OutOfMemory). LeadsOverIs d (GroupImport name) old new x) (sym r.said)
-          (away_leads true (Device disk) many next is stays (left_stands true (StopsBy why) next (ap (λ (w : No). is_late w) (sym device)) stays.0 came) (facts_still (noted_facts (Device disk) (fact_of_group n note)) refl r.facts) (load_on old mid new half r.same r.assemblies)
+          (away_leads true (Device disk) many next is stays (left_stands true (StopsBy why) next (ap (λ (w : No). is_late w) (sym device)) stays.0 came) (facts_still (below_facts (Device disk) (fact_of_group n note)) refl r.facts) (load_on old mid new half r.same r.assemblies)
           (GroupFails disk (left true) of has (notes_refused true dims note) refl (record { world = refl; after = λ i. refl }))
           (ImportFails (Device disk) (left true) name refl of has (notes_refused true dims note) refl (record { world = refl; after = λ i. refl })))
       by_case why next is (inr (inl (off, down, fused))) came refusal =
@@ -286,7 +286,7 @@ module _ {R : Type 0} {g : Ghosts R} where
           (λ k missing rose. names_at next is many k (omega (arith, ap (λ (x : No). why_disk x) missing)) rose) it
           (λ some no_fails. no_call (calls s old new many) (s, some.disk) no_fails (names_at next is many some.disk (let low = some.below in let same = (sits_away n note was_site noted).units in omega (arith, low, same)) some.rose)) not_device not_off in
           subst (λ (x : Result Said OutOfMemory). LeadsOverIs d (GroupImport name) old new x) (sym refusal.said)
-          (away_leads (is_late why) why many next is stays (left_stands (is_late why) (StopsBy why) next refl stays.0 came) (facts_still (noted_facts why (fact_of_group n note)) (w.quiet.facts (fact_of_group n note)) refusal.facts)
+          (away_leads (is_late why) why many next is stays (left_stands (is_late why) (StopsBy why) next refl stays.0 came) (facts_still (below_facts why (fact_of_group n note)) (w.quiet.facts (fact_of_group n note)) refusal.facts)
           (load_on old mid new half refusal.same (w.quiet.loads s mid.assemblies.items new.assemblies.items refusal.assemblies))
           (known_ends why (calls s old new many) of w.known)
           (ImportFails why (left (is_late why)) name refl of w.refuses (notes_refused (is_late why) dims note) refl (record { world = refl; after = λ i. refl })))

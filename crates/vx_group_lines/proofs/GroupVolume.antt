@@ -58,6 +58,8 @@ use Rattle.vx_events.specs.GroupEnds.{GroupDone, GroupWants}
 use Rattle.vx_events.specs.GroupLines.{shape_of}
 use Rattle.vx_events.specs.GroupNotes.{AddsZeros, NotesVolume, note_at, Reconfigures}
 use Rattle.vx_events.specs.GroupViews.{noted_table, plain_fact}
+use Rattle.vx_events.specs.RvgFits.{config_rvg, rvg_noted}
+use Rattle.vx_events.specs.RvgViews.{kinds_by}
 use Rattle.vx_events.specs.StepsOver.{fact_of_group}
 use Rattle.vx_events.specs.declared.said.Said.{Said}
 use Rattle.vx_events.specs.declared.said.Said.TheVariants.{Done}
@@ -65,7 +67,7 @@ use Rattle.vx_yard.proofs.Carrying.{SameLoad}
 use Rattle.vx_yard.proofs.FailsStay.{fails_then}
 use Rattle.vx_yard.proofs.Lists.{set_same}
 use Rattle.vx_yard.proofs.OneSite.{Changed}
-use Rattle.vx_yard.specs.GroupFacts.{group_up_facts}
+use Rattle.vx_yard.specs.GroupFacts.{with_volumes}
 use Rattle.vx_yard.specs.Standing.{LeadsOver, LeadsOverIs, StandsFor, StaysFor}
 use Rattle.vx_yard.specs.declared.yard.Yard.{Yard}
 use Rattle.vx_above.proofs.SiteCalls.{calls}
@@ -254,10 +256,10 @@ module _ {R : Type 0} {g : Ghosts R} where
     abbrev many_of : Config → ℕ
     many_of was = (site_disks it.call.at.set.site).units + length was.disks + logs_bound was.volumes
 
-    pub volume_done : (vol : ℕ) → OnSites (λ o e. SiteAdded n note volume want o e (Ok vol)) before after → OnSites (λ o e. AddedMapped o e (Ok vol)) before after
-        → ((c : Config) → AtSite (λ e. site_config e ≡ Some c) after → new.facts.items ≡ slice_set old.facts.items s (group_up_facts (map plain_fact c.volumes) (fact_of_group (d.world.nodes s) (note_at (d.world.nodes s)))))
+    pub volume_done : rvg_noted (note_at (d.world.nodes s)) ≡ None → (vol : ℕ) → OnSites (λ o e. SiteAdded n note volume want o e (Ok vol)) before after → OnSites (λ o e. AddedMapped o e (Ok vol)) before after
+        → ((c : Config) → AtSite (λ e. site_config e ≡ Some c) after → new.facts.items ≡ slice_set old.facts.items s (with_volumes (kinds_by c.rvg c.volumes) (fact_of_group (d.world.nodes s) (note_at (d.world.nodes s)))))
         → SameLoad old new → LeadsOver d (Volume name volume blocks mirrors layout log map_of policy) Done old new
-    volume_done vol on maps facts load =
+    volume_done plain vol on maps facts load =
         let it_is : SetThen (λ e. SiteAdded n note volume want was_site e (Ok vol)) after = sets_then (λ o e. SiteAdded n note volume want o e (Ok vol)) before after it.call.at.set it.call.at.is_set on in
         let next : GroupNode = it_is.holds.0 in
         let goes : ConfigGoes (VolumeAdded volume want vol (site_disks was_site) (site_disks it_is.set.site)) note next was_site it_is.set.site = it_is.holds.3 in
@@ -271,18 +273,18 @@ module _ {R : Type 0} {g : Ghosts R} where
         let names : Names s many (calls s old new many) (site_disks was_site) (site_disks it_is.set.site)
         = calls_names d old new name s before after stands it.call it.call.at.set it_is.set it.call.at.is_set it_is.is many (omega arith) in
         let noted_k : NotesConfig k goes.now = record { is = goes.noted_now.is; spells = goes.noted_now.spells } in
-        let f : SiteFacts = group_up_facts (map plain_fact goes.now.volumes) (fact_of_group (d.world.nodes s) (note_at (d.world.nodes s))) in
+        let f : SiteFacts = with_volumes (kinds_by goes.now.rvg goes.now.volumes) (fact_of_group (d.world.nodes s) (note_at (d.world.nodes s))) in
         turned_leads d (Volume name volume blocks mirrors layout log map_of policy) old new name s before after stands it Done (calls s old new many) k it_is.set it_is.is up (stand_as (with_maps go.maps next) k it_is.set.site refl refl refl go.stands) it_is.holds.1.same.cut f
-        (seen_up k goes.now noted_k)
+        (seen_up k goes.now noted_k (goes.change.moves.parts.rvg ∙ ap (λ (o : Option Config). config_rvg o) (sym (notes_config note goes.was goes.noted)) ∙ plain))
         (facts goes.now (subst (λ (x : DiskSet R g). AtSite (λ e. site_config e ≡ Some goes.now) x) (sym it_is.is) (config_now goes.now (with_note k n) k it_is.set.site up goes.has))) load
         (GroupDone k (calls_are d old new name s before after stands it.call many)
         (does many (calls s old new many) next it_is.set.site vol goes.was goes.now names goes.noted goes.noted_now (omega arith) (omega arith) goes.change it_is.holds.1 go.maps go.by, refl) (it.is_line.done k))
         (calls_all d old new name s before after stands it.call many)
       where
-        seen_up : (k : GroupNode) (c : Config) → NotesConfig k c → group_up_facts (map plain_fact c.volumes) (fact_of_group (d.world.nodes s) (note_at (d.world.nodes s))) ≡ fact_of_group (with_note k (d.world.nodes s)) k
-        seen_up k c noted =
-            ap (λ (vs : List VolumeFacts). group_up_facts vs (fact_of_group (d.world.nodes s) (note_at (d.world.nodes s)))) (sym (notes_table k c noted))
-            ∙ ap (λ t. let f : SiteFacts = record (fact_of_group (d.world.nodes s) k) { state = t } in f) (sym it.up)
+        seen_up : (k : GroupNode) (c : Config) → NotesConfig k c → c.rvg ≡ None → with_volumes (kinds_by c.rvg c.volumes) (fact_of_group (d.world.nodes s) (note_at (d.world.nodes s))) ≡ fact_of_group (with_note k (d.world.nodes s)) k
+        seen_up k c noted none =
+            ap (λ (vs : List VolumeFacts). with_volumes vs (fact_of_group (d.world.nodes s) (note_at (d.world.nodes s))))
+            (ap (λ (u : Option Units). kinds_by u c.volumes) none ∙ sym (notes_table k c noted))
 
     -- memory ran out, and nothing was
     pub volume_stays : OnSites (λ o e. SiteAdded n note volume want o e (Err MemoryStop)) before after → OnSites (λ o e. AddedMapped o e (Err MemoryStop)) before after → new.facts.items ≡ old.facts.items → SameLoad old new → StaysFor d old new

@@ -46,7 +46,7 @@ use Rattle.vx_effects.specs.Facts.{down_fact}
 use Rattle.vx_yard.specs.OfSites.{AsAsked, HasCalled, WritesBy}
 use Rattle.vx_yard.specs.Standing.{LeadsOver, StandsFor}
 use Rattle.vx_yard.specs.Working.{IsFree}
-use Rattle.vx_yard.specs.Writes.{IsWriteLine, noted_facts}
+use Rattle.vx_yard.specs.Writes.{IsWriteLine, below_facts}
 use Rattle.vx_yard.specs.Writes.IsWriteLine.{OfPut, OfWrite}
 use Rattle.vx_yard.specs.Yards.{IsTold, in_files}
 use Rattle.vx_yard.specs.declared.yard.Yard.{Yard}
@@ -298,7 +298,7 @@ module _ {R : Type 0} {g : Ghosts R} where
 
     -- it is refused
     pub write_stops : (no : No) → OnSites (λ o e. PlainWrote n note (plain_write place start bytes) o e (Err no)) before after → OnSites (λ o e. WroteMapped (plain_write place start bytes) o e (Err no)) before after → cut_in after ≡ cut_behind {T = Unit {0}} (Err no) (plain_write place start bytes) (cut_in before)
-        → new.facts.items ≡ slice_set old.facts.items s (noted_facts no (fact_of_group n note)) → LetsGoBy no old new s → LeadsOver d line (Refused no) old new
+        → new.facts.items ≡ slice_set old.facts.items s (below_facts no (fact_of_group n note)) → LetsGoBy no old new s → LeadsOver d line (Refused no) old new
     write_stops (Device disk) wrote maps cut facts lets = write_fails disk wrote maps cut facts (record { flight = lets.flight; assemblies = lets.assemblies; feeders = lets.feeders })
     write_stops IsOff wrote maps cut facts lets = write_cut wrote maps cut facts (record { flight = lets.flight; assemblies = lets.assemblies; feeders = lets.feeders })
     write_stops other wrote maps cut facts lets = absurd (sets_then (λ o e. PlainWrote n note x o e (Err other)) before after called.at.set called.at.is_set wrote).holds

@@ -43,3 +43,4 @@ pub mod MapLines
 pub mod MapReturns
 pub mod MapGoing
 pub mod MapComing
+pub mod Numbered

@@ -15,9 +15,9 @@ use Rattle.vx_grouped.specs.SiteMaps.{DownRests, MapsFor, MapsOf, StandMaps, UpM
 use Rattle.vx_grouped.specs.declared.group_site.GroupSite.{GroupSite}
 use Rattle.vx_grouped.specs.declared.group_site.GroupSite.TheVariants.{Deported, Down, Gone, Marked, Up}
 use Rattle.vx_grouped.proofs.MapStandLemmas.{none_on_disks}
-use Rattle.vx_diskset.specs.GroupCalls.{AtSite, OnSites}
+use Rattle.vx_diskset.specs.GroupCalls.{AtPlain, OnSites}
 use Rattle.vx_diskset.specs.declared.disk_set.DiskSet.{DiskSet}
-use Rattle.vx_diskset.specs.declared.disk_set.DiskSet.TheVariants.{Bare as BareSet, Spoiled, Up as RaisedSet, Receives, Down as DownSet, OfGroup, Gone as GoneSet}
+use Rattle.vx_diskset.specs.declared.disk_set.DiskSet.TheVariants.{Bare as BareSet, Spoiled, Up as RaisedSet, Receives, Down as DownSet, OfGroup, Over, Gone as GoneSet}
 use Rattle.vx_diskset.specs.declared.group_set.GroupSet.{GroupSet}
 use Rattle.vx_events.specs.GroupMaps.{WithMaps}
 use Rattle.vx_above.proofs.Changing.{notes_config}
@@ -158,13 +158,14 @@ module _ {R : Type 0} {g : Ghosts R} where
   pub on_both : (Q : GroupSite R g → GroupSite R g → Type 0) (before after : DiskSet R g) (set next : GroupSet R g) → before ≡ OfGroup set → after ≡ OfGroup next → OnSites Q before after → Q set.site next.site
   on_both Q before after set next was is it = subst (λ (x : DiskSet R g). OnSites Q (OfGroup set) x) is (subst (λ (x : DiskSet R g). OnSites Q x after) was it)
 
-  at_map : (P Q : GroupSite R g → Type 0) → ((x : GroupSite R g) → P x → Q x) → (e : DiskSet R g) → AtSite P e → AtSite Q e
+  at_map : (P Q : GroupSite R g → Type 0) → ((x : GroupSite R g) → P x → Q x) → (e : DiskSet R g) → AtPlain P e → AtPlain Q e
   at_map P Q f (BareSet rack) it = absurd it
   at_map P Q f (Spoiled rack) it = absurd it
   at_map P Q f (RaisedSet rvg) it = absurd it
   at_map P Q f (Receives s) it = absurd it
   at_map P Q f (DownSet rack) it = absurd it
   at_map P Q f (OfGroup s) it = f s.site it
+  at_map P Q f (Over s) it = absurd it
   at_map P Q f GoneSet it = absurd it
 
   pub on_map : (P Q : GroupSite R g → GroupSite R g → Type 0) → ((o e : GroupSite R g) → P o e → Q o e) → (before after : DiskSet R g) (set : GroupSet R g) → before ≡ OfGroup set → OnSites P before after → OnSites Q before after

@@ -1,6 +1,9 @@
 -- What a yard keeps where the tests of a line see something else of one site.
-use Rattle.std.specs.Prelude.{◌≡◌, ℕ, Some, None, slice_get, slice_set, Result, Ok, Err}
+use Rattle.std.specs.Prelude.{◌≡◌, ℕ, List, Some, None, slice_get, slice_set, unwrap_or, Result, Ok, Err}
+use Rattle.std.specs.List.{position}
+use Rattle.std.specs.Str.{bytes_eq}
 use Rattle.vx_config.specs.declared.config.Config.{Config}
+use Rattle.vx_config.specs.declared.entry.VolumeEntry.{VolumeEntry}
 use Rattle.vx_disk.specs.declared.shelf.Shelf.{Ghosts}
 use Rattle.vx_model.specs.declared.errors.OutOfMemory.{OutOfMemory}
 use Rattle.vx_model.specs.declared.errors.Stop.{Stop}
@@ -17,8 +20,12 @@ use Rattle.vx_rvg.specs.Views.{Core, last_of}
 use Rattle.vx_yard.specs.Changes.{up_facts}
 use Rattle.vx_yard.specs.GroupFacts.{group_up_facts}
 use Rattle.vx_yard.specs.Loads.{LetGoBy}
-use Rattle.vx_yard.specs.Writes.{noted_facts}
+use Rattle.vx_yard.specs.Writes.{below_facts}
 use Rattle.vx_yard.specs.declared.yard.Yard.{Yard}
+
+-- the number of the first volume of this name, or 0
+abbrev pub number_in : List VolumeEntry → List ℕ → ℕ
+number_in volumes name = unwrap_or (position (λ volume. bytes_eq volume.name name) volumes) 0
 
 -- what the tests see of a site that comes up as a group of this configuration, with this replicated volume group over it
 abbrev pub made_facts : Core → Config → SiteFacts → SiteFacts
@@ -35,7 +42,7 @@ module _ {R : Type 0} {g : Ghosts R} where
 
   -- a site with these facts behind a call that was refused so, and the reply
   pub record IsNotedRefusal (s : ℕ) (f : SiteFacts) (why : Refusal) (old new : Yard R g) (result : Result Said OutOfMemory) : Type 0 where
-    pub facts : new.facts.items ≡ slice_set old.facts.items s (noted_facts why f)
+    pub facts : new.facts.items ≡ slice_set old.facts.items s (below_facts why f)
     pub assemblies : LetGoBy why s old.assemblies.items new.assemblies.items
     pub same : KeepsRest old new
     pub said : result ≡ Ok (Refused why)

@@ -35,7 +35,7 @@ pub fn deport_line<R: Rack>(
     match yard.disk_sets[site].deport_group() {
         Ok(()) => {
             let_go(&mut yard.assemblies, site);
-            deport(&mut yard.facts[site]);
+            deport(alloc, &mut yard.facts[site]);
             Ok(Said::Done)
         }
         Err(stop) => group_stopped(yard, alloc, site, stop),

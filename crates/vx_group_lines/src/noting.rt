@@ -3,14 +3,14 @@ ghost use Rattle.std.specs.Prelude.{◌≡◌, ◌<◌, [], length, map, option_
 ghost use Rattle.vx_config.specs.Checks.{is_sound};
 ghost use Rattle.vx_config.specs.declared.config.Config.{Config as ConfigValue};
 ghost use Rattle.vx_events.specs.GroupViews.{plain_fact};
-ghost use Rattle.vx_events.specs.RvgViews.{kinds_of};
+ghost use Rattle.vx_events.specs.RvgViews.{kinds_by, kinds_of};
 ghost use Rattle.vx_events.specs.declared.said.Said.TheVariants.{Refused};
 ghost use Rattle.vx_order.specs.declared.facts.SiteFacts.{SiteFacts as Facts};
 ghost use Rattle.vx_rvg.specs.Views.{Core, last_of};
 ghost use Rattle.vx_yard.specs.Changes.{up_facts};
-ghost use Rattle.vx_yard.specs.GroupFacts.{group_up_facts};
+ghost use Rattle.vx_yard.specs.GroupFacts.{group_up_facts, with_volumes};
 ghost use Rattle.vx_yard.specs.Loads.{LetGoBy};
-ghost use Rattle.vx_yard.specs.Writes.{noted_facts};
+ghost use Rattle.vx_yard.specs.Writes.{below_facts};
 ghost use Rattle.vx_group_lines.specs.Noting.{HasConfig, HasCore, HasNoCore, KeepsRest, made_facts, reply_noted};
 
 use std::alloc::Global;
@@ -23,20 +23,21 @@ use vx_model::{No, OutOfMemory, Stop};
 use vx_order::{VolumeRoom, VolumeTable};
 use vx_yard::Yard;
 use vx_yard::facts::come_up;
-use vx_yard::group_facts::come_up_group;
+use vx_yard::group_facts::{come_up_group, set_volumes};
 use vx_yard::load::let_go_if_down;
-use vx_yard::refusing::refused;
+use vx_yard::refusing::refused_below;
 
-/// A call on the group of a site was refused: where its fuse ran out, the site is down, and lets go what it had in assembly.
+/// A call on the group of a site was refused: where its fuse ran out, the site is down, and lets go what it had in assembly. A replicated volume group over it is
+/// not halted by a disk that failed in the call.
 pub(crate) fn group_refused<R: Rack>(yard: &mut Yard<R>, alloc: Global, site: usize, no: No) -> Said
     requires facts { site < length yard.old.facts.items }
-    ensures facts { (f : Facts) → slice_get yard.old.facts.items site ≡ Some f → yard.new.facts.items ≡ slice_set yard.old.facts.items site (noted_facts no f) }
+    ensures facts { (f : Facts) → slice_get yard.old.facts.items site ≡ Some f → yard.new.facts.items ≡ slice_set yard.old.facts.items site (below_facts no f) }
     ensures assemblies { LetGoBy no site yard.old.assemblies.items yard.new.assemblies.items }
     ensures same { KeepsRest yard.old yard.new }
     ensures said { result ≡ Refused no }
 {
     let_go_if_down(&mut yard.assemblies, site, &no);
-    refused(alloc, &mut yard.facts[site], no)
+    refused_below(alloc, &mut yard.facts[site], no)
 }
 
 /// The same of a call that takes memory: for want of it nothing changes.
@@ -87,6 +88,20 @@ pub(crate) fn note_up<R: Rack>(yard: &mut Yard<R>, site: usize, room: VolumeRoom
     let volumes = table_of(yard.disk_sets[site].config(), room);
     come_up_group(&mut yard.facts[site], volumes);
     note_rvg(yard, site);
+}
+
+/// The tests see the volumes of a group that is up, where what stands over it is as it was.
+pub(crate) fn note_volumes<R: Rack>(yard: &mut Yard<R>, site: usize, room: VolumeRoom)
+    requires facts { site < length yard.old.facts.items }
+    requires disk_set { site < length yard.old.disk_sets.items }
+    requires empty { room ≡ [] }
+    ensures facts { (f : Facts) (c : ConfigValue) → slice_get yard.old.facts.items site ≡ Some f → HasConfig site c yard.old → yard.new.facts.items ≡ slice_set yard.old.facts.items site (with_volumes (kinds_by c.rvg c.volumes) f) }
+    ensures assemblies { yard.new.assemblies ≡ yard.old.assemblies }
+    ensures same { KeepsRest yard.old yard.new }
+{
+    yard.disk_sets[site].sound();
+    let volumes = table_of(yard.disk_sets[site].config(), room);
+    set_volumes(&mut yard.facts[site], volumes);
 }
 
 // The tests see the replicated volume group of a site that has one over its group.

@@ -14,7 +14,7 @@ ghost use Rattle.vx_yard.specs.Standing.{LeadsOverIs, StandsFor};
 ghost use Rattle.vx_yard.specs.Working.{IsFree};
 ghost use Rattle.vx_yard.specs.Yards.{IsYardKept, IsTold, in_files};
 
-use crate::noting::{group_stopped, note_up};
+use crate::noting::{group_stopped, note_volumes};
 use std::alloc::Global;
 use vx_disk::Rack;
 use vx_events::Said;
@@ -95,7 +95,7 @@ pub fn volume_line<R: Rack>(
     let site = yard.site_of(name);
     match yard.disk_sets[site].make_volume(alloc, volume, want) {
         Ok(_) => {
-            note_up(yard, site, room);
+            note_volumes(yard, site, room);
             Ok(Said::Done)
         }
         Err(stop) => group_stopped(yard, alloc, site, stop),

@@ -20,6 +20,11 @@ noted_facts (Device disk) f = halted_facts disk f
 noted_facts Down f = down_fact f
 noted_facts other f = f
 
+-- The same of a line on the group of disks of a site, which may have a replicated volume group over it: a disk that failed halts nothing.
+abbrev pub below_facts : No → SiteFacts → SiteFacts
+below_facts Down f = down_fact f
+below_facts other f = f
+
 -- what the tests see of a site after a write of this number and so many blocks of the log was refused so: where a disk failed it may stand there
 abbrev pub unwritten_facts : No → (number blocks : ℕ) → SiteFacts → SiteFacts
 unwritten_facts (Device disk) number blocks f = half_fact disk number blocks f

@@ -2,7 +2,7 @@
 ghost use Rattle.std.specs.Prelude.{◌≡◌};
 ghost use Rattle.vx_events.specs.declared.said.Said.TheVariants.{Refused};
 ghost use Rattle.vx_yard.specs.Replies.{reply_to};
-ghost use Rattle.vx_yard.specs.Writes.{noted_facts};
+ghost use Rattle.vx_yard.specs.Writes.{below_facts, noted_facts};
 
 use crate::facts;
 use std::alloc::Global;
@@ -17,6 +17,18 @@ pub fn refused(alloc: Global, facts: &mut SiteFacts, no: No) -> Said
 {
     match no {
         No::Device { disk } => facts::set_halted(facts, disk),
+        No::Down => facts::go_down(alloc, facts),
+        _ => {}
+    }
+    Said::Refused(no)
+}
+
+/// A line on the group of disks of a site was refused, below the replicated volume group that the site may have: where its fuse ran out, the site is down.
+pub fn refused_below(alloc: Global, facts: &mut SiteFacts, no: No) -> Said
+    ensures noted { facts.new ≡ below_facts no facts.old }
+    ensures said { result ≡ Refused no }
+{
+    match no {
         No::Down => facts::go_down(alloc, facts),
         _ => {}
     }
