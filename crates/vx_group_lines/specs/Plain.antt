@@ -1,11 +1,11 @@
 -- The lines that go to a disk group, and of these such as write and read blocks of a volume.
-use Rattle.std.specs.Prelude.{◌≡◌, ℕ, ◌*◌, ◌<◌, ◌≤◌, Bool, true, false, List, [], length, Option, Some, None, Result, Ok, Err}
+use Rattle.std.specs.Prelude.{◌≡◌, ℕ, ◌*◌, ◌<◌, ◌≤◌, Bool, true, false, List, [], length, Option, Some, None, Result, Ok, Err, not}
 use Rattle.vx_model.specs.declared.limits.TheConstants.{BLOCK, MOST_CALL_BLOCKS}
 use Rattle.vx_model.specs.declared.no.No.{No}
 use Rattle.vx_disk.specs.declared.shelf.Shelf.{Ghosts}
 use Rattle.vx_history.specs.Groups.{GroupNode}
 use Rattle.vx_history.specs.Steps.{worked}
-use Rattle.vx_history.specs.World.{Node}
+use Rattle.vx_history.specs.World.{Node, World}
 use Rattle.vx_grouped.specs.GroupSites.{UpNoted, site_disks}
 use Rattle.vx_grouped.specs.Plain.{ReadsPlain}
 use Rattle.vx_grouped.specs.SiteEnds.{PlainRead}
@@ -14,6 +14,11 @@ use Rattle.vx_script.specs.declared.line.ScriptLine.{ScriptLine}
 use Rattle.vx_script.specs.declared.line.ScriptLine.TheVariants.{GroupInit, GroupDeport, GroupImport, Volume, PlexDetach, PlexAttach, Disk, Crash, Fuse, Recover, Status, Write as WriteLine, Put as PutLine, Read as ReadLine, Show as ShowLine}
 use Rattle.vx_yard.specs.Working.{IsFree}
 use Rattle.vx_yard.specs.declared.yard.Yard.{Yard}
+use Rattle.vx_order.specs.Calls.{is_data}
+use Rattle.vx_events.specs.RvgOver.{kind_named}
+use Rattle.vx_events.specs.StepsOver.{over_group_at}
+use Rattle.vx_events.specs.RvgSteps.{over_rvg_at}
+use Rattle.vx_events.specs.Facts.{site_number}
 
 -- whether lines of this kind write or read blocks
 abbrev pub is_block_kind : ScriptLine → Bool
@@ -32,6 +37,34 @@ is_group_line (Volume site volume blocks mirrors layout log map policy) = true
 is_group_line (PlexDetach site volume plex) = true
 is_group_line (PlexAttach site volume plex) = true
 is_group_line other = false
+
+-- whether the disks of the site of this name are a group, with a replicated volume group over it or not
+abbrev pub grouped_at : World → List ℕ → Bool
+grouped_at w site = over_group_at w site || over_rvg_at w site
+
+-- whether the volume of this name is one of a group, and no data volume of a replicated volume group
+abbrev pub plain_at : World → (site volume : List ℕ) → Bool
+plain_at w site volume = over_group_at w site || (over_rvg_at w site && not (is_data (kind_named (w.nodes (site_number w site)) volume)))
+
+-- whether the line goes to the group of its site
+abbrev pub goes_to_group : World → ScriptLine → Bool
+goes_to_group w (GroupInit site) = true
+goes_to_group w (GroupDeport site) = true
+goes_to_group w (GroupImport site) = true
+goes_to_group w (Volume site volume blocks mirrors layout log map policy) = true
+goes_to_group w (PlexDetach site volume plex) = true
+goes_to_group w (PlexAttach site volume plex) = true
+goes_to_group w (Rvg site srl maps volumes) = true
+goes_to_group w (Recover site) = grouped_at w site
+goes_to_group w (Status site) = grouped_at w site
+goes_to_group w (WriteLine site volume start count fill) = plain_at w site volume
+goes_to_group w (PutLine site volume start bytes) = plain_at w site volume
+goes_to_group w (ReadLine site volume start count) = plain_at w site volume
+goes_to_group w (ShowLine site volume start count) = plain_at w site volume
+goes_to_group w (Disk site disk state) = over_group_at w site
+goes_to_group w (Crash site pick) = over_group_at w site
+goes_to_group w (Fuse site calls pick) = over_group_at w site
+goes_to_group w other = false
 
 -- the site of any other line that goes to a group where its site is over one
 abbrev pub plain_site : ScriptLine → Option (List ℕ)

@@ -13,7 +13,8 @@ use Rattle.vx_script.specs.declared.line.ScriptLine.{ScriptLine}
 use Rattle.vx_script.specs.declared.line.ScriptLine.TheVariants.{Deliver, Settle}
 use Rattle.vx_events.specs.Parts.{StopsInPart}
 use Rattle.vx_events.proofs.Parts.{none_done}
-use Rattle.vx_events.specs.StepsOver.{OverBy, is_for_group, refused_over}
+use Rattle.vx_events.specs.RvgSteps.{FullBy}
+use Rattle.vx_events.specs.StepsOver.{refused_over}
 use Rattle.vx_events.specs.Sent.{sent_between}
 use Rattle.vx_events.specs.declared.said.Said.{Said}
 use Rattle.vx_events.specs.declared.said.Said.TheVariants.{Refused}
@@ -76,7 +77,7 @@ module _ {R : Type 0} {g : Ghosts R} where
       record {
         next = d;
         fails = [];
-        step = subst (λ (o : Option No). OverBy o (is_for_group d.world line) (IsTold y) d line [] (Refused why) d) (sym some) (record { none = refl; says = refl; stays = refl });
+        step = subst (λ (o : Option No). FullBy o (IsTold y) d line [] (Refused why) d) (sym some) (record { none = refl; says = refl; stays = refl });
         stands = stands;
         carries = λ was. was;
         rose = rose_none (count_of y) (count_of y) (λ s u. omega arith);

@@ -1,14 +1,14 @@
--- What a line that no test refuses leads a yard to: one that works on a group of disks, or another.
+-- What a line that no test refuses leads a yard to, whatever its sites stand on.
 use Rattle.std.specs.Prelude.{Result, Ok, Err}
 use Rattle.vx_model.specs.declared.errors.OutOfMemory.{OutOfMemory}
 use Rattle.vx_disk.specs.declared.shelf.Shelf.{Ghosts}
 use Rattle.vx_history.specs.Doubts.{Doubted}
 use Rattle.vx_script.specs.declared.line.ScriptLine.{ScriptLine}
 use Rattle.vx_events.specs.Fails.{Fails}
-use Rattle.vx_events.specs.StepsOver.{WorksOver, is_for_group}
+use Rattle.vx_events.specs.RvgSteps.{WorksFull}
 use Rattle.vx_events.specs.declared.said.Said.{Said}
 use Rattle.vx_yard.specs.Carries.{Carries}
-use Rattle.vx_yard.specs.Standing.{StandsFor, StopsFor}
+use Rattle.vx_yard.specs.Standing.{StandsFor, StopsAbove}
 use Rattle.vx_yard.specs.Stands.{RoseAll}
 use Rattle.vx_yard.specs.Yards.{IsTold, count_of}
 use Rattle.vx_yard.specs.declared.yard.Yard.{Yard}
@@ -18,7 +18,7 @@ module _ {R : Type 0} {g : Ghosts R} where
   pub record WorksFor (d : Doubted) (line : ScriptLine) (said : Said) (old new : Yard R g) : Type 0 where
     pub next : Doubted
     pub fails : Fails
-    pub works : WorksOver (is_for_group d.world line) (IsTold new) d line fails said next
+    pub works : WorksFull (IsTold new) d line fails said next
     pub stands : StandsFor next new
     pub carries : Carries d old → Carries next new
     pub rose : RoseAll fails (count_of old) (count_of new)
@@ -26,4 +26,4 @@ module _ {R : Type 0} {g : Ghosts R} where
   -- the line was done, or memory ran out within it
   abbrev pub WorksIs : Doubted → ScriptLine → Yard R g → Yard R g → Result Said OutOfMemory → Type 0
   WorksIs d line old new (Ok said) = WorksFor d line said old new
-  WorksIs d line old new (Err e) = StopsFor d line old new
+  WorksIs d line old new (Err e) = StopsAbove d line old new

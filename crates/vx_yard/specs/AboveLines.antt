@@ -1,5 +1,5 @@
 -- What a line leads a yard to at sites with replicated volume groups over groups of disks, or where it may find one.
-use Rattle.std.specs.Prelude.{[], Result, Ok, Err}
+use Rattle.std.specs.Prelude.{Result, Ok, Err}
 use Rattle.vx_model.specs.declared.errors.OutOfMemory.{OutOfMemory}
 use Rattle.vx_disk.specs.declared.shelf.Shelf.{Ghosts}
 use Rattle.vx_history.specs.Doubts.{Doubted}
@@ -7,11 +7,10 @@ use Rattle.vx_script.specs.declared.line.ScriptLine.{ScriptLine}
 use Rattle.vx_events.specs.Fails.{Fails}
 use Rattle.vx_events.specs.RvgLinks.{LinksOver}
 use Rattle.vx_events.specs.RvgOver.{OverRvg}
-use Rattle.vx_events.specs.RvgParts.{ShortFull}
 use Rattle.vx_events.specs.RvgSteps.{WorksBeside, rvg_place}
 use Rattle.vx_events.specs.declared.said.Said.{Said}
 use Rattle.vx_yard.specs.Carries.{Carries}
-use Rattle.vx_yard.specs.Standing.{StandsFor}
+use Rattle.vx_yard.specs.Standing.{StandsFor, StopsAbove}
 use Rattle.vx_yard.specs.Stands.{RoseAll}
 use Rattle.vx_yard.specs.Yards.{IsTold, count_of}
 use Rattle.vx_yard.specs.declared.yard.Yard.{Yard}
@@ -43,14 +42,6 @@ module _ {R : Type 0} {g : Ghosts R} where
     pub stands : StandsFor next new
     pub carries : Carries d old → Carries next new
     pub rose : RoseAll fails (count_of old) (count_of new)
-
-  -- memory ran out within the line, which left this of it, and no call failed
-  pub record StopsAbove (d : Doubted) (line : ScriptLine) (old new : Yard R g) : Type 0 where
-    pub next : Doubted
-    pub part : ShortFull (IsTold new) d line next
-    pub stands : StandsFor next new
-    pub carries : Carries d old → Carries next new
-    pub rose : RoseAll [] (count_of old) (count_of new)
 
   abbrev pub LeadsAboveIs : Doubted → ScriptLine → Yard R g → Yard R g → Result Said OutOfMemory → Type 0
   LeadsAboveIs d line old new (Ok said) = LeadsAbove d line said old new

@@ -26,7 +26,7 @@ use Rattle.vx_events.specs.Fails.{Fails}
 use Rattle.vx_events.specs.GroupEnds.{GroupEnds}
 use Rattle.vx_events.specs.Lines.{IsDone as IsDoneLine}
 use Rattle.vx_events.specs.Parts.{StopsShort}
-use Rattle.vx_events.specs.StepsOver.{FindsKept, StepOver, facts_over, group_place}
+use Rattle.vx_events.specs.StepsOver.{FindsKept, facts_over, group_place}
 use Rattle.vx_world.specs.Lines.{GoodDoubted}
 use Rattle.vx_yard.specs.Carries.{Carries}
 use Rattle.vx_yard.specs.OfSites.{HasCalled}
@@ -40,6 +40,8 @@ use Rattle.vx_events.specs.declared.said.Said.{Said}
 use Rattle.vx_yard.specs.Stands.{RoseAll}
 use Rattle.vx_yard.specs.Yards.{IsTold, count_of, in_files}
 use Rattle.vx_yard.specs.declared.yard.Yard.{Yard}
+use Rattle.vx_events.specs.RvgParts.{ShortFull}
+use Rattle.vx_events.specs.RvgSteps.{StepFull}
 
 -- a site that may be another: it has the same name, disks and volumes
 pub record IsSameSite (n k : Node) : Type 0 where
@@ -176,18 +178,26 @@ module _ {R : Type 0} {g : Ghosts R} where
     pub carries : Carries d old → Carries (crash_of d s count taken) new
     pub rose : RoseAll [] (count_of old) (count_of new)
 
+  -- memory ran out within the line, which left this of it, and no call failed
+  pub record StopsAbove (d : Doubted) (line : ScriptLine) (old new : Yard R g) : Type 0 where
+    pub next : Doubted
+    pub part : ShortFull (IsTold new) d line next
+    pub stands : StandsFor next new
+    pub carries : Carries d old → Carries next new
+    pub rose : RoseAll [] (count_of old) (count_of new)
+
   -- the same of a line that may also be refused
   pub record AnswersFor (d : Doubted) (line : ScriptLine) (said : Said) (old new : Yard R g) : Type 0 where
     pub next : Doubted
     pub fails : Fails
-    pub step : StepOver (IsTold new) (in_files old) d line fails said next
+    pub step : StepFull (IsTold new) (in_files old) d line fails said next
     pub stands : StandsFor next new
     pub carries : Carries d old → Carries next new
     pub rose : RoseAll fails (count_of old) (count_of new)
 
   abbrev pub AnswersIs : Doubted → ScriptLine → Yard R g → Yard R g → Result Said OutOfMemory → Type 0
   AnswersIs d line old new (Ok said) = AnswersFor d line said old new
-  AnswersIs d line old new (Err e) = StopsFor d line old new
+  AnswersIs d line old new (Err e) = StopsAbove d line old new
 
   -- the line made a step, by which the yard stands for a new world; its text is `text`
   pub record StepsFor (d : Doubted) (line : ScriptLine) (old new : Yard R g) (text : List ℕ) : Type 0 where
@@ -205,4 +215,4 @@ module _ {R : Type 0} {g : Ghosts R} where
   LineFor d line old new written now (Ok done) = (text : List ℕ) × StepsFor d line old new text × Appends written now text
   LineFor d line old new written now (Err WriteFault) =
       (text : List ℕ) × (sent : List ℕ) × (unsent : List ℕ) × StepsFor d line old new text × (text ≡ sent ++ unsent) × (unsent ≢ []) × Appends written now sent
-  LineFor d line old new written now (Err NoMemory) = (StopsFor d line old new ⊎ ((text : List ℕ) × StepsFor d line old new text)) × Appends written now []
+  LineFor d line old new written now (Err NoMemory) = (StopsAbove d line old new ⊎ ((text : List ℕ) × StepsFor d line old new text)) × Appends written now []

@@ -3,16 +3,16 @@ use Rattle.std.specs.Prelude.{◌≡◌, ℕ, Bool, List, [], Option, Some, None
 use Rattle.vx_history.specs.Doubts.{Doubted}
 use Rattle.vx_script.specs.declared.line.ScriptLine.{ScriptLine}
 use Rattle.vx_events.specs.Fails.{Fails}
-use Rattle.vx_events.specs.StepsOver.{StepOver}
 use Rattle.vx_events.specs.Sent.{sent_between}
 use Rattle.vx_events.specs.declared.said.Said.{Said}
 use Rattle.vx_yard.specs.Lines.{script_line}
 use Rattle.vx_yard.specs.Replies.{text_of}
+use Rattle.vx_events.specs.RvgSteps.{StepFull}
 
 -- a line makes a step, and its reply is printed, with the numbers of the packets that it sent
 pub record Prints (told : Type 0) (files : Bool) (d : Doubted) (line : ScriptLine) (fails : Fails) (text : List ℕ) (new : Doubted) : Type 0 where
   pub said : Said
-  pub step : StepOver told files d line fails said new
+  pub step : StepFull told files d line fails said new
   pub is : text ≡ text_of said (sent_between d.world new.world)
 
 -- an empty line or a comment is passed over
