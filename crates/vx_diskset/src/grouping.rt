@@ -19,6 +19,7 @@ ghost use Rattle.vx_diskset.specs.Asked.{FuseGoesOn, SameFailing};
 ghost use Rattle.vx_diskset.specs.DiskSets.{Later};
 ghost use Rattle.vx_diskset.specs.GroupCalls.{AtSite, CalledOn, OnSites, config_in, cut_in};
 ghost use Rattle.vx_diskset.specs.GroupSets.{cut_behind, cut_value};
+ghost use Rattle.vx_diskset.specs.OverKeeps.{OversDeported, OversKept, OversWrote};
 ghost use Rattle.vx_watched.specs.Traces.{TellsLess};
 
 use crate::DiskSet;
@@ -109,6 +110,8 @@ impl<R: Rack> DiskSet<R> {
         ensures failing { SameFailing self.old self.new }
         ensures later { Later self.old self.new }
         ensures since { CalledOn self.old self.new }
+        ensures kept { OversKept self.old self.new }
+        ensures away { OversDeported self.old self.new }
     {
         match self {
             DiskSet::OfGroup(group) => deport_site(&mut group.site),
@@ -129,6 +132,7 @@ impl<R: Rack> DiskSet<R> {
         ensures failing { SameFailing self.old self.new }
         ensures later { Later self.old self.new }
         ensures since { CalledOn self.old self.new }
+        ensures kept { OversKept self.old self.new }
     {
         match self {
             DiskSet::OfGroup(group) => group.site.make_volume(alloc, name, want),
@@ -149,6 +153,7 @@ impl<R: Rack> DiskSet<R> {
         ensures failing { SameFailing self.old self.new }
         ensures later { Later self.old self.new }
         ensures since { CalledOn self.old self.new }
+        ensures kept { OversKept self.old self.new }
     {
         match self {
             DiskSet::OfGroup(group) => group.site.det(volume, plex),
@@ -171,6 +176,7 @@ impl<R: Rack> DiskSet<R> {
         ensures failing { SameFailing self.old self.new }
         ensures later { Later self.old self.new }
         ensures since { CalledOn self.old self.new }
+        ensures kept { OversKept self.old self.new }
     {
         match self {
             DiskSet::OfGroup(group) => group.site.att(volume, plex),
@@ -191,6 +197,7 @@ impl<R: Rack> DiskSet<R> {
         ensures failing { SameFailing self.old self.new }
         ensures later { Later self.old self.new }
         ensures since { CalledOn self.old self.new }
+        ensures kept { OversWrote volume self.old self.new }
     {
         match self {
             DiskSet::OfGroup(group) => write_set(group, volume, start, bytes),
@@ -208,6 +215,7 @@ impl<R: Rack> DiskSet<R> {
         ensures failing { SameFailing self.old self.new }
         ensures later { Later self.old self.new }
         ensures since { CalledOn self.old self.new }
+        ensures kept { OversKept self.old self.new }
     {
         match self {
             DiskSet::OfGroup(group) => group.site.read(volume, start, into),
