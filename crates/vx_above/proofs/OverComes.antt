@@ -105,7 +105,7 @@ module _ {R : Type 0} {g : Ghosts R} (d : Doubted) (old new : Yard R g) (s : ℕ
   next = call_note d old new s o p call
 
   -- the same disks are made to fail
-  same_failing : SameFailing (Over o) (Over p)
+  pub same_failing : SameFailing (Over o) (Over p)
   same_failing = record {
     told = with_both (disks_told (Over o)) (disks_told (Over p)) (λ x y. (u : ℕ) → y.failing u ≡ x.failing u) call.notes.calls.rack
         (λ x y was is. (call.notes.calls.told x y was is).failing);

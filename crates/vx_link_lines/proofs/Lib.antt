@@ -1,5 +1,6 @@
 pub mod AllDurable
 pub mod AnswerFor
+pub mod ApplyAbove
 pub mod Behind
 pub mod Deaf
 pub mod DeliverCalls
@@ -28,6 +29,7 @@ pub mod PartLine
 pub mod PumpCalls
 pub mod PumpLine
 pub mod RawParts
+pub mod ReceivedAbove
 pub mod ReceiverLine
 pub mod SetAbove
 pub mod SetLine

@@ -37,14 +37,14 @@ use Rattle.vx_events.specs.StepsOver.{fact_over, facts_over}
 use Rattle.vx_events.specs.declared.said.Said.{Said}
 use Rattle.vx_events.specs.declared.said.Said.TheVariants.{Refused}
 use Rattle.vx_above.proofs.Moved.{OverCall, borne_are, borne_calls, call_note, call_off, call_table, call_up, done_are, done_calls, done_off, done_rose, done_up, ended_rose, ended_up, up_extra}
+use Rattle.vx_above.proofs.OverCarries.{carries_over}
 use Rattle.vx_above.proofs.OverComes.{StaysAs, comes_off, comes_up, noted_off, noted_up}
 use Rattle.vx_above.proofs.OverEnds.{told_up}
 use Rattle.vx_above.proofs.OverSeen.{fact_noted, noted_node}
 use Rattle.vx_above.proofs.OverSites.{note_is, over_again}
 use Rattle.vx_above.proofs.Tables.{table_again}
 use Rattle.vx_link_lines.proofs.LinkAbove.{links_over}
-use Rattle.vx_yard.proofs.Carrying.{carries_node}
-use Rattle.vx_yard.proofs.NoteSite.{changes_one, with_one}
+use Rattle.vx_yard.proofs.NoteSite.{with_one}
 use Rattle.vx_yard.proofs.OneSite.{Comes, facts_set, stands_at}
 use Rattle.vx_yard.proofs.OverGroup.{begins_apart}
 use Rattle.vx_yard.proofs.Reaching.{Reaches}
@@ -113,9 +113,7 @@ module _ {R : Type 0} {g : Ghosts R} (d : Doubted) (old new : Yard R g) (s : ℕ
         ∙ ap (λ (f : Fuse). noted_node m next f) burnt
 
     carries_note : Carries d old → Carries left new
-    carries_note carries =
-        carries_node s middle left k new new (record { flight = refl; assemblies = refl; feeders = refl }) (changes_one middle s k) refl refl (at_place middle.world.nodes s k)
-        (sym (ap (λ (x : Node). x.state) reach.here)) (sym (ap (λ (x : Node). x.role) reach.here)) (sym (ap (λ (x : Node). x.fed_by) reach.here)) (λ told. told) (carried carries)
+    carries_note carries = carries_over middle s m next fuse new reach.here (carried carries)
 
     leads_linked : (said : Said) (borne ending fails : Fails) → fails ≡ borne ++ ending → AreOf s borne → LinkEnds (AllKnown (IsTold new) d.world line) d line ending said middle → NotesWork (FuseRanOut n said) s fails note next
         → NeedsLogs d.world line said → NeedsPasses d.world line said → Comes d left s (Over p) → NotedAt (left.world.nodes s) (Over p) → RoseAll fails (count_of old) (count_of new) → LeadsLinked d line said old new
