@@ -12,7 +12,7 @@ use Rattle.vx_effects.proofs.Effects.{updated_self}
 use Rattle.vx_events.specs.Ends.{Ends, place_of}
 use Rattle.vx_events.specs.GroupLines.{is_over_group}
 use Rattle.vx_events.specs.GroupNotes.{IsKnown, note_at}
-use Rattle.vx_events.specs.RvgOver.{EndsOver, NotesLine, SaysOver, fuse_over, noting_over}
+use Rattle.vx_events.specs.RvgOver.{EndsOver, NotesLine, SaysOver, fuse_behind, noting_over}
 use Rattle.vx_events.specs.RvgViews.{is_over_rvg}
 use Rattle.vx_events.specs.RvgWorks.{FuseRanOut}
 use Rattle.vx_events.specs.declared.said.Said.{Said}
@@ -35,18 +35,18 @@ pub rvg_apart : (n : Node) → is_over_rvg n ≡ true → is_over_group n ≡ fa
 rvg_apart n over = other_way (is_some n.group) (eqb (length n.volumes) 0) over
 
 -- the world as it is
-noted_over_same : (line : ScriptLine) (w v : World) (s : ℕ) (note : GroupNode) → (v.nodes s).group ≡ Some note → fuse_over line (w.nodes s).fuse (v.nodes s).fuse ≡ (v.nodes s).fuse → v ≡ noting_over line w v s note
+noted_over_same : (line : ScriptLine) (w v : World) (s : ℕ) (note : GroupNode) → (v.nodes s).group ≡ Some note → fuse_behind line (w.nodes s).fuse (v.nodes s).fuse ≡ (v.nodes s).fuse → v ≡ noting_over line w v s note
 noted_over_same line w v s note is lit =
     let k : Node = v.nodes s in
-    let n : Node = record k { group = Some note; fuse = fuse_over line (w.nodes s).fuse k.fuse } in
+    let n : Node = record k { group = Some note; fuse = fuse_behind line (w.nodes s).fuse k.fuse } in
     let same : n ≡ k =
-    ap (λ (o : Option GroupNode). let m : Node = record k { group = o; fuse = fuse_over line (w.nodes s).fuse k.fuse } in m) (sym is) ∙ ap (λ (f : Fuse). let m : Node = record k { fuse = f } in m) lit in
+    ap (λ (o : Option GroupNode). let m : Node = record k { group = o; fuse = fuse_behind line (w.nodes s).fuse k.fuse } in m) (sym is) ∙ ap (λ (f : Fuse). let m : Node = record k { fuse = f } in m) lit in
     ap (λ (ns : ℕ → Node). let x : World = record v { nodes = ns } in x) (fun_ext (λ i. updated_self v.nodes s i)) ∙ ap (λ (m : Node). with_node v s m) (sym same)
 
 -- no call failed
 pub stays_over : (told : Type 0) (d : Doubted) (line : ScriptLine) (s : ℕ) (inner said : Said) (e : Doubted) → Ends (IsKnown told (note_at (d.world.nodes s))) d line (place_of d.world line) [] inner e
     → NotesLine (FuseRanOut (d.world.nodes s) inner) s [] line (note_at (d.world.nodes s)) (note_at (d.world.nodes s)) → SaysOver (d.world.nodes s) (note_at (d.world.nodes s)) inner said
-    → is_over_rvg (d.world.nodes s) ≡ true → (e.world.nodes s).group ≡ (d.world.nodes s).group → fuse_over line (d.world.nodes s).fuse (e.world.nodes s).fuse ≡ (e.world.nodes s).fuse → EndsOver told d line s [] said e
+    → is_over_rvg (d.world.nodes s) ≡ true → (e.world.nodes s).group ≡ (d.world.nodes s).group → fuse_behind line (d.world.nodes s).fuse (e.world.nodes s).fuse ≡ (e.world.nodes s).fuse → EndsOver told d line s [] said e
 stays_over told d line s inner said e ends notes says over group lit = record {
   borne = [];
   ending = [];

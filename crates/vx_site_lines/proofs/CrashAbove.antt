@@ -8,7 +8,7 @@ use Rattle.vx_model.specs.declared.site.SiteState.TheVariants.{Up}
 use Rattle.vx_script.specs.declared.line.ScriptLine.TheVariants.{Crash}
 use Rattle.vx_events.specs.Facts.{seat_of}
 use Rattle.vx_events.specs.GroupNotes.{IsKnown, note_at}
-use Rattle.vx_events.specs.RvgOver.{EndsOver, fuse_over}
+use Rattle.vx_events.specs.RvgOver.{EndsOver, fuse_behind}
 use Rattle.vx_events.specs.RvgSteps.{over_rvg_at}
 use Rattle.vx_events.specs.RvgViews.{is_over_rvg}
 use Rattle.vx_events.specs.declared.said.Said.TheVariants.{Done}
@@ -34,7 +34,7 @@ module _ {R : Type 0} {g : Ghosts R} where
         fails = [];
         works = subst (λ (i : ℕ). EndsOver (IsTold new) d (Crash name pick) i [] Done e) (sym seat.number)
             (stays_over (IsTold new) d (Crash name pick) s Done Done e (crash_ends (IsKnown (IsTold new) (note_at m)) d name pick s old new seat.number f) refl refl
-            (subst (λ (i : ℕ). is_over_rvg (d.world.nodes i) ≡ true) seat.number rvg) f.group (subst (λ (x : Fuse). fuse_over (Crash name pick) m.fuse x ≡ x) (sym f.fuse) refl));
+            (subst (λ (i : ℕ). is_over_rvg (d.world.nodes i) ≡ true) seat.number rvg) f.group (subst (λ (x : Fuse). fuse_behind (Crash name pick) m.fuse x ≡ x) (sym f.fuse) refl));
         carries = f.carries;
         stands = f.stands;
         rose = f.rose;

@@ -82,7 +82,7 @@ use Rattle.vx_events.specs.StepsOver.{over_group_at}
 -- ---- the event
 
 -- the world behind a read: it is as it was
-abbrev behind_read : Doubted → (s volume start count : ℕ) → Doubted
+abbrev pub behind_read : Doubted → (s volume start count : ℕ) → Doubted
 behind_read d s volume start count = record d { world = (step d.world (ReadAt s volume start count)).world }
 
 -- the same world, with the headers of a read counted, of which there are none
@@ -92,7 +92,7 @@ recounted d v = record d { world = record v { headers = λ i. d.world.headers i 
 pub no_more : (n : ℕ) → n + 0 ≡ n
 no_more n = omega arith
 
-read_world : (d : Doubted) (s volume start count : ℕ) (P : Doubted → Type 0) → P (recounted d d.world) → P (behind_read d s volume start count)
+pub read_world : (d : Doubted) (s volume start count : ℕ) (P : Doubted → Type 0) → P (recounted d d.world) → P (behind_read d s volume start count)
 read_world d s volume start count P here = subst (λ (v : World). P (recounted d v)) (sym (read_stays d.world s volume start count)) here
 
 pub recounted_fits : (d : Doubted) → LinksFit d → LinksFit (recounted d d.world)
@@ -117,7 +117,7 @@ done_by told d line name volume start count fails said next (inl is) ends =
 done_by told d line name volume start count fails said next (inr is) ends =
     subst (λ (l : ScriptLine). IsDone told d l fails said next) (sym is) (record { ends = ends (Show name volume start count) (λ c. refl) (λ v. refl); counts = tt; works = tt; calls = tt })
 
-got_ends : (told : Type 0) (d : Doubted) (line : ScriptLine) (k v start count : ℕ) (bytes : List ℕ) → ((c : Choice) → events_of d.world line c ≡ ReadAt k v start count ∷ []) → ((u : World) → noted k line u ≡ u)
+pub got_ends : (told : Type 0) (d : Doubted) (line : ScriptLine) (k v start count : ℕ) (bytes : List ℕ) → ((c : Choice) → events_of d.world line c ≡ ReadAt k v start count ∷ []) → ((u : World) → noted k line u ≡ u)
     → length bytes ≡ 512 * count → (told → IsCall d.world k v start count) → (told → ShowsContent (d.world.nodes k).base v start count bytes) → Ends told d line k [] (Got bytes) (behind_read d k v start count)
 got_ends told d line k v start count bytes list still size call shows =
     let e : Event = ReadAt k v start count in

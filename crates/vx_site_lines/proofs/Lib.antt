@@ -6,6 +6,7 @@ pub mod FetchLine
 pub mod FuseLine
 pub mod RawLine
 pub mod RawSite
+pub mod ReadAbove
 pub mod ReadLine
 pub mod StatusLine
 pub mod StatusLinks

@@ -53,14 +53,14 @@ not_primary Secondary is = refl
 not_primary (Handing to) is = refl
 not_primary Bunker is = refl
 
-primary_of : (r : Role) → is_primary r ≡ true → r ≡ Primary
+pub primary_of : (r : Role) → is_primary r ≡ true → r ≡ Primary
 primary_of Primary is = refl
 primary_of Secondary is = absurd (let e : false ≡ true = is in cc)
 primary_of (Handing to) is = absurd (let e : false ≡ true = is in cc)
 primary_of Bunker is = absurd (let e : false ≡ true = is in cc)
 
 -- where all writes are durable it shows the content
-all_shown : (n : Node) → length n.log ≡ n.safe → received_content n ≡ n.base
+pub all_shown : (n : Node) → length n.log ≡ n.safe → received_content n ≡ n.base
 all_shown n durable = ap (λ (ws : List Write). fold_writes n.base ws) (drop_all n.safe n.log (omega (arith, durable)))
 
 module _ {R : Type 0} {g : Ghosts R} where

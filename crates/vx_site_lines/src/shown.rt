@@ -1,17 +1,22 @@
 // Blocks that a site which receives shows.
-ghost use Rattle.std.specs.Prelude.{◌≡◌, ◌≤◌, ◌<◌, ◌*◌, ℕ, Some, false, length};
+ghost use Rattle.std.specs.Prelude.{◌≡◌, ◌≤◌, ◌<◌, ◌*◌, ℕ, Some, true, false, length};
 ghost use Rattle.vx_diskset.specs.Asked.{IsRawSet, LeavesAlone};
 ghost use Rattle.vx_diskset.specs.DiskSets.{CanRead, Later};
 ghost use Rattle.vx_diskset.specs.Holds.{KeptBeside};
+ghost use Rattle.vx_diskset.specs.Noted.{NotesOn};
 ghost use Rattle.vx_diskset.specs.Stands.{KeepsRole, SiteStands};
 ghost use Rattle.vx_events.specs.Facts.{seat_of, site_number};
+ghost use Rattle.vx_events.specs.RvgOver.{kind_named};
+ghost use Rattle.vx_events.specs.RvgSteps.{over_rvg_at};
 ghost use Rattle.vx_history.specs.Doubts.{Doubted};
 ghost use Rattle.vx_history.specs.World.{Node};
 ghost use Rattle.vx_model.specs.Sites.{is_origin};
+ghost use Rattle.vx_order.specs.declared.facts.VolumeKind.TheVariants.{Data};
 ghost use Rattle.vx_script.specs.declared.line.ScriptLine.TheVariants.{Show as ShowLine};
 ghost use Rattle.vx_site_lines.specs.Fetching.{IsBlockRoom};
 ghost use Rattle.vx_yard.specs.OfSites.{OfSite};
 ghost use Rattle.vx_site_lines.specs.Shown.{GaveShownAt};
+ghost use Rattle.vx_yard.specs.AboveLines.{LeadsAbove};
 ghost use Rattle.vx_yard.specs.Standing.{Leads, StandsFor};
 ghost use Rattle.vx_yard.specs.Working.{IsFree, IsUngroupedAt};
 ghost use Rattle.vx_yard.specs.Yards.{IsYardKept, IsTold, in_files};
@@ -36,6 +41,7 @@ fn shown_of<R: Rack>(
     requires room { length room.items ≡ BLOCK * count }
     ensures shows { (beside : KeptBeside) (n : Node) → SiteStands beside n disk_set.old → CanRead n volume start count → GaveShownAt beside n volume start count disk_set.old disk_set.new result }
     ensures role { KeepsRole disk_set.old disk_set.new }
+    ensures notes { NotesOn disk_set.old disk_set.new }
     ensures still { IsRawSet disk_set.old → LeavesAlone disk_set.old disk_set.new }
     ensures later { Later disk_set.old disk_set.new }
 {
@@ -56,6 +62,8 @@ pub(crate) fn show_received<R: Rack>(
     requires kept { IsYardKept yard.old }
     requires free { IsFree yard.old (ShowLine name.now volume.now start count) }
     ensures leads { (d : Doubted) (s : ℕ) → StandsFor d yard.old → IsUngroupedAt d.world name.now → seat_of yard.old.facts.items name.now ≡ Some s → is_origin (d.world.nodes s).role ≡ false → Leads d (ShowLine name.now volume.now start count) result yard.old yard.new }
+    ensures above { (d : Doubted) (s : ℕ) → StandsFor d yard.old → over_rvg_at d.world name.now ≡ true → kind_named (d.world.nodes (site_number d.world name.now)) volume.now ≡ Data → seat_of yard.old.facts.items name.now ≡ Some s
+        → is_origin (d.world.nodes s).role ≡ false → LeadsAbove d (ShowLine name.now volume.now start count) result yard.old yard.new }
     ensures asked { (d : Doubted) → StandsFor d yard.old → IsUngroupedAt d.world name.now → OfSite LeavesAlone (site_number d.world name.now) yard.old yard.new }
     ensures flight { yard.new.flight ≡ yard.old.flight }
     ensures told { IsTold yard.new → IsTold yard.old }

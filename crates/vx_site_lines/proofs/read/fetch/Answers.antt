@@ -11,6 +11,7 @@ use Rattle.vx_site_lines.proofs.read.fetch.Goals.{then-count-eq0-via-then-count-
 use Rattle.vx_diskset.specs.Asked.{LeavesAlone}
 use Rattle.vx_diskset.specs.Holds.{beside_of}
 use Rattle.vx_site_lines.proofs.FetchLine.{fetch_stops, fetching}
+use Rattle.vx_site_lines.proofs.ReadAbove.{data_at, fetch_stops_above, fetched_above, reading_at}
 use Rattle.vx_yard.proofs.NamedSite.{asks_at, place_at}
 use Rattle.vx_yard.proofs.RawSites.{raw_named}
 use Rattle.vx_site_lines.proofs.read.fetch.Goals as goal
@@ -85,3 +86,35 @@ returns-in-Err-clause-asked g c = λ d stands apart.
     let there = stands.disk_sets.sites s c.index_mut.result.now place.below at in
     asks_at LeavesAlone d y _ c.args.name.now s c.index_mut.result.now c.blocks_of.new.disk_set stands c.site_of-site.ensures.seat at refl
     (c.in-Err.ensures.still (raw_named d c.args.name.now s c.index_mut.result.now place.number apart there))
+
+pub returns-in-Ok-clause-above : goal.returns-in-Ok-clause-above
+returns-in-Ok-clause-above g c = λ d line stands over kind is free origin.
+    let y = c.args.yard.now in
+    let s = c.site_of-site.result in
+    let before = c.index_mut.result.now in
+    let seat : seat_of y.facts.items c.args.name.now ≡ Some c.site_of-site.result = c.site_of-site.ensures.seat in
+    let disk_set = get_at y.disk_sets.items s before c.site_of-site.ensures.disk_set c.index_mut.ensures.value in
+    let may = may_read y c.args.name.now c.args.volume.now c.args.start c.args.count c.requires.free in
+    let here = data_at d y c.args.name.now c.args.volume.now s stands seat over kind in
+    let read = reading_at d y c.args.name.now c.args.volume.now c.args.start c.args.count s c.volume_of-place.result before stands seat here.0 here.1 may disk_set c.volume_of-place.ensures.place in
+    fetched_above d y _ c.args.name.now c.args.volume.now c.args.start c.args.count s c.volume_of-place.result stands read here.0 here.1 refl (record { flight = refl; assemblies = refl; feeders = refl })
+    before c.blocks_of.new.disk_set
+    (record { changed = record { there = disk_set; later = c.in-Ok.ensures.later; disk_sets = refl; racks = refl }; keeps = c.in-Ok.ensures.role; notes = c.in-Ok.ensures.notes })
+    line c.in-Ok.blocks is free seat (origin s seat)
+    (c.in-Ok.ensures.read (beside_of d s) (d.world.nodes s) (stands.disk_sets.sites s before read.seat.below disk_set) read.can)
+
+pub returns-in-Err-clause-above : goal.returns-in-Err-clause-above
+returns-in-Err-clause-above g c = λ d line stands over kind is free origin.
+    let y = c.args.yard.now in
+    let s = c.site_of-site.result in
+    let before = c.index_mut.result.now in
+    let seat : seat_of y.facts.items c.args.name.now ≡ Some c.site_of-site.result = c.site_of-site.ensures.seat in
+    let disk_set = get_at y.disk_sets.items s before c.site_of-site.ensures.disk_set c.index_mut.ensures.value in
+    let may = may_read y c.args.name.now c.args.volume.now c.args.start c.args.count c.requires.free in
+    let here = data_at d y c.args.name.now c.args.volume.now s stands seat over kind in
+    let read = reading_at d y c.args.name.now c.args.volume.now c.args.start c.args.count s c.volume_of-place.result before stands seat here.0 here.1 may disk_set c.volume_of-place.ensures.place in
+    fetch_stops_above d y _ c.args.name.now c.args.volume.now c.args.start c.args.count s c.volume_of-place.result stands read here.0 here.1 refl (record { flight = refl; assemblies = refl; feeders = refl })
+    before c.blocks_of.new.disk_set
+    (record { changed = record { there = disk_set; later = c.in-Err.ensures.later; disk_sets = refl; racks = refl }; keeps = c.in-Err.ensures.role; notes = c.in-Err.ensures.notes })
+    line c.in-Err.no is
+    (c.in-Err.ensures.read (beside_of d s) (d.world.nodes s) (stands.disk_sets.sites s before read.seat.below disk_set) read.can)

@@ -42,3 +42,19 @@ returns-clause-leads g c = λ d stands apart off.
 pub returns-clause-asked : goal.returns-clause-asked
 returns-clause-asked g c = λ d stands apart off.
     reads_alone (over_group_at d.world c.args.name.now) (site_number d.world c.args.name.now) c.args.yard.now _ apart (c.fetch.ensures.asked d stands (ungrouped_at d.world c.args.name.now apart off))
+
+pub returns-then-receives-clause-above : goal.returns-then-receives-clause-above
+returns-then-receives-clause-above g c = λ d stands over kind.
+    let y = c.args.yard.now in
+    let s = c.site_of-site.result in
+    let there = get_at y.disk_sets.items s c.index.result.now c.site_of-site.ensures.disk_set c.index.ensures in
+    c.show_received.ensures.above d s stands over kind c.site_of-site.ensures.seat
+    (room_waits d y c.args.name.now s stands c.site_of-site.ensures.seat c.index.result.now c.receives.result there c.receives.ensures c.if-receives.true)
+
+pub returns-clause-above : goal.returns-clause-above
+returns-clause-above g c = λ d stands over kind.
+    let y = c.args.yard.now in
+    let s = c.site_of-site.result in
+    let there = get_at y.disk_sets.items s c.index.result.now c.site_of-site.ensures.disk_set c.index.ensures in
+    c.fetch.ensures.above d (ShowBlocks c.args.name.now c.args.volume.now c.args.start c.args.count) stands over kind (inr refl) c.requires.free
+    (show_leads d y c.args.name.now s stands c.site_of-site.ensures.seat c.index.result.now c.receives.result there c.receives.ensures c.if-receives.false c.args.volume.now c.args.start c.args.count c.requires.free)

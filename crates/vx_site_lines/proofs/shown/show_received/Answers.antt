@@ -6,6 +6,7 @@ use Rattle.vx_events.proofs.Places.{some_same}
 use Rattle.vx_model.specs.Sites.{is_origin}
 use Rattle.vx_yard.proofs.ChangeSite.{told_before}
 use Rattle.vx_site_lines.proofs.FetchLine.{fetching}
+use Rattle.vx_site_lines.proofs.ReadAbove.{data_at, reading_at, shown_above, shown_stops_above}
 use Rattle.vx_yard.proofs.Lists.{get_at}
 use Rattle.vx_yard.proofs.NamedSite.{asks_at, place_at}
 use Rattle.vx_yard.proofs.RawSites.{raw_named}
@@ -84,3 +85,34 @@ returns-in-Err-clause-asked g c = λ d stands apart.
     let there = stands.disk_sets.sites s c.index_mut.result.now place.below at in
     asks_at LeavesAlone d y _ c.args.name.now s c.index_mut.result.now c.shown_of.new.disk_set stands c.site_of-site.ensures.seat at refl
     (c.in-Err.ensures.still (raw_named d c.args.name.now s c.index_mut.result.now place.number apart there))
+
+pub returns-in-Ok-clause-above : goal.returns-in-Ok-clause-above
+returns-in-Ok-clause-above g c = λ d s stands over kind seat receives.
+    let y = c.args.yard.now in
+    let t = c.site_of-site.result in
+    let before = c.index_mut.result.now in
+    let disk_set = get_at y.disk_sets.items t before c.site_of-site.ensures.disk_set c.index_mut.ensures.value in
+    let may = may_read y c.args.name.now c.args.volume.now c.args.start c.args.count (inr c.requires.free) in
+    let here = data_at d y c.args.name.now c.args.volume.now t stands c.site_of-site.ensures.seat over kind in
+    let read = reading_at d y c.args.name.now c.args.volume.now c.args.start c.args.count t c.volume_of-place.result before stands c.site_of-site.ensures.seat here.0 here.1 may disk_set c.volume_of-place.ensures.place in
+    let other = subst (λ i. is_origin (d.world.nodes i).role ≡ false) (some_same (sym seat ∙ c.site_of-site.ensures.seat)) receives in
+    shown_above d y _ c.args.name.now c.args.volume.now c.args.start c.args.count t c.volume_of-place.result stands read here.0 here.1 refl (record { flight = refl; assemblies = refl; feeders = refl })
+    before c.shown_of.new.disk_set
+    (record { changed = record { there = disk_set; later = c.in-Ok.ensures.later; disk_sets = refl; racks = refl }; keeps = c.in-Ok.ensures.role; notes = c.in-Ok.ensures.notes })
+    c.in-Ok.blocks (not_primary (d.world.nodes t).role other)
+    (c.in-Ok.ensures.shows (beside_of d t) (d.world.nodes t) (stands.disk_sets.sites t before read.seat.below disk_set) read.can)
+
+pub returns-in-Err-clause-above : goal.returns-in-Err-clause-above
+returns-in-Err-clause-above g c = λ d s stands over kind seat receives.
+    let y = c.args.yard.now in
+    let t = c.site_of-site.result in
+    let before = c.index_mut.result.now in
+    let disk_set = get_at y.disk_sets.items t before c.site_of-site.ensures.disk_set c.index_mut.ensures.value in
+    let may = may_read y c.args.name.now c.args.volume.now c.args.start c.args.count (inr c.requires.free) in
+    let here = data_at d y c.args.name.now c.args.volume.now t stands c.site_of-site.ensures.seat over kind in
+    let read = reading_at d y c.args.name.now c.args.volume.now c.args.start c.args.count t c.volume_of-place.result before stands c.site_of-site.ensures.seat here.0 here.1 may disk_set c.volume_of-place.ensures.place in
+    shown_stops_above d y _ c.args.name.now c.args.volume.now c.args.start c.args.count t c.volume_of-place.result stands read here.0 here.1 refl (record { flight = refl; assemblies = refl; feeders = refl })
+    before c.shown_of.new.disk_set
+    (record { changed = record { there = disk_set; later = c.in-Err.ensures.later; disk_sets = refl; racks = refl }; keeps = c.in-Err.ensures.role; notes = c.in-Err.ensures.notes })
+    c.in-Err.no
+    (c.in-Err.ensures.shows (beside_of d t) (d.world.nodes t) (stands.disk_sets.sites t before read.seat.below disk_set) read.can)
