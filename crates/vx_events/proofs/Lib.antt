@@ -7,6 +7,7 @@ pub mod DataPlaces
 pub mod GroupStopping
 pub mod RvgStopping
 pub mod RvgEnding
+pub mod RvgMissed
 pub mod RvgEvents
 pub mod RvgFull
 pub mod RvgGains

@@ -6,7 +6,7 @@ use Rattle.vx_model.specs.declared.site.SiteState.{SiteState}
 use Rattle.vx_model.specs.declared.site.SiteState.TheVariants.{Bare, Up, Deported, Down}
 use Rattle.vx_history.proofs.Updates.{by_test}
 use Rattle.vx_history.specs.Doubts.{Doubted}
-use Rattle.vx_history.specs.Groups.{GroupNode}
+use Rattle.vx_history.specs.Groups.{GroupNode, MissedNote}
 use Rattle.vx_history.specs.Likes.{IsLike}
 use Rattle.vx_history.specs.Stops.{EventsEnd, AllDone as EventsDone, Halts, Cuts, Reads, IsLikeDoubted, IsOpen, all_fails, told_fails}
 use Rattle.vx_history.specs.World.{NoFuse, Node, World}
@@ -19,13 +19,14 @@ use Rattle.vx_events.proofs.LinkStopping.{link_stops}
 use Rattle.vx_events.proofs.Noting.{as_like, disks_like, like_disks, like_noted, like_self, like_then, same_like, like_site, like_worked}
 use Rattle.vx_events.proofs.RvgFull.{brings_found}
 use Rattle.vx_events.proofs.RvgKnown.{back_dark}
+use Rattle.vx_events.proofs.RvgMissed.{missed_like}
 use Rattle.vx_events.proofs.RvgStopping.{ended as ended_rvg, noted_doubted, same_doubted}
 use Rattle.vx_events.proofs.Stopping.{BeginsWrite, ended, runs_as}
 use Rattle.vx_events.specs.Doubts.{IsAs, run_as, with_disks}
 use Rattle.vx_events.specs.Ends.{place_of}
 use Rattle.vx_events.specs.Facts.{site_number}
 use Rattle.vx_events.specs.Fails.{Fails}
-use Rattle.vx_events.specs.GroupEnds.{BringsUp}
+use Rattle.vx_events.specs.GroupEnds.{BringsUp, GroupEnds}
 use Rattle.vx_events.specs.GroupLines.{group_events, group_noted, noting}
 use Rattle.vx_events.specs.GroupNotes.{IsKnown, note_at}
 use Rattle.vx_events.specs.Lists.{Choice, events_of, recovery_of, crash_count}
@@ -33,7 +34,7 @@ use Rattle.vx_events.specs.RvgBack.{FindsNoRvg, FindsPlain, FindsRvg, GetsRvg, G
 use Rattle.vx_events.specs.RvgLinks.{AllKnown, LinksOver, noting_each, noted_there}
 use Rattle.vx_events.specs.RvgMakes.{RvgStops, noting_in}
 use Rattle.vx_events.specs.RvgNotes.{volume_events}
-use Rattle.vx_events.specs.RvgOver.{CutBelow, EndsOrShows, EndsOver, OpensFor, OverRvg, OverRvgBy, ShowFails, ShowsAny, TakesOr, is_below, is_inside, noting_over, fuse_behind}
+use Rattle.vx_events.specs.RvgOver.{CutBelow, EndsOrShows, EndsOver, OpensFor, OverRvg, OverRvgBy, ShowFails, ShowsAny, TakesOr, is_below, is_inside, missed_in, noting_over, fuse_behind}
 use Rattle.vx_events.specs.RvgParts.{RvgShort, ShortGroup, ShortLog, ShortMade}
 use Rattle.vx_events.specs.RvgViews.{is_over_rvg}
 use Rattle.vx_events.specs.RvgWorks.{AgreesOr}
@@ -222,6 +223,22 @@ opens_at w other opens c h = absurd h
 
 -- ---- any line at such a site
 
+-- a line on the group alone
+place_stops : (told : Type 0) (d : Doubted) (line : ScriptLine) (s : ℕ) (fails : Fails) (said : Said) (new : Doubted) (w : MissedNote)
+    → GroupEnds told (missed_in w d s) line s fails said new ⊎ CutBelow (missed_in w d s) line s fails said new → RvgStops d new
+place_stops told d line s fails said new w (inl ends) =
+    let stops = group_stops told (missed_in w d s) line s fails said new ends in
+    record { before = missed_in w d s; like = missed_like w d s; events = stops.events; ending = []; stops = stops.stops }
+place_stops told d line s fails said new w (inr cut) =
+    let stops = below_stops told (missed_in w d s) line s fails said new cut in
+    record {
+      before = stops.before;
+      like = doubted_then d (missed_in w d s) stops.before (missed_like w d s) stops.like;
+      events = stops.events;
+      ending = stops.ending;
+      stops = stops.stops;
+    }
+
 module _ (told : Type 0) (is_told : told) (d : Doubted) (s : ℕ) (bright : (note_at (d.world.nodes s)).dark ≡ false) (fails : Fails) (said : Said) (new : Doubted) where
   -- what the disks hold is known, and imports agree, so nothing else is found on them
   pub never_found : (line : ScriptLine) → (note_at (d.world.nodes s)).loose ≡ false → RvgFinds told d line s fails said new → ⊥
@@ -269,10 +286,7 @@ module _ (told : Type 0) (is_told : told) (d : Doubted) (s : ℕ) (bright : (not
 
   by_place : (below : Bool) (line : ScriptLine) → OpensFor d.world line → OverRvgBy below told d line s fails said new
       → RvgStops d new ⊎ RvgFinds told d line s fails said new
-  by_place true line opens (inl ends) =
-      let stops = group_stops told d line s fails said new ends in
-      inl (record { before = d; like = same_doubted d; events = stops.events; ending = []; stops = stops.stops })
-  by_place true line opens (inr cut) = inl (below_stops told d line s fails said new cut)
+  by_place true line opens below = inl (place_stops told d line s fails said new below.missed below.ends)
   by_place false line opens ends = takes_or line opens ends
 
   -- the line ended as events do, or found something on disks of which nothing is known

@@ -3,7 +3,7 @@ use Rattle.std.proofs.Common.{◌≡◌, ◌∙◌, ◌⊎◌, inl, inr, ℕ, Bo
 use Rattle.std.specs.Prelude.{unwrap_or}
 use Rattle.vx_history.proofs.Updates.{at_place}
 use Rattle.vx_history.specs.Doubts.{Doubted}
-use Rattle.vx_history.specs.Groups.{GroupNode}
+use Rattle.vx_history.specs.Groups.{GroupNode, MissedNote}
 use Rattle.vx_history.specs.Steps.{burned, worked_on}
 use Rattle.vx_history.specs.Stops.{IsFused}
 use Rattle.vx_history.specs.World.{NoFuse, Node, World}
@@ -13,16 +13,17 @@ use Rattle.vx_model.specs.declared.units.Units.{Units}
 use Rattle.vx_script.specs.declared.line.ScriptLine.{ScriptLine}
 use Rattle.vx_script.specs.declared.line.ScriptLine.TheVariants.{Apply, GroupImport, Put, Recover, Write}
 use Rattle.vx_events.proofs.KnownLaws.{back_known, cuts_known, finds_none, group_known, group_stays, no_rise, same_note}
+use Rattle.vx_events.proofs.RvgMissed.{missed_dark, missed_note}
 use Rattle.vx_events.specs.Doubts.{with_disks, IsAs}
 use Rattle.vx_events.specs.Fails.{Fails}
-use Rattle.vx_events.specs.GroupEnds.{BringsUp}
+use Rattle.vx_events.specs.GroupEnds.{BringsUp, GroupEnds}
 use Rattle.vx_events.specs.GroupLines.{noting}
 use Rattle.vx_events.specs.GroupNotes.{Reconfigures, no_note, note_at}
 use Rattle.vx_events.specs.Known.{MayDarken}
 use Rattle.vx_events.specs.RvgBack.{FindsNoRvg, FindsPlain, FindsRvg, GetsRvg, GroupCutOff, GroupHeld, GroupUnfound, HadRvg, IsLeftBack, KeptLost, LogCut, LogFails, LogLacks, RestsWithRvg, RvgBack, RvgFinds, RvgUp, fuse_left}
 use Rattle.vx_events.specs.RvgMakes.{IsLeftRvg, MakesRvg, RvgCut, RvgDone, RvgFails, RvgLacks, units_at}
 use Rattle.vx_events.specs.RvgNotes.{NotesNarrowed}
-use Rattle.vx_events.specs.RvgOver.{EndsOrShows, NotesLine, OverRvg, OverRvgBy, ShowFails, ShowsAny, TakesOr, is_below, is_inside, noting_over, fuse_behind}
+use Rattle.vx_events.specs.RvgOver.{CutBelow, EndsOrShows, NotesLine, OverRvg, OverRvgBy, ShowFails, ShowsAny, TakesOr, is_below, is_inside, missed_in, noting_over, fuse_behind}
 use Rattle.vx_events.specs.RvgWorks.{FuseRanOut, NotesWork, WorksAs}
 use Rattle.vx_events.specs.declared.said.Said.{Said}
 
@@ -154,10 +155,22 @@ module _ (told : Type 0) (tells : told) (d : Doubted) (s : ℕ) (known : (note_a
   takes_known (Recover site) free ends = back_or_known (Recover site) free ends
   takes_known other free ends = shows_known (is_inside (d.world.nodes s) other) other ends
 
+  missed_known : (w : MissedNote) (line : ScriptLine) → (MayDarken here line said → ⊥) → GroupEnds told (missed_in w d s) line s fails said new ⊎ CutBelow (missed_in w d s) line s fails said new
+      → (note_at (new.world.nodes s)).dark ≡ false
+  missed_known w line free ends = by ends
+    where
+      same_free : MayDarken (note_at ((missed_in w d s).world.nodes s)) line said → ⊥
+      same_free may = free (subst (λ (k : GroupNode). MayDarken k line said) (missed_note w d s) may)
+
+      by : GroupEnds told (missed_in w d s) line s fails said new ⊎ CutBelow (missed_in w d s) line s fails said new → (note_at (new.world.nodes s)).dark ≡ false
+      by (inl it) = group_known told tells (missed_in w d s) line s fails said new it (missed_dark w d s known) same_free
+      by (inr cut) =
+          back_note s line cut.taken cut.next (missed_in w d s) _ new cut.left
+          (cuts_known s (note_at ((missed_in w d s).world.nodes s)) line fails cut.next (missed_dark w d s known) (no_rise (note_at ((missed_in w d s).world.nodes s)) line said _ cut.says same_free) cut.cuts)
+
   by_known : (below : Bool) (line : ScriptLine) → is_below (d.world.nodes s) line ≡ below → (MayDarken here line said → ⊥) → OverRvgBy below told d line s fails said new
       → (note_at (new.world.nodes s)).dark ≡ false
-  by_known true line is free (inl ends) = group_known told tells d line s fails said new ends known free
-  by_known true line is free (inr cut) = back_note s line cut.taken cut.next d _ new cut.left (cuts_known s here line fails cut.next known (no_rise here line said _ cut.says free) cut.cuts)
+  by_known true line is free below = missed_known below.missed line free below.ends
   by_known false line is free ends = takes_known line free ends
 
   pub over_known : (line : ScriptLine) → (MayDarken here line said → ⊥) → OverRvg told d line s fails said new → (note_at (new.world.nodes s)).dark ≡ false

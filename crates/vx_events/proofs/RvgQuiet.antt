@@ -14,6 +14,7 @@ use Rattle.vx_script.specs.declared.line.ScriptLine.{ScriptLine}
 use Rattle.vx_script.specs.declared.line.ScriptLine.TheVariants.{Apply, GroupInit, GroupDeport, GroupImport, Volume, PlexDetach, PlexAttach, Disk, Crash, Fuse, Recover, Write, Put, Read, Show, Status}
 use Rattle.vx_events.proofs.KnownLaws.{left_note, never}
 use Rattle.vx_events.proofs.RvgEnding.{never_found}
+use Rattle.vx_events.proofs.RvgMissed.{missed_agrees, missed_node}
 use Rattle.vx_events.proofs.RvgStays.{back_group, but_group, each_group, not_below}
 use Rattle.vx_events.specs.Doubts.{IsAs}
 use Rattle.vx_events.specs.Fails.{Fails}
@@ -22,7 +23,7 @@ use Rattle.vx_events.specs.GroupMaps.{WithMaps}
 use Rattle.vx_events.specs.GroupNotes.{NotesBack, NotesRefused, NotesWrite, Reconfigures, no_note, note_at}
 use Rattle.vx_events.specs.RvgBack.{GetsRvg, GroupCutOff, GroupHeld, GroupUnfound, HadRvg, KeptLost, LogCut, LogFails, LogLacks, RestsWithRvg, RvgBack, RvgFinds, RvgUp}
 use Rattle.vx_events.specs.RvgLinks.{LinksOver, NotesThere, works_at}
-use Rattle.vx_events.specs.RvgOver.{EndsOrShows, NotesLine, OverRvg, OverRvgBy, SaysOver, ShowFails, ShowsAny, TakesOr, is_below, is_inside}
+use Rattle.vx_events.specs.RvgOver.{CutBelow, EndsOrShows, NotesLine, OverRvg, OverRvgBy, SaysOver, ShowFails, ShowsAny, TakesOr, is_below, is_inside, missed_in}
 use Rattle.vx_events.specs.RvgViews.{is_over_rvg}
 use Rattle.vx_events.specs.RvgWorks.{FuseRanOut, NoneFailed, NoteAgrees}
 use Rattle.vx_events.specs.declared.said.Said.{Said}
@@ -59,28 +60,48 @@ module _ (told : Type 0) (s : ℕ) (n : Node) (note : GroupNode) (fails : Fails)
   written x w =
       agrees_same w.middle next (ap (λ (g : GroupNode). g.loose) w.is) (ap (λ (g : GroupNode). g.begun) w.is) (settled_maps note w.middle w.moves a)
 
-  does_agree : (line : ScriptLine) → is_below n line ≡ true → GroupDoes told s n note line fails said next → NoteAgrees next
-  does_agree (GroupInit site) below does = absurd (never below)
-  does_agree (GroupDeport site) below does = settled_maps note next does.0 a
-  does_agree (GroupImport site) below does = absurd (never below)
-  does_agree (Volume site volume blocks mirrors layout log map policy) below does =
+  does_agree : (m : Node) (line : ScriptLine) → is_below m line ≡ true → GroupDoes told s n note line fails said next → NoteAgrees next
+  does_agree m (GroupInit site) below does = absurd (never below)
+  does_agree m (GroupDeport site) below does = settled_maps note next does.0 a
+  does_agree m (GroupImport site) below does = absurd (never below)
+  does_agree m (Volume site volume blocks mirrors layout log map policy) below does =
       let x = does.0 in
       let rests = x.settles.tight a.loose a.begun in
       agrees_same x.middle next (ap (λ (g : GroupNode). g.loose) x.zeros.same) (ap (λ (g : GroupNode). g.begun) x.zeros.same) (record { loose = rests.1; begun = rests.0 })
-  does_agree (PlexDetach site volume plex) below does = settled_maps note next does.0 a
-  does_agree (PlexAttach site volume plex) below does = settled_maps note next does.0 a
-  does_agree (Write site volume start count fill) below does = written _ does.0
-  does_agree (Put site volume start bytes) below does = written _ does.0
-  does_agree (Read site volume start count) below does = agrees_note note next does.0 a
-  does_agree (Show site volume start count) below does = agrees_note note next does.0 a
-  does_agree (Recover site) below does = absurd (never below)
-  does_agree (Disk site disk state) below does = agrees_note note next does.0 a
-  does_agree (Crash site pick) below does = agrees_note note next does.0 a
-  does_agree (Fuse site calls pick) below does = agrees_note note next does.0 a
-  does_agree (Status site) below does = agrees_note note next does.0 a
-  does_agree other below does = absurd does
+  does_agree m (PlexDetach site volume plex) below does = settled_maps note next does.0 a
+  does_agree m (PlexAttach site volume plex) below does = settled_maps note next does.0 a
+  does_agree m (Write site volume start count fill) below does = written _ does.0
+  does_agree m (Put site volume start bytes) below does = written _ does.0
+  does_agree m (Read site volume start count) below does = agrees_note note next does.0 a
+  does_agree m (Show site volume start count) below does = agrees_note note next does.0 a
+  does_agree m (Recover site) below does = absurd (never below)
+  does_agree m (Disk site disk state) below does = agrees_note note next does.0 a
+  does_agree m (Crash site pick) below does = agrees_note note next does.0 a
+  does_agree m (Fuse site calls pick) below does = agrees_note note next does.0 a
+  does_agree m (Status site) below does = agrees_note note next does.0 a
+  does_agree m other below does = absurd does
 
 -- ---- a line at such a site
+
+-- a line on the group alone, whose kind is known by any node
+module _ (told : Type 0) (d : Doubted) (s : ℕ) (fails : Fails) (said : Said) (new : Doubted) (none : NoneFailed s fails) (dry : FuseRanOut (d.world.nodes s) said → ⊥)
+    (a : NoteAgrees (note_at (d.world.nodes s))) where
+  group_agrees : (m : Node) (line : ScriptLine) → is_below m line ≡ true → GroupEnds told d line s fails said new → NoteAgrees (note_at (new.world.nodes s))
+  group_agrees m line below (GroupDone next are does left) =
+      agrees_at (new.world.nodes s) next (left_note s line next _ new left) (does_agree told s (d.world.nodes s) (note_at (d.world.nodes s)) fails said next a m line below does)
+  group_agrees m line below (GroupLacks why wants without says left) = agrees_at (new.world.nodes s) (note_at (d.world.nodes s)) (left_note s line (note_at (d.world.nodes s)) d new left) a
+  group_agrees m line below (GroupFails disk next are has spoils says left) = absurd (none disk has)
+  group_agrees m line below (InitFails disk site is are has says left) = absurd (none disk has)
+  group_agrees m line below (ImportFails why next site is are refuses begun says left) = absurd (not_below m line (subst BringsUp (sym is) tt) below)
+  group_agrees m line below (KeptUnread disk next site is are has back says left) = absurd (none disk has)
+  group_agrees m line below (GroupCut next are fused cuts says left) = absurd (dry (fused, says))
+  group_agrees m line below (GroupNotFound why next are brings not leaves says left) = absurd (not_below m line brings below)
+  group_agrees m line below (FindsGroup next are brings unknown dark says left) = absurd (not_below m line brings below)
+  group_agrees m line below (FindsNoGroup next why are brings unknown device refused says left) = absurd (not_below m line brings below)
+
+  place_agrees : (m : Node) (line : ScriptLine) → is_below m line ≡ true → GroupEnds told d line s fails said new ⊎ CutBelow d line s fails said new → NoteAgrees (note_at (new.world.nodes s))
+  place_agrees m line is (inl ends) = group_agrees m line is ends
+  place_agrees m line is (inr cut) = absurd (dry (cut.fused, cut.says))
 
 module _ (told : Type 0) (tells : told) (d : Doubted) (s : ℕ) (fails : Fails) (said : Said) (new : Doubted) (none : NoneFailed s fails)
     (dry : FuseRanOut (d.world.nodes s) said → ⊥) (bright : (note_at (d.world.nodes s)).dark ≡ false) (a : NoteAgrees (note_at (d.world.nodes s))) where
@@ -89,19 +110,6 @@ module _ (told : Type 0) (tells : told) (d : Doubted) (s : ℕ) (fails : Fails) 
 
   worked : IsAs d (worked_on d.world s) new → NoteAgrees (note_at (new.world.nodes s))
   worked left = subst (λ (w : World). NoteAgrees (note_at (w.nodes s))) (sym left.world) (subst (λ (k : GroupNode). NoteAgrees k) (sym (worked_note d.world s)) a)
-
-  group_agrees : (line : ScriptLine) → is_below (d.world.nodes s) line ≡ true → GroupEnds told d line s fails said new → NoteAgrees (note_at (new.world.nodes s))
-  group_agrees line below (GroupDone next are does left) =
-      agrees_at (new.world.nodes s) next (left_note s line next _ new left) (does_agree told s (d.world.nodes s) here fails said next a line below does)
-  group_agrees line below (GroupLacks why wants without says left) = agrees_at (new.world.nodes s) here (left_note s line here d new left) a
-  group_agrees line below (GroupFails disk next are has spoils says left) = absurd (none disk has)
-  group_agrees line below (InitFails disk site is are has says left) = absurd (none disk has)
-  group_agrees line below (ImportFails why next site is are refuses begun says left) = absurd (not_below (d.world.nodes s) line (subst BringsUp (sym is) tt) below)
-  group_agrees line below (KeptUnread disk next site is are has back says left) = absurd (none disk has)
-  group_agrees line below (GroupCut next are fused cuts says left) = absurd (dry (fused, says))
-  group_agrees line below (GroupNotFound why next are brings not leaves says left) = absurd (not_below (d.world.nodes s) line brings below)
-  group_agrees line below (FindsGroup next are brings unknown dark says left) = absurd (not_below (d.world.nodes s) line brings below)
-  group_agrees line below (FindsNoGroup next why are brings unknown device refused says left) = absurd (not_below (d.world.nodes s) line brings below)
 
   -- a group that came up
   came_agrees : (line : ScriptLine) (kept : ℕ) (middle found : GroupNode) (from : Doubted) (rest : List Event) → NotesBack told s (d.world.nodes s) fails here middle
@@ -154,8 +162,9 @@ module _ (told : Type 0) (tells : told) (d : Doubted) (s : ℕ) (fails : Fails) 
   takes_agree other ends = shows_agree (is_inside (d.world.nodes s) other) other ends
 
   by_place : (below : Bool) (line : ScriptLine) → is_below (d.world.nodes s) line ≡ below → OverRvgBy below told d line s fails said new → NoteAgrees (note_at (new.world.nodes s))
-  by_place true line is (inl ends) = group_agrees line is ends
-  by_place true line is (inr cut) = absurd (dry (cut.fused, cut.says))
+  by_place true line is below =
+      let w : MissedNote = below.missed in
+      place_agrees told (missed_in w d s) s fails said new none (λ off. dry (subst (λ (n : Node). FuseRanOut n said) (missed_node w d s) off)) (missed_agrees w d s a) (d.world.nodes s) line is below.ends
   by_place false line is ends = takes_agree line ends
 
   pub over_agrees : (line : ScriptLine) → OverRvg told d line s fails said new → NoteAgrees (note_at (new.world.nodes s))

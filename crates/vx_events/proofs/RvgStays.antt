@@ -19,6 +19,7 @@ use Rattle.vx_events.proofs.KnownLaws.{group_stays, left_note, never}
 use Rattle.vx_events.proofs.Places.{some_same}
 use Rattle.vx_events.proofs.RvgConfigs.{adds_keeps, again_keeps, closed_keeps, keeps_self, keeps_then, loses_keeps, puts_or, stayed}
 use Rattle.vx_events.proofs.RvgEvents.{rvg_apart}
+use Rattle.vx_events.proofs.RvgMissed.{missed_keeps}
 use Rattle.vx_events.proofs.RvgKnown.{back_dark, lost_group, noted_here, noted_over_here, worked_note}
 use Rattle.vx_events.specs.Doubts.{IsAs, with_disks}
 use Rattle.vx_events.specs.Fails.{Fails}
@@ -31,7 +32,7 @@ use Rattle.vx_events.specs.GroupViews.{config_of}
 use Rattle.vx_events.specs.RvgBack.{FindsNoRvg, FindsPlain, FindsRvg, GetsRvg, GroupCutOff, GroupHeld, GroupUnfound, HadRvg, IsLeftBack, IsLeftBut, KeptLost, LogCut, LogFails, LogLacks, RestsWithRvg, RvgBack, RvgFinds, RvgUp}
 use Rattle.vx_events.specs.RvgFits.{KeepsRvg, KeptConfig, NoteKeepsRvg, config_rvg, rvg_noted}
 use Rattle.vx_events.specs.RvgLinks.{LinksOver, NotesThere, noting_each, works_at, noted_there}
-use Rattle.vx_events.specs.RvgOver.{EndsOrShows, NotesLine, OverRvg, OverRvgBy, ShowFails, ShowsAny, TakesOr, is_below, is_inside}
+use Rattle.vx_events.specs.RvgOver.{CutBelow, EndsOrShows, NotesLine, OverRvg, OverRvgBy, ShowFails, ShowsAny, TakesOr, is_below, is_inside, missed_in}
 use Rattle.vx_events.specs.RvgViews.{is_over_rvg}
 use Rattle.vx_events.specs.RvgWorks.{NotesWork, FuseRanOut, WorksCut}
 use Rattle.vx_events.specs.declared.said.Said.{Said}
@@ -116,31 +117,31 @@ not_below n (GroupImport site) brings below = never below
 not_below n (Recover site) brings below = never below
 not_below n other brings below = absurd brings
 
-does_keeps : (told : Type 0) (s : ℕ) (n : Node) (note : GroupNode) (line : ScriptLine) (fails : Fails) (said : Said) (next : GroupNode) → is_below n line ≡ true
+does_keeps : (told : Type 0) (s : ℕ) (m n : Node) (note : GroupNode) (line : ScriptLine) (fails : Fails) (said : Said) (next : GroupNode) → is_below m line ≡ true
     → GroupDoes told s n note line fails said next → NoteKeepsRvg note next
-does_keeps told s n note (GroupInit site) fails said next below does = absurd (never below)
-does_keeps told s n note (GroupDeport site) fails said next below does =
+does_keeps told s m n note (GroupInit site) fails said next below does = absurd (never below)
+does_keeps told s m n note (GroupDeport site) fails said next below does =
     mapped_by note next
     (λ c d x.
     keeps_then c (opened_again c) d (again_keeps c)
     (keeps_then (opened_again c) (opened_again d) d (loses_keeps (λ _. false) s fails (opened_again c) (opened_again d) x) (closed_keeps d))) does.0
-does_keeps told s n note (GroupImport site) fails said next below does = absurd (never below)
-does_keeps told s n note (Volume site volume blocks mirrors layout log map policy) fails said next below does = with_volume_more s fails volume _ note next does.0
-does_keeps told s n note (PlexDetach site volume plex) fails said next below does =
+does_keeps told s m n note (GroupImport site) fails said next below does = absurd (never below)
+does_keeps told s m n note (Volume site volume blocks mirrors layout log map policy) fails said next below does = with_volume_more s fails volume _ note next does.0
+does_keeps told s m n note (PlexDetach site volume plex) fails said next below does =
     mapped_by note next (λ c d x. puts_or (λ _. false) s fails (plain_number note volume) plex Stale c d (inr x)) does.0
-does_keeps told s n note (PlexAttach site volume plex) fails said next below does =
+does_keeps told s m n note (PlexAttach site volume plex) fails said next below does =
     mapped_by note next
     (λ c d x. puts_or (lies_on_disk c (plain_number note volume) plex) s fails (plain_number note volume) plex Active c d (inr x)) does.0
-does_keeps told s n note (Write site volume start count fill) fails said next below does = written s fails _ note next does.0
-does_keeps told s n note (Put site volume start bytes) fails said next below does = written s fails _ note next does.0
-does_keeps told s n note (Read site volume start count) fails said next below does = same_note note next does.0
-does_keeps told s n note (Show site volume start count) fails said next below does = same_note note next does.0
-does_keeps told s n note (Recover site) fails said next below does = absurd (never below)
-does_keeps told s n note (Disk site disk state) fails said next below does = same_note note next does.0
-does_keeps told s n note (Crash site pick) fails said next below does = same_note note next does.0
-does_keeps told s n note (Fuse site calls pick) fails said next below does = same_note note next does.0
-does_keeps told s n note (Status site) fails said next below does = same_note note next does.0
-does_keeps told s n note other fails said next below does = absurd does
+does_keeps told s m n note (Write site volume start count fill) fails said next below does = written s fails _ note next does.0
+does_keeps told s m n note (Put site volume start bytes) fails said next below does = written s fails _ note next does.0
+does_keeps told s m n note (Read site volume start count) fails said next below does = same_note note next does.0
+does_keeps told s m n note (Show site volume start count) fails said next below does = same_note note next does.0
+does_keeps told s m n note (Recover site) fails said next below does = absurd (never below)
+does_keeps told s m n note (Disk site disk state) fails said next below does = same_note note next does.0
+does_keeps told s m n note (Crash site pick) fails said next below does = same_note note next does.0
+does_keeps told s m n note (Fuse site calls pick) fails said next below does = same_note note next does.0
+does_keeps told s m n note (Status site) fails said next below does = same_note note next does.0
+does_keeps told s m n note other fails said next below does = absurd does
 
 spoils_keeps : (s : ℕ) (note : GroupNode) (line : ScriptLine) (fails : Fails) (next : GroupNode) → GroupSpoils s note line fails next → NoteKeepsRvg note next
 spoils_keeps s note (GroupDeport site) fails next spoils = loses_mapped s fails note next spoils
@@ -179,21 +180,21 @@ module _ (told : Type 0) (d : Doubted) (line : ScriptLine) (s : ℕ) (fails : Fa
       subst (λ (w : World). NoteKeepsRvg (note_at (d.world.nodes s)) (note_at (w.nodes s))) (sym left.world)
       (subst (λ (k : GroupNode). NoteKeepsRvg (note_at (d.world.nodes s)) k) (sym (worked_note d.world s)) (same_config noted noted refl))
 
-  group_keeps : is_below (d.world.nodes s) line ≡ true → GroupEnds told d line s fails said new
+  group_keeps : (m : Node) → is_below m line ≡ true → GroupEnds told d line s fails said new
       → NoteKeepsRvg (note_at (d.world.nodes s)) (note_at (new.world.nodes s))
-  group_keeps below (GroupDone next are does left) =
-      by_note (new.world.nodes s) noted next (left_note s line next _ new left) (does_keeps told s (d.world.nodes s) noted line fails said next below does)
-  group_keeps below (GroupLacks why wants none says left) = by_note (new.world.nodes s) noted noted (left_note s line noted d new left) (same_config noted noted refl)
-  group_keeps below (GroupFails disk next are has spoils says left) =
+  group_keeps m below (GroupDone next are does left) =
+      by_note (new.world.nodes s) noted next (left_note s line next _ new left) (does_keeps told s m (d.world.nodes s) noted line fails said next below does)
+  group_keeps m below (GroupLacks why wants none says left) = by_note (new.world.nodes s) noted noted (left_note s line noted d new left) (same_config noted noted refl)
+  group_keeps m below (GroupFails disk next are has spoils says left) =
       by_note (new.world.nodes s) noted next (left_note s line next _ new left) (spoils_keeps s noted line fails next spoils)
-  group_keeps below (InitFails disk site is are has says left) = unchanged left
-  group_keeps below (ImportFails why next site is are refuses begun says left) = absurd (not_below (d.world.nodes s) line (subst BringsUp (sym is) tt) below)
-  group_keeps below (KeptUnread disk next site is are has back says left) = absurd (not_below (d.world.nodes s) line (subst BringsUp (sym is) tt) below)
-  group_keeps below (GroupCut next are fused cuts says left) =
+  group_keeps m below (InitFails disk site is are has says left) = unchanged left
+  group_keeps m below (ImportFails why next site is are refuses begun says left) = absurd (not_below m line (subst BringsUp (sym is) tt) below)
+  group_keeps m below (KeptUnread disk next site is are has back says left) = absurd (not_below m line (subst BringsUp (sym is) tt) below)
+  group_keeps m below (GroupCut next are fused cuts says left) =
       by_note (new.world.nodes s) noted next (left_note s line next _ new left) (cuts_keeps s noted line fails next cuts)
-  group_keeps below (GroupNotFound why next are brings not leaves says left) = absurd (not_below (d.world.nodes s) line brings below)
-  group_keeps below (FindsGroup next are brings unknown dark says left) = absurd (not_below (d.world.nodes s) line brings below)
-  group_keeps below (FindsNoGroup next why are brings unknown device refused says left) = absurd (not_below (d.world.nodes s) line brings below)
+  group_keeps m below (GroupNotFound why next are brings not leaves says left) = absurd (not_below m line brings below)
+  group_keeps m below (FindsGroup next are brings unknown dark says left) = absurd (not_below m line brings below)
+  group_keeps m below (FindsNoGroup next why are brings unknown device refused says left) = absurd (not_below m line brings below)
 
 -- ---- recoveries and imports
 
@@ -303,6 +304,14 @@ module _ (told : Type 0) (d : Doubted) (line : ScriptLine) (s : ℕ) (fails : Fa
   shows_keeps false h =
       by_note (new.world.nodes s) here h.next (ap (λ (w : World). (w.nodes s).group) h.left.world ∙ noted_over_here line d.world h.middle.world s h.next) (line_keeps (FuseRanOut (d.world.nodes s) h.inner) line h.next h.notes)
 
+-- a line on the group alone, whose kind is known by any node
+place_keeps : (told : Type 0) (d : Doubted) (line : ScriptLine) (s : ℕ) (fails : Fails) (said : Said) (new : Doubted) (m : Node) → is_below m line ≡ true
+    → GroupEnds told d line s fails said new ⊎ CutBelow d line s fails said new → NoteKeepsRvg (note_at (d.world.nodes s)) (note_at (new.world.nodes s))
+place_keeps told d line s fails said new m is (inl ends) = group_keeps told d line s fails said new m is ends
+place_keeps told d line s fails said new m is (inr cut) =
+    by_note (new.world.nodes s) (note_at (d.world.nodes s)) cut.next (back_group s line cut.taken cut.next d _ new cut.left)
+    (cuts_keeps s (note_at (d.world.nodes s)) line fails cut.next cut.cuts)
+
 module _ (told : Type 0) (d : Doubted) (s : ℕ) (fails : Fails) (said : Said) (new : Doubted) (over : is_over_rvg (d.world.nodes s) ≡ true) where
   abbrev Stays : Type 0
   Stays = NoteKeepsRvg (note_at (d.world.nodes s)) (note_at (new.world.nodes s))
@@ -318,11 +327,7 @@ module _ (told : Type 0) (d : Doubted) (s : ℕ) (fails : Fails) (said : Said) (
 
   by_place : (below : Bool) (line : ScriptLine) → is_below (d.world.nodes s) line ≡ below → OverRvgBy below told d line s fails said new
       → Stays ⊎ RvgFinds told d line s fails said new
-  by_place true line is (inl ends) = inl (group_keeps told d line s fails said new is ends)
-  by_place true line is (inr cut) =
-      inl
-      (by_note (new.world.nodes s) (note_at (d.world.nodes s)) cut.next (back_group s line cut.taken cut.next d _ new cut.left)
-      (cuts_keeps s (note_at (d.world.nodes s)) line fails cut.next cut.cuts))
+  by_place true line is below = inl (missed_keeps below.missed d s (note_at (new.world.nodes s)) (place_keeps told (missed_in below.missed d s) line s fails said new (d.world.nodes s) is below.ends))
   by_place false line is ends = takes_stays line ends
 
   -- the line left it noted so, or found something on disks of which nothing is known

@@ -3,7 +3,8 @@
 use Rattle.std.specs.Prelude.{◌≡◌, ◌⊎◌, ℕ, ◌*◌, ◌<◌, Bool, true, false, List, [], ◌∷◌, ◌++◌, Option, Some, None, length, slice_get, unwrap_or, Contains}
 use Rattle.vx_model.specs.declared.no.No.TheVariants.{Device, Down as IsOff}
 use Rattle.vx_history.specs.Doubts.{Doubted}
-use Rattle.vx_history.specs.Groups.{GroupNode}
+use Rattle.vx_history.specs.Groups.{GroupNode, MissedNote}
+use Rattle.vx_history.specs.Missing.{with_maps}
 use Rattle.vx_history.specs.Stops.{IsFused, IsOpen}
 use Rattle.vx_history.specs.Steps.{burned, worked_on}
 use Rattle.vx_history.specs.World.{Fuse, FuseLit, FuseSet, NoFuse, Node, World, with_node}
@@ -21,6 +22,7 @@ use Rattle.vx_events.specs.GroupEnds.{AreOf, GroupCuts, GroupEnds}
 use Rattle.vx_events.specs.GroupLines.{group_noted, noting}
 use Rattle.vx_events.specs.GroupNotes.{IsKnown, note_at}
 use Rattle.vx_events.specs.RvgBack.{RvgBack, RvgFinds}
+use Rattle.vx_events.specs.RvgMakes.{noting_in}
 use Rattle.vx_events.specs.RvgViews.{over_disks, table_at}
 use Rattle.vx_events.specs.RvgWorks.{NotesWork, FuseRanOut}
 use Rattle.vx_events.specs.declared.said.Said.{Said}
@@ -148,9 +150,19 @@ TakesOr told d (GroupImport site) s fails said new = RvgBack told d (GroupImport
 TakesOr told d (Recover site) s fails said new = RvgBack told d (Recover site) s fails said new ⊎ RvgFinds told d (Recover site) s fails said new
 TakesOr told d other s fails said new = EndsOrShows (is_inside (d.world.nodes s) other) told d other s fails said new
 
--- a line on the group alone, or another one
+-- the worlds in which the site notes this of the regions that plexes of its group missed
+abbrev pub missed_in : MissedNote → Doubted → ℕ → Doubted
+missed_in w d s = noting_in d s (with_maps w (note_at (d.world.nodes s)))
+
+-- A line on the group alone ends as at a group without a replicated volume group, or its fuse ran out. What plexes missed as it begins, and the serial, are not
+-- noted where calls of a replicated volume group change them: it may be anything.
+pub record BelowEnds (told : Type 0) (d : Doubted) (line : ScriptLine) (s : ℕ) (fails : Fails) (said : Said) (new : Doubted) : Type 0 where
+  pub missed : MissedNote
+  pub ends : GroupEnds told (missed_in missed d s) line s fails said new ⊎ CutBelow (missed_in missed d s) line s fails said new
+
+-- such a line, or another one
 abbrev pub OverRvgBy : (below : Bool) → Type 0 → Doubted → ScriptLine → ℕ → Fails → Said → Doubted → Type 0
-OverRvgBy true told d line s fails said new = GroupEnds told d line s fails said new ⊎ CutBelow d line s fails said new
+OverRvgBy true told d line s fails said new = BelowEnds told d line s fails said new
 OverRvgBy false told d line s fails said new = TakesOr told d line s fails said new
 
 -- a line at site s over a group with a replicated volume group, but for those on links

@@ -1,10 +1,11 @@
 -- However a line ends that is no refused recovery or import, it stays known what the disks of all groups hold, where imports agree of a group that it brings up.
-use Rattle.std.proofs.Common.{◌≡◌, ◌∙◌, inl, inr, ℕ, List, [], ◌∷◌, ◌++◌, Bool, true, false, ap, sym, subst}
+use Rattle.std.proofs.Common.{◌≡◌, ◌∙◌, ◌⊎◌, inl, inr, ℕ, List, [], ◌∷◌, ◌++◌, Bool, true, false, ap, sym, subst}
 use Rattle.std.specs.Prelude.{Option, Some, None, unwrap_or}
 use Rattle.vx_model.specs.declared.no.No.{No}
 use Rattle.vx_history.proofs.Updates.{by_test}
 use Rattle.vx_history.specs.Doubts.{Doubted, crashed_as, halved}
-use Rattle.vx_history.specs.Groups.{GroupNode}
+use Rattle.vx_history.specs.Groups.{GroupNode, MissedNote}
+use Rattle.vx_history.specs.Missing.{with_maps}
 use Rattle.vx_history.specs.World.{Node, World}
 use Rattle.vx_history.specs.declared.event.Event.{Event}
 use Rattle.vx_history.specs.declared.event.Event.TheVariants.{Crash as CrashAt, Fault, Recover as RecoverAt}
@@ -32,7 +33,7 @@ use Rattle.vx_events.specs.RvgBack.{GetsRvg, GroupCutOff, GroupHeld, GroupUnfoun
 use Rattle.vx_events.specs.RvgLinks.{AllKnown, LinksOver, NotesThere, links_rvg, noting_each, works_at, noted_there}
 use Rattle.vx_events.specs.RvgMakes.{IsLeftRvg, MakesRvg, RvgCut, RvgDone, RvgFails, RvgLacks, noting_in, units_at}
 use Rattle.vx_events.specs.RvgNotes.{volume_events}
-use Rattle.vx_events.specs.RvgOver.{EndsOrShows, OverRvg, OverRvgBy, ShowFails, ShowsAny, TakesOr, is_below, is_inside, noting_over, fuse_behind}
+use Rattle.vx_events.specs.RvgOver.{CutBelow, EndsOrShows, OverRvg, OverRvgBy, ShowFails, ShowsAny, TakesOr, is_below, is_inside, missed_in, noting_over, fuse_behind}
 use Rattle.vx_events.specs.RvgSteps.{AsBefore, FoundOne, FullBy, Gained, StepFull, WorksAbove, WorksBeside, WorksFull, is_for_rvg, rvg_place}
 use Rattle.vx_events.specs.RvgViews.{is_over_rvg}
 use Rattle.vx_events.specs.RvgWorks.{FuseRanOut}
@@ -132,30 +133,37 @@ by_kind told tells false d line fails said new b ends = ends_bright told tells d
 
 -- ---- lines at a site over a group
 
+-- a line that is refused brings no group up
+loud : (said : Said) (line : ScriptLine) (why : No) → (IsHeldDown line said → ⊥) → said ≡ Refused why → BringsUp line → ⊥
+loud said line why held says brings = held (brings, subst SaysNo (sym says) tt)
+
+group_bright : (d : Doubted) → AllBright d → (fails : Fails) (said : Said) (new : Doubted) (told : Type 0) (line : ScriptLine) (s : ℕ) → (IsHeldDown line said → ⊥) → IsBright (new.world.nodes s) → GroupEnds told d line s fails said new → AllBright new
+group_bright d b fails said new told line s held here (GroupDone next are does left) =
+    over_bright s line next (run_as false d (group_events (d.world.nodes s) s line)) new left here (run_bright false d (group_events (d.world.nodes s) s line) b)
+group_bright d b fails said new told line s held here (GroupLacks why wants none says left) = over_bright s line (note_at (d.world.nodes s)) d new left here b
+group_bright d b fails said new told line s held here (GroupFails disk next are has spoils says left) =
+    over_bright s line next (run_as false d (refused_events (d.world.nodes s) s line)) new left here (run_bright false d (refused_events (d.world.nodes s) s line) b)
+group_bright d b fails said new told line s held here (InitFails disk site is are has says left) = same_bright d new left b
+group_bright d b fails said new told line s held here (ImportFails why next site is are refuses notes says left) = absurd (loud said line why held says (subst BringsUp (sym is) tt))
+group_bright d b fails said new told line s held here (KeptUnread disk next site is are has back says left) =
+    over_bright s line next (run_as false d (unread_events (d.world.nodes s) s)) new left here (run_bright false d (unread_events (d.world.nodes s) s) b)
+group_bright d b fails said new told line s held here (GroupCut next are fused cuts says left) =
+    over_bright s line next (run_as false d (cut_events s line)) new left here (run_bright false d (cut_events s line) b)
+group_bright d b fails said new told line s held here (GroupNotFound why next are brings not leaves says left) =
+    over_bright s line next (run_as false d (refused_events (d.world.nodes s) s line)) new left here (run_bright false d (refused_events (d.world.nodes s) s line) b)
+group_bright d b fails said new told line s held here (FindsGroup next are brings unknown dark says left) =
+    over_bright s line next (run_as false d (group_events (d.world.nodes s) s line)) new left here (run_bright false d (group_events (d.world.nodes s) s line) b)
+group_bright d b fails said new told line s held here (FindsNoGroup next why are brings unknown device notes says left) =
+    over_bright s line next (run_as false d (refused_events (d.world.nodes s) s line)) new left here (run_bright false d (refused_events (d.world.nodes s) s line) b)
+
+-- one on the group alone
+place_bright : (d : Doubted) → AllBright d → (fails : Fails) (said : Said) (new : Doubted) (told : Type 0) (line : ScriptLine) (s : ℕ) → (IsHeldDown line said → ⊥) → IsBright (new.world.nodes s)
+    → GroupEnds told d line s fails said new ⊎ CutBelow d line s fails said new → AllBright new
+place_bright d b fails said new told line s held here (inl ends) = group_bright d b fails said new told line s held here ends
+place_bright d b fails said new told line s held here (inr cut) =
+    back_bright s line cut.taken cut.next d (run_as cut.taken d (CrashAt s cut.kept ∷ [])) new cut.left here b (run_bright cut.taken d (CrashAt s cut.kept ∷ []) b)
+
 module _ (told : Type 0) (tells : told) (d : Doubted) (b : AllBright d) (fails : Fails) (said : Said) (new : Doubted) where
-  -- a line that is refused brings no group up
-  loud : (line : ScriptLine) (why : No) → (IsHeldDown line said → ⊥) → said ≡ Refused why → BringsUp line → ⊥
-  loud line why held says brings = held (brings, subst SaysNo (sym says) tt)
-
-  group_bright : (line : ScriptLine) (s : ℕ) → (IsHeldDown line said → ⊥) → IsBright (new.world.nodes s) → GroupEnds told d line s fails said new → AllBright new
-  group_bright line s held here (GroupDone next are does left) =
-      over_bright s line next (run_as false d (group_events (d.world.nodes s) s line)) new left here (run_bright false d (group_events (d.world.nodes s) s line) b)
-  group_bright line s held here (GroupLacks why wants none says left) = over_bright s line (note_at (d.world.nodes s)) d new left here b
-  group_bright line s held here (GroupFails disk next are has spoils says left) =
-      over_bright s line next (run_as false d (refused_events (d.world.nodes s) s line)) new left here (run_bright false d (refused_events (d.world.nodes s) s line) b)
-  group_bright line s held here (InitFails disk site is are has says left) = same_bright d new left b
-  group_bright line s held here (ImportFails why next site is are refuses notes says left) = absurd (loud line why held says (subst BringsUp (sym is) tt))
-  group_bright line s held here (KeptUnread disk next site is are has back says left) =
-      over_bright s line next (run_as false d (unread_events (d.world.nodes s) s)) new left here (run_bright false d (unread_events (d.world.nodes s) s) b)
-  group_bright line s held here (GroupCut next are fused cuts says left) =
-      over_bright s line next (run_as false d (cut_events s line)) new left here (run_bright false d (cut_events s line) b)
-  group_bright line s held here (GroupNotFound why next are brings not leaves says left) =
-      over_bright s line next (run_as false d (refused_events (d.world.nodes s) s line)) new left here (run_bright false d (refused_events (d.world.nodes s) s line) b)
-  group_bright line s held here (FindsGroup next are brings unknown dark says left) =
-      over_bright s line next (run_as false d (group_events (d.world.nodes s) s line)) new left here (run_bright false d (group_events (d.world.nodes s) s line) b)
-  group_bright line s held here (FindsNoGroup next why are brings unknown device notes says left) =
-      over_bright s line next (run_as false d (refused_events (d.world.nodes s) s line)) new left here (run_bright false d (refused_events (d.world.nodes s) s line) b)
-
   -- the worlds from which the log of a group that came up comes up
   pub from_bright : (line : ScriptLine) (s kept : ℕ) (middle next : GroupNode) (from : Doubted) (rest : List Event) → next.dark ≡ false
       → RestsWithRvg d line s kept middle next from rest → AllBright from
@@ -170,15 +178,15 @@ module _ (told : Type 0) (tells : told) (d : Doubted) (b : AllBright d) (fails :
       let start : AllBright from = from_bright line s kept middle found from rest (sym (works_dark ⊥ s fails found next works) ∙ known) rests in
       back_bright s line taken next from last new left here start (run_bright taken from (rest ++ RecoverAt s None ∷ []) start)
   rises_bright line s held here (LogFails kept taken disk middle found next from rest events are has brings back rests is begun says left) =
-      absurd (loud line _ held says brings)
-  rises_bright line s held here (LogLacks kept taken middle found next from rest are brings back rests is lacks says left) = absurd (loud line _ held says brings)
+      absurd (loud said line _ held says brings)
+  rises_bright line s held here (LogLacks kept taken middle found next from rest are brings back rests is lacks says left) = absurd (loud said line _ held says brings)
   rises_bright line s held here (KeptLost kept taken disk middle found next from rest site is are has back rests noted says left) =
-      absurd (loud line _ held says (subst BringsUp (sym is) tt))
+      absurd (loud said line _ held says (subst BringsUp (sym is) tt))
   rises_bright line s held here (LogCut middle found next from rest events site is are fused back rests noted begun says left) =
-      absurd (loud line _ held says (subst BringsUp (sym is) tt))
-  rises_bright line s held here (GroupCutOff next site is has are fused notes says left) = absurd (loud line _ held says (subst BringsUp (sym is) tt))
-  rises_bright line s held here (GroupUnfound kept taken lost why next has are brings not leaves says left) = absurd (loud line why held says brings)
-  rises_bright line s held here (GroupHeld kept taken lost disk next has are failed brings notes says left) = absurd (loud line _ held says brings)
+      absurd (loud said line _ held says (subst BringsUp (sym is) tt))
+  rises_bright line s held here (GroupCutOff next site is has are fused notes says left) = absurd (loud said line _ held says (subst BringsUp (sym is) tt))
+  rises_bright line s held here (GroupUnfound kept taken lost why next has are brings not leaves says left) = absurd (loud said line why held says brings)
+  rises_bright line s held here (GroupHeld kept taken lost disk next has are failed brings notes says left) = absurd (loud said line _ held says brings)
 
   -- where imports agree, and the line is no refused one that brings a group up, its site stays known
   dim : (line : ScriptLine) (s : ℕ) → (BringsUp line → (note_at (d.world.nodes s)).loose ≡ false) → (IsHeldDown line said → ⊥)
@@ -209,18 +217,18 @@ module _ (told : Type 0) (tells : told) (d : Doubted) (b : AllBright d) (fails :
   takes_bright (Recover site) s held agree here (inr finds) = absurd (never_found told tells d s (b.sites s) fails said new (Recover site) (agree tt) finds)
   takes_bright other s held agree here ends = shows_bright (is_inside (d.world.nodes s) other) other s here ends
 
-  place_bright : (below : Bool) (line : ScriptLine) (s : ℕ) → (IsHeldDown line said → ⊥) → (BringsUp line → (note_at (d.world.nodes s)).loose ≡ false)
+  place_or : (below : Bool) (line : ScriptLine) (s : ℕ) → (IsHeldDown line said → ⊥) → (BringsUp line → (note_at (d.world.nodes s)).loose ≡ false)
       → IsBright (new.world.nodes s) → OverRvgBy below told d line s fails said new → AllBright new
-  place_bright true line s held agree here (inl ends) = group_bright line s held here ends
-  place_bright true line s held agree here (inr cut) =
-      back_bright s line cut.taken cut.next d (run_as cut.taken d (CrashAt s cut.kept ∷ [])) new cut.left here b (run_bright cut.taken d (CrashAt s cut.kept ∷ []) b)
-  place_bright false line s held agree here ends = takes_bright line s held agree here ends
+  place_or true line s held agree here below =
+      let w : MissedNote = below.missed in
+      place_bright (missed_in w d s) (in_bright d s (with_maps w (note_at (d.world.nodes s))) (b.sites s) b) fails said new told line s held here below.ends
+  place_or false line s held agree here ends = takes_bright line s held agree here ends
 
   over_rvg_bright : (line : ScriptLine) (s : ℕ) → (IsHeldDown line said → ⊥) → (BringsUp line → (note_at (d.world.nodes s)).loose ≡ false)
       → OverRvg told d line s fails said new → AllBright new
   over_rvg_bright line s held agree ends =
       let here : IsBright (new.world.nodes s) = over_known told tells d s (b.sites s) fails said new line (dim line s agree held) ends in
-      place_bright (is_below (d.world.nodes s) line) line s held agree here ends
+      place_or (is_below (d.world.nodes s) line) line s held agree here ends
 
   -- ---- a line that makes one, and lines of links
 
@@ -254,7 +262,7 @@ module _ (told : Type 0) (tells : told) (d : Doubted) (b : AllBright d) (fails :
       by_group : (group : Bool) → WorksOver group told d line fails said new → AllBright new
       by_group true ends =
           let s : ℕ = group_place d.world line in
-          group_bright line s held (group_known told tells d line s fails said new ends (b.sites s) (dim line s agree held)) ends
+          group_bright d b fails said new told line s held (group_known told tells d line s fails said new ends (b.sites s) (dim line s agree held)) ends
       by_group false (inl step) = by_kind told tells (is_of_links line) d line fails said new b step.ends
       by_group false (inr kept) = absurd (kept.untold tells)
   beside_bright line held agree (Gained back) =

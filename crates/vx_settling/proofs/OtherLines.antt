@@ -1,12 +1,13 @@
 -- However a line ends, a site that is more than bare and at which it does not work notes of its group what it noted.
-use Rattle.std.proofs.Common.{◌≡◌, ◌∙◌, inl, inr, ℕ, List, [], ◌∷◌, ◌++◌, Bool, true, false, refl, ap, sym, subst}
+use Rattle.std.proofs.Common.{◌≡◌, ◌∙◌, ◌⊎◌, inl, inr, ℕ, List, [], ◌∷◌, ◌++◌, Bool, true, false, refl, ap, sym, subst}
 use Rattle.std.specs.Prelude.{eqb, not, length, is_some, ◌&&◌, ◌||◌, Option, Some, None, unwrap_or}
 use Rattle.vx_model.specs.declared.no.No.{No}
 use Rattle.vx_history.proofs.Updates.{by_test, eqb_apart}
 use Rattle.vx_history.specs.Doubts.{Doubted, crashed_as, halved}
 use Rattle.vx_history.specs.Events.{with_write}
 use Rattle.vx_history.specs.Good.{IsMade}
-use Rattle.vx_history.specs.Groups.{GroupNode}
+use Rattle.vx_history.specs.Groups.{GroupNode, MissedNote}
+use Rattle.vx_history.specs.Missing.{with_maps}
 use Rattle.vx_history.specs.Steps.{group_set, worked_on}
 use Rattle.vx_history.specs.World.{Link as LinkRecord, Node, World, no_link}
 use Rattle.vx_history.specs.declared.event.Event.{Event}
@@ -32,7 +33,7 @@ use Rattle.vx_events.specs.RvgBack.{FindsNoRvg, FindsPlain, FindsRvg, GetsRvg, G
 use Rattle.vx_events.specs.RvgLinks.{AllKnown, LinksOver, NotesThere, links_rvg, noting_each, works_at, noted_there}
 use Rattle.vx_events.specs.RvgMakes.{IsLeftRvg, MakesRvg, RvgCut, RvgDone, RvgFails, RvgLacks, noting_in, units_at}
 use Rattle.vx_events.specs.RvgNotes.{volume_events}
-use Rattle.vx_events.specs.RvgOver.{EndsOrShows, OverRvgBy, ShowFails, ShowsAny, TakesOr, is_below, is_inside, noting_over, fuse_behind}
+use Rattle.vx_events.specs.RvgOver.{CutBelow, EndsOrShows, OverRvgBy, ShowFails, ShowsAny, TakesOr, is_below, is_inside, missed_in, noting_over, fuse_behind}
 use Rattle.vx_events.specs.RvgSteps.{AsBefore, FoundOne, FullBy, Gained, StepFull, WorksAbove, WorksBeside, WorksFull, is_for_rvg, rvg_place}
 use Rattle.vx_events.specs.RvgViews.{is_over_rvg}
 use Rattle.vx_events.specs.RvgWorks.{FuseRanOut}
@@ -162,6 +163,36 @@ module _ (i : ℕ) (o : Option GroupNode) where
   are_notes line d last new left h =
       OtherNotes.as_notes i o last (link_noted d.world line last.world) new left (OtherNotes.link_noted_notes i o d.world line last.world h.note) h
 
+  -- ---- lines at another site over a group
+
+  group_notes : (d : Doubted) → OtherNotes.Standing i o d → (told : Type 0) (fails : Fails) (said : Said) (new : Doubted) (line : ScriptLine) (s : ℕ) → eqb i s ≡ false → GroupEnds told d line s fails said new → HasNote i o new
+  group_notes d x told fails said new line s apart (GroupDone next are does left) =
+      over_notes s line next (run_as false d (group_events (d.world.nodes s) s line)) new apart left (OtherNotes.run_stands i o false d (group_events (d.world.nodes s) s line) x).has
+  group_notes d x told fails said new line s apart (GroupLacks why wants none says left) = over_notes s line (note_at (d.world.nodes s)) d new apart left x.has
+  group_notes d x told fails said new line s apart (GroupFails disk next are has spoils says left) =
+      over_notes s line next (run_as false d (refused_events (d.world.nodes s) s line)) new apart left (OtherNotes.run_stands i o false d (refused_events (d.world.nodes s) s line) x).has
+  group_notes d x told fails said new line s apart (InitFails disk site is are has says left) = same_notes d new left x.has
+  group_notes d x told fails said new line s apart (ImportFails why next site is are refuses notes says left) =
+      let v : World = noting d.world s next in
+      OtherNotes.as_notes i o d (fuse_lost v s) new left (OtherNotes.lost_notes i o true v s (OtherNotes.noting_notes i o d.world s next apart x.has.note)) x.has
+  group_notes d x told fails said new line s apart (KeptUnread disk next site is are has back says left) =
+      over_notes s line next (run_as false d (unread_events (d.world.nodes s) s)) new apart left (OtherNotes.run_stands i o false d (unread_events (d.world.nodes s) s) x).has
+  group_notes d x told fails said new line s apart (GroupCut next are fused cuts says left) =
+      over_notes s line next (run_as false d (cut_events s line)) new apart left (OtherNotes.run_stands i o false d (cut_events s line) x).has
+  group_notes d x told fails said new line s apart (GroupNotFound why next are brings not leaves says left) =
+      over_notes s line next (run_as false d (refused_events (d.world.nodes s) s line)) new apart left (OtherNotes.run_stands i o false d (refused_events (d.world.nodes s) s line) x).has
+  group_notes d x told fails said new line s apart (FindsGroup next are brings unknown dark says left) =
+      over_notes s line next (run_as false d (group_events (d.world.nodes s) s line)) new apart left (OtherNotes.run_stands i o false d (group_events (d.world.nodes s) s line) x).has
+  group_notes d x told fails said new line s apart (FindsNoGroup next why are brings unknown device notes says left) =
+      over_notes s line next (run_as false d (refused_events (d.world.nodes s) s line)) new apart left (OtherNotes.run_stands i o false d (refused_events (d.world.nodes s) s line) x).has
+
+  -- one on the group alone
+  place_notes : (d : Doubted) → OtherNotes.Standing i o d → (told : Type 0) (fails : Fails) (said : Said) (new : Doubted) (line : ScriptLine) (s : ℕ) → eqb i s ≡ false
+      → GroupEnds told d line s fails said new ⊎ CutBelow d line s fails said new → HasNote i o new
+  place_notes d x told fails said new line s apart (inl ends) = group_notes d x told fails said new line s apart ends
+  place_notes d x told fails said new line s apart (inr cut) =
+      back_notes s line cut.taken cut.next d (run_as cut.taken d (CrashAt s cut.kept ∷ [])) new apart cut.left x.has (OtherNotes.run_stands i o cut.taken d (CrashAt s cut.kept ∷ []) x).has
+
   module _ (d : Doubted) (x : OtherNotes.Standing i o d) where
     -- what events lead to
     pub ran : (taken : Bool) (es : List Event) → HasNote i o (run_as taken d es)
@@ -271,29 +302,6 @@ module _ (i : ℕ) (o : Option GroupNode) where
         ends_notes told line (place_of d.world line) fails said new (recover_apart d.world line i off) ends
 
     module _ (told : Type 0) (fails : Fails) (said : Said) (new : Doubted) where
-      -- ---- lines at another site over a group
-
-      group_notes : (line : ScriptLine) (s : ℕ) → eqb i s ≡ false → GroupEnds told d line s fails said new → HasNote i o new
-      group_notes line s apart (GroupDone next are does left) =
-          over_notes s line next (run_as false d (group_events (d.world.nodes s) s line)) new apart left (ran false (group_events (d.world.nodes s) s line))
-      group_notes line s apart (GroupLacks why wants none says left) = over_notes s line (note_at (d.world.nodes s)) d new apart left x.has
-      group_notes line s apart (GroupFails disk next are has spoils says left) =
-          over_notes s line next (run_as false d (refused_events (d.world.nodes s) s line)) new apart left (ran false (refused_events (d.world.nodes s) s line))
-      group_notes line s apart (InitFails disk site is are has says left) = same_notes d new left x.has
-      group_notes line s apart (ImportFails why next site is are refuses notes says left) =
-          let v : World = noting d.world s next in
-          OtherNotes.as_notes i o d (fuse_lost v s) new left (OtherNotes.lost_notes i o true v s (OtherNotes.noting_notes i o d.world s next apart x.has.note)) x.has
-      group_notes line s apart (KeptUnread disk next site is are has back says left) =
-          over_notes s line next (run_as false d (unread_events (d.world.nodes s) s)) new apart left (ran false (unread_events (d.world.nodes s) s))
-      group_notes line s apart (GroupCut next are fused cuts says left) =
-          over_notes s line next (run_as false d (cut_events s line)) new apart left (ran false (cut_events s line))
-      group_notes line s apart (GroupNotFound why next are brings not leaves says left) =
-          over_notes s line next (run_as false d (refused_events (d.world.nodes s) s line)) new apart left (ran false (refused_events (d.world.nodes s) s line))
-      group_notes line s apart (FindsGroup next are brings unknown dark says left) =
-          over_notes s line next (run_as false d (group_events (d.world.nodes s) s line)) new apart left (ran false (group_events (d.world.nodes s) s line))
-      group_notes line s apart (FindsNoGroup next why are brings unknown device notes says left) =
-          over_notes s line next (run_as false d (refused_events (d.world.nodes s) s line)) new apart left (ran false (refused_events (d.world.nodes s) s line))
-
       -- ---- another site with a replicated volume group
 
       -- the worlds from which the log of a group that came up comes up
@@ -370,11 +378,11 @@ module _ (i : ℕ) (o : Option GroupNode) where
       takes_notes (Recover site) s off apart (inr finds) = finds_notes (Recover site) s apart finds
       takes_notes other s off apart ends = shows_notes (is_inside (d.world.nodes s) other) other s off apart ends
 
-      place_notes : (below : Bool) (line : ScriptLine) (s : ℕ) → may_note d.world line i ≡ false → eqb i s ≡ false → OverRvgBy below told d line s fails said new → HasNote i o new
-      place_notes true line s off apart (inl ends) = group_notes line s apart ends
-      place_notes true line s off apart (inr cut) =
-          back_notes s line cut.taken cut.next d (run_as cut.taken d (CrashAt s cut.kept ∷ [])) new apart cut.left x.has (ran cut.taken (CrashAt s cut.kept ∷ []))
-      place_notes false line s off apart ends = takes_notes line s off apart ends
+      place_or : (below : Bool) (line : ScriptLine) (s : ℕ) → may_note d.world line i ≡ false → eqb i s ≡ false → OverRvgBy below told d line s fails said new → HasNote i o new
+      place_or true line s off apart below =
+          let w : MissedNote = below.missed in
+          place_notes (missed_in w d s) (in_stands d s (with_maps w (note_at (d.world.nodes s))) apart x) told fails said new line s apart below.ends
+      place_or false line s off apart ends = takes_notes line s off apart ends
 
       -- ---- a line that makes one, and lines of links
 
@@ -409,10 +417,10 @@ module _ (i : ℕ) (o : Option GroupNode) where
       beside_notes line off (AsBefore works found) = by_group (is_for_group d.world line) refl works
         where
           by_group : (group : Bool) → is_for_group d.world line ≡ group → WorksOver group told d line fails said new → HasNote i o new
-          by_group true is ends = group_notes line (group_place d.world line) (group_apart d.world line i off is) ends
+          by_group true is ends = group_notes d x told fails said new line (group_place d.world line) (group_apart d.world line i off is) ends
           by_group false is (inl step) = by_kind told (is_of_links line) line fails said new off step.ends
           by_group false is (inr kept) =
-              group_notes line (group_place d.world line) (brings_apart d.world line i off (subst BringsUp (sym kept.recovers) tt)) kept.ends
+              group_notes d x told fails said new line (group_place d.world line) (brings_apart d.world line i off (subst BringsUp (sym kept.recovers) tt)) kept.ends
       beside_notes line off (Gained back) =
           let s : ℕ = group_place d.world line in
           rises_notes line s (brings_apart d.world line i off (brings_back told d line s fails said new back)) back
@@ -425,7 +433,7 @@ module _ (i : ℕ) (o : Option GroupNode) where
       above_notes true above line links_is is off ends = each_notes line off (links_apart d.world line i off links_is) ends
       above_notes false true line links_is is off ends =
           let s : ℕ = rvg_place d.world line in
-          place_notes (is_below (d.world.nodes s) line) line s off (rvg_apart d.world line i off is) ends
+          place_or (is_below (d.world.nodes s) line) line s off (rvg_apart d.world line i off is) ends
       above_notes false false line links_is is off ends = beside_notes line off ends
 
       full_notes : (line : ScriptLine) → may_note d.world line i ≡ false → WorksFull told d line fails said new → HasNote i o new
