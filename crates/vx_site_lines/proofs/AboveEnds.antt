@@ -1,7 +1,7 @@
 -- A line at a site with a replicated volume group over its group that leaves what it notes of the group as it is.
-use Rattle.std.proofs.Common.{◌≡◌, ◌∙◌, inl, ℕ, Bool, true, false, [], length, ap, sym, subst, refl, arith}
+use Rattle.std.proofs.Common.{◌≡◌, ◌∙◌, inl, ℕ, true, [], ap, sym, subst, refl, arith}
 use Rattle.std.proofs.Math.Path.{fun_ext}
-use Rattle.std.specs.Prelude.{◌&&◌, not, eqb, Option, Some, Result, Err, is_some}
+use Rattle.std.specs.Prelude.{Option, Some, Result, Err}
 use Rattle.vx_model.specs.declared.errors.OutOfMemory.{OutOfMemory}
 use Rattle.vx_disk.specs.declared.shelf.Shelf.{Ghosts}
 use Rattle.vx_history.specs.Doubts.{Doubted}
@@ -10,7 +10,6 @@ use Rattle.vx_history.specs.World.{Fuse, Node, World, with_node}
 use Rattle.vx_script.specs.declared.line.ScriptLine.{ScriptLine}
 use Rattle.vx_effects.proofs.Effects.{updated_self}
 use Rattle.vx_events.specs.Ends.{Ends, place_of}
-use Rattle.vx_events.specs.GroupLines.{is_over_group}
 use Rattle.vx_events.specs.GroupNotes.{IsKnown, note_at}
 use Rattle.vx_events.specs.RvgOver.{EndsOver, NotesLine, SaysOver, fuse_behind, noting_over}
 use Rattle.vx_events.specs.RvgViews.{is_over_rvg}
@@ -24,15 +23,6 @@ use Rattle.vx_yard.specs.Yards.{count_of}
 use Rattle.vx_yard.specs.declared.yard.Yard.{Yard}
 use Rattle.vx_yard.proofs.ChangeSite.{rose_none}
 use Rattle.vx_above.proofs.OverSites.{note_is}
-
--- the group of such a site does not stand alone
-other_way : (a b : Bool) → (a && not b) ≡ true → (a && b) ≡ false
-other_way true true e = absurd (cc)
-other_way true false e = refl
-other_way false b e = refl
-
-pub rvg_apart : (n : Node) → is_over_rvg n ≡ true → is_over_group n ≡ false
-rvg_apart n over = other_way (is_some n.group) (eqb (length n.volumes) 0) over
 
 -- the world as it is
 noted_over_same : (line : ScriptLine) (w v : World) (s : ℕ) (note : GroupNode) → (v.nodes s).group ≡ Some note → fuse_behind line (w.nodes s).fuse (v.nodes s).fuse ≡ (v.nodes s).fuse → v ≡ noting_over line w v s note

@@ -134,23 +134,22 @@ got_ends told d line k v start count bytes list still size call shows =
 
 -- the sizes of the volumes of a site that is up
 record Whole (n : Node) : Type 0 where
-  few : length n.volumes ≤ 8
   named : (v : ℕ) (x : Volume) → slice_get n.volumes v ≡ Some x → n.base.size v ≡ x.blocks
 
 module _ {R : Type 0} {g : Ghosts R} where
   over_whole : (beside : KeptBeside) (n : Node) (s : OverSite R g) → OverStands beside n s → Whole n
-  over_whole beside n (OriginSite f) h = let laid = laid_in n (laid_volumes f.laid) h.lies in record { few = laid.few; named = laid.named }
-  over_whole beside n (ReceiverSite f) h = let laid = laid_in n (laid_volumes f.laid) h.lies in record { few = laid.few; named = laid.named }
-  over_whole beside n (OverAway idle) h = record { few = h.1.lies.few; named = h.1.lies.named }
-  over_whole beside n (OverFell idle) h = record { few = h.2.lies.few; named = h.2.lies.named }
+  over_whole beside n (OriginSite f) h = let laid = laid_in n (laid_volumes f.laid) h.lies in record { named = laid.named }
+  over_whole beside n (ReceiverSite f) h = let laid = laid_in n (laid_volumes f.laid) h.lies in record { named = laid.named }
+  over_whole beside n (OverAway idle) h = record { named = h.1.lies.named }
+  over_whole beside n (OverFell idle) h = record { named = h.2.lies.named }
   over_whole beside n NoOver h = absurd h
 
   whole_at : (beside : KeptBeside) (n : Node) (e : DiskSet R g) → is_over_group n ≡ false → n.state ≡ IsUp → SiteStands beside n e → Whole n
   whole_at beside n (Bare rack) apart up h = absurd (let e : IsBare ≡ IsUp = sym (ap (λ (k : Node). k.state) h.bare.is) ∙ up in cc)
   whole_at beside n (Spoiled rack) apart up h = absurd (let e : IsBare ≡ IsUp = sym (ap (λ (k : Node). k.state) h.is) ∙ up in cc)
-  whole_at beside n (Up rvg) apart up h = let laid = laid_in n (g.meaning rvg.shelf) h.1.lies in record { few = laid.few; named = laid.named }
-  whole_at beside n (Receives site) apart up h = let laid = laid_in n (g.meaning site.rvg.shelf) h.1.lies in record { few = laid.few; named = laid.named }
-  whole_at beside n (Down rack) apart up h = record { few = h.lies.laid.few; named = h.lies.laid.named }
+  whole_at beside n (Up rvg) apart up h = let laid = laid_in n (g.meaning rvg.shelf) h.1.lies in record { named = laid.named }
+  whole_at beside n (Receives site) apart up h = let laid = laid_in n (g.meaning site.rvg.shelf) h.1.lies in record { named = laid.named }
+  whole_at beside n (Down rack) apart up h = record { named = h.lies.laid.named }
   whole_at beside n (OfGroup s) apart up h = never_up beside n s h apart up
   whole_at beside n (Over s) apart up h = over_whole beside n s.site h.1
   whole_at beside n Gone apart up h = absurd h

@@ -46,7 +46,8 @@ use Rattle.vx_events.specs.RvgSteps.{over_rvg_at}
 use Rattle.vx_events.specs.RvgViews.{is_over_rvg}
 use Rattle.vx_yard.specs.AboveLines.{LeadsAbove}
 use Rattle.vx_yard.specs.Carries.{Carries}
-use Rattle.vx_site_lines.proofs.AboveEnds.{rvg_apart, stays_over}
+use Rattle.vx_events.proofs.RvgEvents.{rvg_apart}
+use Rattle.vx_site_lines.proofs.AboveEnds.{stays_over}
 
 -- a site whose fuse is set
 abbrev fused_node : Node → (calls : ℕ) → Node

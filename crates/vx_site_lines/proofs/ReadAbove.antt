@@ -69,7 +69,7 @@ use Rattle.vx_above.proofs.OverSeen.{noted_node}
 use Rattle.vx_above.proofs.OverSites.{OverIs, at_over, over_set}
 use Rattle.vx_site_lines.specs.Fetching.{IsReadLine}
 use Rattle.vx_site_lines.specs.Shown.{GaveShown, GaveShownAt}
-use Rattle.vx_site_lines.proofs.AboveEnds.{rvg_apart}
+use Rattle.vx_events.proofs.RvgEvents.{rvg_apart}
 use Rattle.vx_site_lines.proofs.FetchLine.{FetchAt, behind_read, fetch_at, got_ends, no_more, read_world, recounted, recounted_fits}
 use Rattle.vx_site_lines.proofs.ShownLine.{all_shown, primary_of}
 use Rattle.vx_site_lines.proofs.WriteCalls.{whole_log}

@@ -45,7 +45,8 @@ use Rattle.vx_above.proofs.GroupStatus.{config_is}
 use Rattle.vx_above.proofs.OverSites.{OverIs, over_set, site_noted}
 use Rattle.vx_site_lines.specs.Seen.{links_seen, site_seen}
 use Rattle.vx_site_lines.specs.Views.{full_seen}
-use Rattle.vx_site_lines.proofs.AboveEnds.{rvg_apart, stays_over}
+use Rattle.vx_events.proofs.RvgEvents.{rvg_apart}
+use Rattle.vx_site_lines.proofs.AboveEnds.{stays_over}
 use Rattle.vx_site_lines.proofs.StatusLinks.{linked_view_is}
 
 -- a site that is not up shows neither disks nor volumes

@@ -95,7 +95,7 @@ few_read bytes x e =
     let tested = test_ok (version.0.0 == 1) (length bytes) (format_1.read version.0.1) x version.2 in
     few_in version.0.1 x tested.1
 
-few_of : (bytes : List ℕ) (r : Reading Config) → config.read bytes ≡ r → length (volumes_of (read_front r)) ≤ MOST_VOLUMES
+pub few_of : (bytes : List ℕ) (r : Reading Config) → config.read bytes ≡ r → length (volumes_of (read_front r)) ≤ MOST_VOLUMES
 few_of bytes (Ok x) is = few_read bytes x is
 few_of bytes (Err left) is = omega arith
 

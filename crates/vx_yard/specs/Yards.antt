@@ -1,15 +1,15 @@
 -- A yard, and of what shape its sites are.
-use Rattle.std.specs.Prelude.{◌≡◌, ℕ, ◌≤◌, length, Some, slice_get, Bool, true, is_some}
-use Rattle.vx_model.specs.declared.limits.TheConstants.{LEAST_BLOCKS, MOST_DISKS, MOST_SITES, MOST_VOLUMES}
+use Rattle.std.specs.Prelude.{◌≡◌, ℕ, ◌+◌, ◌≤◌, length, Some, slice_get, Bool, true, is_some}
+use Rattle.vx_model.specs.declared.limits.TheConstants.{LEAST_BLOCKS, MOST_DATA_VOLUMES, MOST_DISKS, MOST_SITES, MOST_VOLUMES}
 use Rattle.vx_model.specs.declared.site.SiteState.TheVariants.{Bare, Deported}
 use Rattle.vx_order.specs.declared.facts.SiteFacts.{SiteFacts}
 use Rattle.vx_disk.specs.declared.shelf.Shelf.{Ghosts}
 use Rattle.vx_yard.specs.declared.yard.Yard.{Yard}
 use Rattle.vx_yard.specs.Stands.{AreTold, site_faults}
 
--- A site of no more volumes than a group may have, of blocks enough, which is deported only as a group.
+-- A site of no more volumes than a group and a replicated volume group over it may have, of blocks enough, which is deported only as a group.
 pub record IsShaped (f : SiteFacts) : Type 0 where
-  pub volumes : length f.volumes ≤ MOST_VOLUMES
+  pub volumes : length f.volumes ≤ MOST_VOLUMES + MOST_DATA_VOLUMES
   pub disks : f.state ≡ Bare → f.disks ≤ MOST_DISKS
   pub blocks : LEAST_BLOCKS ≤ f.blocks
   pub grouped : f.state ≡ Deported → f.grouped ≡ true

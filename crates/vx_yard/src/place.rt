@@ -1,6 +1,6 @@
 // The site and the volume that a line names. The tests of the line found them, so there is no case without one.
-ghost use Rattle.std.specs.Prelude.{◌≡◌, ◌<◌, Some, IsSome, length, slice_get};
-ghost use Rattle.vx_model.specs.declared.limits.TheConstants.{MOST_SITES, MOST_VOLUMES};
+ghost use Rattle.std.specs.Prelude.{◌≡◌, ◌+◌, ◌<◌, Some, IsSome, length, slice_get};
+ghost use Rattle.vx_model.specs.declared.limits.TheConstants.{MOST_DATA_VOLUMES, MOST_SITES, MOST_VOLUMES};
 ghost use Rattle.vx_order.specs.declared.facts.SiteFacts.{SiteFacts};
 ghost use Rattle.vx_events.specs.Facts.{seat_of, place_of};
 ghost use Rattle.vx_yard.specs.Yards.{IsYardKept};
@@ -33,7 +33,7 @@ impl<R: Rack> Yard<R> {
         requires site { site < length self.now.facts.items }
         requires named { (f : SiteFacts) → slice_get self.now.facts.items site ≡ Some f → IsSome (place_of f.volumes name.now) }
         ensures place { (f : SiteFacts) → slice_get self.now.facts.items site ≡ Some f → place_of f.volumes name.now ≡ Some result }
-        ensures small { result < MOST_VOLUMES }
+        ensures small { result < MOST_VOLUMES + MOST_DATA_VOLUMES }
     {
         match facts::place(&self.facts[site], name) {
             Some(place) => place,

@@ -4,7 +4,7 @@ use Rattle.std.specs.Prelude.{Some}
 use Rattle.vx_events.specs.Facts.{seat_of, site_number}
 use Rattle.vx_yard.specs.Yards.{in_files}
 use Rattle.vx_yard.proofs.ChangeSite.{told_before}
-use Rattle.vx_site_lines.proofs.AboveEnds.{rvg_apart}
+use Rattle.vx_events.proofs.RvgEvents.{rvg_apart}
 use Rattle.vx_site_lines.proofs.DiskLine.{disk_above, disk_asks, disk_leads, disk_set_so}
 use Rattle.vx_yard.proofs.Lists.{get_at}
 use Rattle.vx_events.proofs.Refused.{disk_may}
