@@ -3,6 +3,7 @@ pub mod JoinGroup
 pub mod SpellsLinks
 pub mod StoresCalls
 pub mod StoresLink
+pub mod StoresNotes
 pub mod TakesUpdate
 pub mod TookUpdate
 pub mod UpdatesFit

@@ -17,6 +17,7 @@ ghost use Rattle.vx_diskset.specs.Asked.{HeadUnder, IsRawSet, LeavesFuse, stored
 ghost use Rattle.vx_diskset.specs.Burning.{NoMore};
 ghost use Rattle.vx_diskset.specs.DiskSets.{Later};
 ghost use Rattle.vx_diskset.specs.Holds.{KeptBeside, beside_of, header_links, state_with};
+ghost use Rattle.vx_diskset.specs.Noted.{NotesOn};
 ghost use Rattle.vx_diskset.specs.Stands.{KeepsRole, SiteStands};
 ghost use Rattle.vx_joins.specs.Hearings.{HeardAt, IsListening, PartHeardAt, StoredIs, world_behind, links_stored, reply_by};
 
@@ -79,6 +80,7 @@ fn keep_stored<R: Rack>(
     ensures short { result ≡ Err Stop.OutOfMemory → disks.new ≡ disks.old }
     ensures rises { (why : NoValue) → result ≡ Err (Stop.No why) → old < stored }
     ensures role { KeepsRole disks.old disks.new }
+    ensures notes { NotesOn disks.old disks.new }
     ensures later { Later disks.old disks.new }
 {
     if stored <= old {
@@ -135,6 +137,7 @@ pub fn hear<R: Rack, N: Net>(
     ensures link { OnErr result (link.new ≡ link.old) }
     ensures assembly { OnErr result (assembly.new ≡ assembly.old) }
     ensures role { KeepsRole disks.old disks.new }
+    ensures notes { NotesOn disks.old disks.new }
     ensures later { Later disks.old disks.new }
 {
     let safe = disks.last();

@@ -21,6 +21,7 @@ use Rattle.vx_events.specs.declared.said.Said.{Said}
 use Rattle.vx_script.specs.declared.line.ScriptLine.{ScriptLine}
 use Rattle.vx_diskset.specs.Fuses.{LeftAs}
 use Rattle.vx_diskset.specs.Holds.{KeptBeside, beside_of}
+use Rattle.vx_diskset.specs.Noted.{NotedAt}
 use Rattle.vx_diskset.specs.Stands.{RoleIs, SiteStands}
 use Rattle.vx_diskset.specs.declared.disk_set.DiskSet.{DiskSet}
 use Rattle.vx_joins.proofs.TakesUpdate.{node_behind}
@@ -37,7 +38,6 @@ use Rattle.vx_yard.proofs.FuseStays.{fused_on}
 use Rattle.vx_yard.proofs.NoteSite.{comes_same}
 use Rattle.vx_yard.proofs.OneSite.{Changed, stands_still}
 use Rattle.vx_events.specs.RvgViews.{is_over_rvg}
-use Rattle.vx_yard.proofs.OverGroup.{noted_off}
 
 open_behind : (n m : Node) (source : ℕ) (x : Write) → (m ≡ n) ⊎ (m ≡ with_write n source x) → IsOpen n → IsOpen m
 open_behind n m source x one opens = ⊎_elim (λ is. subst (λ (k : Node). IsOpen k) (sym is) opens) (λ is. subst (λ (k : Node). IsOpen k) (sym is) opens) one
@@ -82,15 +82,15 @@ module _ {R : Type 0} {g : Ghosts R} where
         (all_told new.disk_sets.items)
 
   -- want of memory: nothing was done
-  pub behind_short : (d : Doubted) (line : ScriptLine) (old new : Yard R g) (before after : DiskSet R g) (t : ℕ) (r : Result Said OutOfMemory) (e : OutOfMemory) → r ≡ Err e → StandsFor d old → t < d.world.sites → Changed old new t before after → LeavesAlone before after → RoleIs (d.world.nodes t) after → is_over_rvg (d.world.nodes t) ≡ false
-      → ((beside : KeptBeside) (n : Node) → SiteStands beside n before → SiteStands beside n after) → new.facts.items ≡ old.facts.items → SameLoad old new → (IsTold new → IsTold old) → LeadsIs d line old new r
-  behind_short d line old new before after t r e is stands below changed alone role off on facts load told =
+  pub behind_short : (d : Doubted) (line : ScriptLine) (old new : Yard R g) (before after : DiskSet R g) (t : ℕ) (r : Result Said OutOfMemory) (e : OutOfMemory) → r ≡ Err e → StandsFor d old → t < d.world.sites → Changed old new t before after → LeavesAlone before after → RoleIs (d.world.nodes t) after
+      → (NotedAt (d.world.nodes t) before → NotedAt (d.world.nodes t) after) → ((beside : KeptBeside) (n : Node) → SiteStands beside n before → SiteStands beside n after) → new.facts.items ≡ old.facts.items → SameLoad old new → (IsTold new → IsTold old) → LeadsIs d line old new r
+  behind_short d line old new before after t r e is stands below changed alone role noted on facts load told =
       let n : Node = d.world.nodes t in
       subst (λ (x : Result Said OutOfMemory). LeadsIs d line old new x) (sym is) (record {
         stands = stands_still d d old new t before after stands below changed
             (comes_same d t after stands.links (on (beside_of d t) n (stands.disk_sets.sites t before below changed.there)) (fails_then n n before after refl (alone_keeps before after alone) (stands.failing t before below changed.there))
             (fused_on Untouched n n n.fuse before after refl (λ a b same left. subst (λ (z : Option (ℕ × ℕ)). LeftAs n.fuse z) (sym same.fuse) left) alone.told (stands.fuses t before below changed.there)) role) (λ first. first)
-            (λ _. noted_off (beside_of d t) n n after (on (beside_of d t) n (stands.disk_sets.sites t before below changed.there)) off) refl facts;
+            noted refl facts;
         carries = carries_same d old new load told;
         rose = rose_still old new t before after changed.there changed.later changed.disk_sets;
       })

@@ -28,7 +28,6 @@ use Rattle.vx_events.specs.RvgViews.{is_over_rvg}
 use Rattle.vx_events.specs.StepsOver.{facts_over}
 use Rattle.vx_events.specs.declared.said.Said.{Said}
 use Rattle.vx_events.specs.declared.said.Said.TheVariants.{Refused}
-use Rattle.vx_effects.proofs.Effects.{changes_then}
 use Rattle.vx_effects.proofs.Halves.{stopped}
 use Rattle.vx_above.proofs.Moved.{OverCall}
 use Rattle.vx_above.proofs.OverComes.{StaysAs, lit_burned}
@@ -38,7 +37,7 @@ use Rattle.vx_link_lines.proofs.HeadedMoves.{CutMoves, moved_cut, moved_done, mo
 use Rattle.vx_link_lines.proofs.HeaderCalls.{Answered, IsHeader, in_doubt}
 use Rattle.vx_link_lines.proofs.LinkedLeads.{linked_done, linked_halts, linked_off, told_linked}
 use Rattle.vx_link_lines.proofs.NotedYard.{carries_noted, note_one, notes_one, stands_noted}
-use Rattle.vx_link_lines.proofs.Turned.{Moves}
+use Rattle.vx_link_lines.proofs.Turned.{Moves, moves_reach}
 use Rattle.vx_link_lines.specs.Headed.{behind, noted_by}
 use Rattle.vx_yard.proofs.Carrying.{LetsGoBy}
 use Rattle.vx_yard.proofs.NoteSite.{changes_one}
@@ -66,14 +65,7 @@ module _ {R : Type 0} {g : Ghosts R} (d : Doubted) (e : Event) (s : ℕ) (m : No
 
   -- by what the site comes to from the world with its fuse noted
   reached : (to : Doubted) (k : Node) (p : OverSet R g) → Moves start to s k old new (Over p) → Reaches d to s k (Over p)
-  reached to k p moves = record {
-    changes = changes_then s d start to (changes_one d s (worked n)) moves.changes;
-    here = moves.node;
-    links = moves.links;
-    stands = moves.stands;
-    role = moves.role;
-    doubt = λ was a is. moves.doubt a is;
-  }
+  reached to k p moves = moves_reach d start to s k old new (Over p) (changes_one d s (worked n)) moves
 
   carried : (to : Doubted) (k : Node) (p : OverSet R g) → Moves start to s k old new (Over p) → Carries d old → Carries to new
   carried to k p moves carries = moves.carries (carries_noted d old s carries)

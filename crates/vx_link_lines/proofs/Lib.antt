@@ -12,7 +12,9 @@ pub mod HeadedEnds
 pub mod HeadedMoves
 pub mod HeadedWorlds
 pub mod HeaderCalls
+pub mod HeardAbove
 pub mod HeardLine
+pub mod HeardMoves
 pub mod HeardWorld
 pub mod JoinLine
 pub mod LinkAbove

@@ -24,7 +24,7 @@ use Rattle.vx_events.specs.RvgWorks.{FuseRanOut, NotesWork}
 use Rattle.vx_events.specs.declared.said.Said.{Said}
 use Rattle.vx_yard.proofs.ChangeSite.{rose_none}
 use Rattle.vx_yard.specs.AboveLines.{StopsAbove}
-use Rattle.vx_yard.specs.Standing.{StandsFor}
+use Rattle.vx_yard.specs.Standing.{StandsFor, StaysFor}
 use Rattle.vx_yard.specs.Yards.{count_of}
 use Rattle.vx_yard.specs.declared.yard.Yard.{Yard}
 
@@ -138,3 +138,7 @@ module _ {R : Type 0} {g : Ghosts R} where
     carries = λ carries. carries;
     rose = rose_none (count_of y) (count_of y) (λ k u. omega arith);
   }
+
+  -- the same of a yard that stands for the world as before
+  pub stays_above : (d : Doubted) (line : ScriptLine) (old new : Yard R g) → StaysFor d old new → StopsAbove d line old new
+  stays_above d line old new stays = record { next = d; part = inl (StopsInPart (none_done d line)); stands = stays.stands; carries = stays.carries; rose = stays.rose }

@@ -12,12 +12,14 @@ use Rattle.vx_diskset.specs.Holds.{KeptBeside, beside_of}
 use Rattle.vx_diskset.specs.Noted.{NotedAt}
 use Rattle.vx_diskset.specs.Stands.{RoleIs, SiteStands}
 use Rattle.vx_diskset.specs.declared.disk_set.DiskSet.{DiskSet}
+use Rattle.vx_effects.proofs.Effects.{changes_then}
 use Rattle.vx_events.specs.Effects.{ChangesNode}
 use Rattle.vx_events.specs.StepsOver.{facts_over}
 use Rattle.vx_events.specs.LinksFit.{LinksFit}
 use Rattle.vx_yard.specs.Carries.{Carries}
 use Rattle.vx_yard.specs.Standing.{IsSameSite, SitesAgree, StandsFor, BeginsFirst}
 use Rattle.vx_yard.specs.declared.yard.Yard.{Yard}
+use Rattle.vx_yard.proofs.Reaching.{Reaches}
 use Rattle.vx_yard.proofs.Lists.{get-set_other, length-set}
 use Rattle.vx_yard.proofs.OneSite.{Changed, at_set, beside_same}
 
@@ -106,3 +108,14 @@ module _ {R : Type 0} {g : Ghosts R} where
       })
       (λ _. subst (λ (k : Node). BeginsFirst s k) there moves.first) (λ _. subst (λ (k : Node). NotedAt k after) there noted) moves.facts
       (λ a is. subst (λ (k : Node). IsSameSite k a.node) there (moves.doubt a is))
+
+  -- from a world in which the site was another already
+  pub moves_reach : (d start e : Doubted) (s : ℕ) (m : Node) (old new : Yard R g) (after : DiskSet R g) → ChangesNode s d start → Moves start e s m old new after → Reaches d e s m after
+  moves_reach d start e s m old new after first moves = record {
+    changes = changes_then s d start e first moves.changes;
+    here = moves.node;
+    links = moves.links;
+    stands = moves.stands;
+    role = moves.role;
+    doubt = λ was a is. moves.doubt a is;
+  }

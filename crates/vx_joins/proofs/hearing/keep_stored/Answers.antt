@@ -5,6 +5,8 @@ use Rattle.vx_diskset.specs.Keeps.{CanKeep}
 use Rattle.vx_joins.specs.Hearings.{links_stored}
 use Rattle.vx_events.specs.declared.said.Said.TheVariants.{Done, Refused}
 use Rattle.vx_joins.proofs.StoresCalls.{stores_more, stores_none}
+use Rattle.vx_joins.proofs.StoresNotes.{notes_rest}
+use Rattle.vx_untold.specs.Shades.{shade_rack}
 use Rattle.vx_joins.proofs.StoresLink.{called_none, can_store, stored_more, stored_not, stored_same}
 use Rattle.vx_joins.proofs.hearing.keep_stored.Goals as goal
 
@@ -47,3 +49,13 @@ returns-in-Ok-clause-headed g c = λ beside n stands raw some. stores_more c.arg
 pub returns-in-Err-clause-headed : goal.returns-in-Err-clause-headed
 returns-in-Err-clause-headed g c = λ beside n stands raw some.
     stores_more c.args.old c.args.stored (Refused c.in-Err.no) c.args.disks.now c.keep.new.self (omega (arith, c.if-stored-old.false)) (c.in-Err.ensures.headed beside n stands raw)
+
+pub returns-then-stored-old-clause-notes : goal.returns-then-stored-old-clause-notes
+returns-then-stored-old-clause-notes g c =
+    let is_rack = (g.met.R.Rack g.world.𝓛 g.world.𝓜 g.world.𝓡 ((λ s x. x), (λ x. x), (λ x. x), λ x. x)).rack in
+    notes_rest (shade_rack g.R.Shelf.meaning is_rack) c.args.disks.now
+
+pub returns-then-stored-gt-MOST_NUMBER-clause-notes : goal.returns-then-stored-gt-MOST_NUMBER-clause-notes
+returns-then-stored-gt-MOST_NUMBER-clause-notes g c =
+    let is_rack = (g.met.R.Rack g.world.𝓛 g.world.𝓜 g.world.𝓡 ((λ s x. x), (λ x. x), (λ x. x), λ x. x)).rack in
+    notes_rest (shade_rack g.R.Shelf.meaning is_rack) c.args.disks.now

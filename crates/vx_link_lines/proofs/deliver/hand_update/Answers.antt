@@ -15,7 +15,7 @@ use Rattle.vx_joins.proofs.UpdatesFit.{are_one, update_fits}
 use Rattle.vx_joins.specs.Deliveries.{DeliveredTo, TookTo}
 use Rattle.vx_world.proofs.Doubting.{world_good}
 use Rattle.vx_link_lines.proofs.Behind.{behind_ignored, behind_short, behind_taken}
-use Rattle.vx_yard.proofs.OverGroup.{receives_apart}
+use Rattle.vx_yard.proofs.OverGroup.{noted_off, receives_apart}
 use Rattle.vx_yard.proofs.ChangeSite.{told_before}
 use Rattle.vx_link_lines.proofs.Deaf.{deaf_leads, fact_at, last_received, none_start, took_ignored}
 use Rattle.vx_yard.proofs.Leads.{room_receives}
@@ -64,7 +64,8 @@ returns-in_err-said-clause-leads g c = λ d p k x stands off carries good at to 
     let fed = get_at old.feeders.items t c.index_mut-2.result.now c.requires.feeder c.index_mut-2.ensures.value in
     let was = get_at old.assemblies.items t c.index_mut-3.result.now c.requires.place c.index_mut-3.ensures.value in
     behind_short d (Deliver c.args.number) old _ before after t c.from_residual.result _ (err_from_is_err_and c.from_residual.result c.from_residual.ensures.1).1 stands below
-    (record { there = there; later = c.deliver_update.ensures.later; disk_sets = refl; racks = refl }) c.deliver_update.ensures.still (c.deliver_update.ensures.role.kept (d.world.nodes t) (stands.roles.each t before below there)) off c.in_err-said.ensures.stands refl
+    (record { there = there; later = c.deliver_update.ensures.later; disk_sets = refl; racks = refl }) c.deliver_update.ensures.still (c.deliver_update.ensures.role.kept (d.world.nodes t) (stands.roles.each t before below there))
+    (λ _. noted_off (beside_of d t) (d.world.nodes t) (d.world.nodes t) after (c.in_err-said.ensures.stands (beside_of d t) (d.world.nodes t) (stands.disk_sets.sites t before below there)) off) c.in_err-said.ensures.stands refl
     (record {
       flight = c.in_err-said.ensures.unsent;
       assemblies = ap (λ b. slice_set old.assemblies.items t b) c.in_err-said.ensures.assembly ∙ set_same old.assemblies.items t c.index_mut-3.result.now was;
