@@ -142,7 +142,7 @@ module _ {R : Type 0} {g : Ghosts R} (d : Doubted) (old new : Yard R g) (name vo
     pub keeps : KeepsRole before after
     pub notes : NotesOn before after
 
-  module _ (o p : OverSet R g) (calls : ReadCalls (Over o) (Over p)) (here : SiteStands (beside_of d s) (d.world.nodes s) (Over p)) where
+  module _ (o p : OverSet R g) (calls : ReadCalls (Over o) (Over p)) (stood : SiteStands (beside_of d s) (d.world.nodes s) (Over p)) where
     call : OverCall d old new s o p
     call = record { stands = stands; below = read.seat.below; over = over; up = read.can.up; changed = calls.changed; notes = calls.notes }
 
@@ -163,14 +163,14 @@ module _ {R : Type 0} {g : Ghosts R} (d : Doubted) (old new : Yard R g) (name vo
 
     -- the same world, and the one in which the headers of the read are counted
     reach_same : Reaches d d s n (Over p)
-    reach_same = reaches_same d s (Over p) stands.links here role
+    reach_same = reaches_same d s (Over p) stands.links stood role
 
     reach_counted : Reaches d (recounted d d.world) s n (Over p)
     reach_counted = record {
       changes = record { sites = refl; nodes = λ i apart. refl; links = λ i k apart. refl; headers = λ i apart. no_more (d.world.headers i); after = λ i apart. refl; gathering = λ i apart. refl };
       here = refl;
       links = recounted_fits d stands.links;
-      stands = subst (λ (b : KeptBeside). SiteStands b n (Over p)) (sym (beside_same d (recounted d d.world) s refl (λ k. refl) (no_more (d.world.headers s)) refl)) here;
+      stands = subst (λ (b : KeptBeside). SiteStands b n (Over p)) (sym (beside_same d (recounted d d.world) s refl (λ k. refl) (no_more (d.world.headers s)) refl)) stood;
       role = role;
       doubt = λ was a is. was a is;
     }

@@ -27,8 +27,8 @@ returns-in_err-links-clause-above g c = λ d stands rvg.
     let p = err_from_is_err_and c.from_residual-in_err-links.result c.from_residual-in_err-links.ensures.1 in
     unbegun_above d (Status c.args.name.now) c.args.yard.now c.from_residual-in_err-links.result p.0 p.1 stands
 
-pub returns-in_ok-links-clause-leads : goal.returns-in_ok-links-clause-leads
-returns-in_ok-links-clause-leads g c = λ d stands apart off.
+pub returns-clause-leads : goal.returns-clause-leads
+returns-clause-leads g c = λ d stands apart off.
     let facts = c.args.yard.now.facts.items in
     let s = c.site_of-site.result in
     let at = get_at facts s c.index.result.now c.site_of-site.ensures.fact c.index.ensures in
@@ -37,8 +37,8 @@ returns-in_ok-links-clause-leads g c = λ d stands apart off.
     (c.in_ok-links.ensures ∙ ap (λ (ls : List LinkFacts). links_seen c.deref.result.now ls) c.as_slice.ensures
     ∙ ap (λ (fs : List SiteFacts). links_seen fs c.index.result.now.links) c.deref.ensures.value))
 
-pub returns-in_ok-links-clause-above : goal.returns-in_ok-links-clause-above
-returns-in_ok-links-clause-above g c = λ d stands rvg.
+pub returns-clause-above : goal.returns-clause-above
+returns-clause-above g c = λ d stands rvg.
     let facts = c.args.yard.now.facts.items in
     let s = c.site_of-site.result in
     let at = get_at facts s c.index.result.now c.site_of-site.ensures.fact c.index.ensures in
