@@ -44,3 +44,4 @@ pub mod MapReturns
 pub mod MapGoing
 pub mod MapComing
 pub mod Numbered
+pub mod Going

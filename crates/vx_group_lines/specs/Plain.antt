@@ -1,5 +1,5 @@
 -- The lines that go to a disk group, and of these such as write and read blocks of a volume.
-use Rattle.std.specs.Prelude.{◌≡◌, ℕ, ◌*◌, ◌<◌, ◌≤◌, Bool, true, false, List, [], length, Option, Some, None, Result, Ok, Err, not}
+use Rattle.std.specs.Prelude.{◌∷◌, ◌&&◌, ◌||◌, ◌≡◌, ℕ, ◌*◌, ◌<◌, ◌≤◌, Bool, true, false, List, [], length, Option, Some, None, Result, Ok, Err, not}
 use Rattle.vx_model.specs.declared.limits.TheConstants.{BLOCK, MOST_CALL_BLOCKS}
 use Rattle.vx_model.specs.declared.no.No.{No}
 use Rattle.vx_disk.specs.declared.shelf.Shelf.{Ghosts}
@@ -11,7 +11,7 @@ use Rattle.vx_grouped.specs.Plain.{ReadsPlain}
 use Rattle.vx_grouped.specs.SiteEnds.{PlainRead}
 use Rattle.vx_grouped.specs.declared.group_site.GroupSite.{GroupSite}
 use Rattle.vx_script.specs.declared.line.ScriptLine.{ScriptLine}
-use Rattle.vx_script.specs.declared.line.ScriptLine.TheVariants.{GroupInit, GroupDeport, GroupImport, Volume, PlexDetach, PlexAttach, Disk, Crash, Fuse, Recover, Status, Write as WriteLine, Put as PutLine, Read as ReadLine, Show as ShowLine}
+use Rattle.vx_script.specs.declared.line.ScriptLine.TheVariants.{GroupInit, GroupDeport, GroupImport, Volume, PlexDetach, PlexAttach, Rvg, Disk, Crash, Fuse, Recover, Status, Write as WriteLine, Put as PutLine, Read as ReadLine, Show as ShowLine}
 use Rattle.vx_yard.specs.Working.{IsFree}
 use Rattle.vx_yard.specs.declared.yard.Yard.{Yard}
 use Rattle.vx_order.specs.Calls.{is_data}
@@ -19,6 +19,7 @@ use Rattle.vx_events.specs.RvgOver.{kind_named}
 use Rattle.vx_events.specs.StepsOver.{over_group_at}
 use Rattle.vx_events.specs.RvgSteps.{over_rvg_at}
 use Rattle.vx_events.specs.Facts.{site_number}
+use Rattle.vx_order.specs.declared.facts.VolumeFacts.{VolumeFacts}
 
 -- whether lines of this kind write or read blocks
 abbrev pub is_block_kind : ScriptLine → Bool
@@ -36,7 +37,13 @@ is_group_line (GroupImport site) = true
 is_group_line (Volume site volume blocks mirrors layout log map policy) = true
 is_group_line (PlexDetach site volume plex) = true
 is_group_line (PlexAttach site volume plex) = true
+is_group_line (Rvg site srl maps volumes) = true
 is_group_line other = false
+
+-- whether a data volume stands first: so it is of a site with a replicated volume group, whose data volumes stand in front of its other volumes
+abbrev pub starts_with_data : List VolumeFacts → Bool
+starts_with_data [] = false
+starts_with_data (v ∷ vs) = is_data v.kind
 
 -- whether the disks of the site of this name are a group, with a replicated volume group over it or not
 abbrev pub grouped_at : World → List ℕ → Bool
@@ -87,6 +94,7 @@ is_group_kind (GroupImport site) = true
 is_group_kind (Volume site volume blocks mirrors layout log map policy) = true
 is_group_kind (PlexDetach site volume plex) = true
 is_group_kind (PlexAttach site volume plex) = true
+is_group_kind (Rvg site srl maps volumes) = true
 is_group_kind (Disk site disk state) = true
 is_group_kind (Crash site pick) = true
 is_group_kind (Fuse site calls pick) = true

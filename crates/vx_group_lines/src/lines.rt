@@ -1,11 +1,16 @@
 // The lines that go to the group of a site, and their work.
-ghost use Rattle.std.specs.Prelude.{◌≡◌, IfOk, IsOk, IsSome, option_copied, false, true};
+ghost use Rattle.std.specs.Prelude.{◌≡◌, ℕ, List, IfOk, IsOk, IsSome, Some, slice_get, false, true};
 ghost use Rattle.vx_history.specs.Doubts.{Doubted};
-ghost use Rattle.vx_events.specs.Facts.{seat_of};
+ghost use Rattle.vx_order.specs.declared.facts.SiteFacts.{SiteFacts};
+ghost use Rattle.vx_events.specs.Facts.{place_of, seat_of};
+ghost use Rattle.vx_events.specs.RvgSteps.{is_for_rvg};
+ghost use Rattle.vx_yard.specs.AboveLines.{LeadsAboveIs, LeadsBesideIs};
+ghost use Rattle.vx_yard.specs.Gaining.{LeadsRvgIs};
+ghost use Rattle.vx_script.specs.declared.line.ScriptLine.TheVariants.{Rvg};
 ghost use Rattle.vx_events.specs.StepsOver.{is_for_group, over_group_at};
-ghost use Rattle.vx_group_lines.specs.Plain.{is_block_kind, is_group_kind, is_group_line, plain_site};
+ghost use Rattle.vx_group_lines.specs.Plain.{goes_to_group, grouped_at, is_block_kind, is_group_kind, is_group_line, plain_at, starts_with_data};
 ghost use Rattle.vx_yard.specs.OfSites.{AsAsked, HasCalled};
-ghost use Rattle.vx_yard.specs.Standing.{LeadsOverIs, LeadsOverOrStops, StandsFor};
+ghost use Rattle.vx_yard.specs.Standing.{LeadsOverIs, StandsFor};
 ghost use Rattle.vx_yard.specs.Working.{IsFree, takes_memory};
 ghost use Rattle.vx_yard.specs.Yards.{IsYardKept, IsTold, in_files};
 
@@ -23,9 +28,19 @@ use std::alloc::Global;
 use vx_disk::Rack;
 use vx_events::Said;
 use vx_model::{Name, OutOfMemory};
-use vx_order::VolumeKind;
+use vx_order::{VolumeFacts, VolumeKind};
 use vx_script::ScriptLine;
 use vx_yard::Yard;
+
+// Whether a data volume stands first.
+fn leads_with_data(volumes: &[VolumeFacts]) -> bool
+    ensures { result ≡ starts_with_data volumes.now }
+{
+    if volumes.is_empty() {
+        return false;
+    }
+    matches!(volumes[0].kind, VolumeKind::Data)
+}
 
 // Whether the disks of a site are a group without a replicated volume group.
 fn is_group<R: Rack>(yard: &Yard<R>, name: &Name) -> bool
@@ -34,17 +49,26 @@ fn is_group<R: Rack>(yard: &Yard<R>, name: &Name) -> bool
     ensures { (d : Doubted) → StandsFor d yard.now → result ≡ over_group_at d.world name.now }
 {
     let site = yard.site_of(name);
-    yard.facts[site].grouped && yard.facts[site].rvg.is_none()
+    yard.facts[site].grouped && !leads_with_data(yard.facts[site].volumes.as_slice())
 }
 
 // Whether the disks of a site are a group.
-fn is_grouped<R: Rack>(yard: &Yard<R>, name: &Name) -> bool {
+fn is_grouped<R: Rack>(yard: &Yard<R>, name: &Name) -> bool
+    requires kept { IsYardKept yard.now }
+    requires named { IsSome (seat_of yard.now.facts.items name.now) }
+    ensures { (d : Doubted) → StandsFor d yard.now → result ≡ grouped_at d.world name.now }
+{
     let site = yard.site_of(name);
     yard.facts[site].grouped
 }
 
 // Whether a volume is one of a group, and no data volume of a replicated volume group.
-fn is_plain<R: Rack>(yard: &Yard<R>, name: &Name, volume: &Name) -> bool {
+fn is_plain<R: Rack>(yard: &Yard<R>, name: &Name, volume: &Name) -> bool
+    requires kept { IsYardKept yard.now }
+    requires named { IsSome (seat_of yard.now.facts.items name.now) }
+    requires there { (s : ℕ) (f : SiteFacts) → seat_of yard.now.facts.items name.now ≡ Some s → slice_get yard.now.facts.items s ≡ Some f → IsSome (place_of f.volumes volume.now) }
+    ensures { (d : Doubted) → StandsFor d yard.now → result ≡ plain_at d.world name.now volume.now }
+{
     let site = yard.site_of(name);
     if !yard.facts[site].grouped {
         return false;
@@ -72,29 +96,11 @@ fn is_word_of_group(words: &ScriptLine) -> bool
     }
 }
 
-// The site of any other line that goes to a group where its site is over one.
-fn site_named(words: &ScriptLine) -> Option<&Name>
-    ensures { option_copied result ≡ plain_site words.now }
-{
-    match words {
-        ScriptLine::Write { site, .. } => Some(site),
-        ScriptLine::Put { site, .. } => Some(site),
-        ScriptLine::Read { site, .. } => Some(site),
-        ScriptLine::Show { site, .. } => Some(site),
-        ScriptLine::Disk { site, .. } => Some(site),
-        ScriptLine::Crash { site, .. } => Some(site),
-        ScriptLine::Fuse { site, .. } => Some(site),
-        ScriptLine::Recover { site } => Some(site),
-        ScriptLine::Status { site } => Some(site),
-        _ => None,
-    }
-}
-
 /// Whether a line that no test refuses goes to the group of its site.
 pub fn is_of_group<R: Rack>(yard: &Yard<R>, words: &ScriptLine) -> bool
     requires kept { IsYardKept yard.now }
     requires free { IsFree yard.now words.now }
-    ensures is { (d : Doubted) → StandsFor d yard.now → result ≡ is_for_group d.world words.now }
+    ensures is { (d : Doubted) → StandsFor d yard.now → result ≡ goes_to_group d.world words.now }
     ensures kind { result ≡ true → is_group_kind words.now ≡ true }
     ensures always { is_group_line words.now ≡ true → result ≡ true }
 {
@@ -108,10 +114,10 @@ pub fn is_of_group<R: Rack>(yard: &Yard<R>, words: &ScriptLine) -> bool
         ScriptLine::Put { site, volume, .. } => is_plain(yard, site, volume),
         ScriptLine::Read { site, volume, .. } => is_plain(yard, site, volume),
         ScriptLine::Show { site, volume, .. } => is_plain(yard, site, volume),
-        _ => match site_named(words) {
-            Some(site) => is_group(yard, site),
-            None => false,
-        },
+        ScriptLine::Disk { site, .. } => is_group(yard, site),
+        ScriptLine::Crash { site, .. } => is_group(yard, site),
+        ScriptLine::Fuse { site, .. } => is_group(yard, site),
+        _ => false,
     }
 }
 
@@ -125,6 +131,7 @@ fn work_blocks<R: Rack>(
     requires free { IsFree yard.old words.now }
     requires goes { is_block_kind words.now ≡ true }
     ensures leads { (d : Doubted) → StandsFor d yard.old → is_for_group d.world words.now ≡ true → LeadsOverIs d words.now yard.old yard.new result }
+    ensures above { (d : Doubted) → StandsFor d yard.old → is_for_rvg d.world words.now ≡ true → goes_to_group d.world words.now ≡ true → LeadsAboveIs d words.now yard.old yard.new result }
     ensures asked { (d : Doubted) → StandsFor d yard.old → is_for_group d.world words.now ≡ true → AsAsked d.world words.now yard.old yard.new }
     ensures called { (d : Doubted) → StandsFor d yard.old → is_for_group d.world words.now ≡ true → IfOk result (λ said. HasCalled d.world words.now said yard.old yard.new) }
     ensures whole { takes_memory words.now ≡ false → IsOk result }
@@ -170,7 +177,9 @@ pub fn work_group<R: Rack>(
     requires kept { IsYardKept yard.old }
     requires free { IsFree yard.old words.now }
     requires goes { is_group_kind words.now ≡ true }
-    ensures leads { (d : Doubted) → StandsFor d yard.old → is_for_group d.world words.now ≡ true → LeadsOverOrStops d words.now yard.old yard.new result }
+    ensures leads { (d : Doubted) → StandsFor d yard.old → is_for_group d.world words.now ≡ true → LeadsBesideIs d words.now yard.old yard.new result }
+    ensures above { (d : Doubted) → StandsFor d yard.old → is_for_rvg d.world words.now ≡ true → goes_to_group d.world words.now ≡ true → LeadsAboveIs d words.now yard.old yard.new result }
+    ensures rvg { (d : Doubted) (site srl maps : List ℕ) (volumes : List (List ℕ)) → StandsFor d yard.old → words.now ≡ Rvg site srl maps volumes → LeadsRvgIs d site srl maps volumes yard.old yard.new result }
     ensures asked { (d : Doubted) → StandsFor d yard.old → is_for_group d.world words.now ≡ true → AsAsked d.world words.now yard.old yard.new }
     ensures called { (d : Doubted) → StandsFor d yard.old → is_for_group d.world words.now ≡ true → IfOk result (λ said. HasCalled d.world words.now said yard.old yard.new) }
     ensures whole { takes_memory words.now ≡ false → IsOk result }
