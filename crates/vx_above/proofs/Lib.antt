@@ -14,3 +14,4 @@ pub mod OverLines
 pub mod SiteCalls
 pub mod FuseGoing
 pub mod Quiet
+pub mod StillNoted

@@ -2,6 +2,7 @@
 use Rattle.std.proofs.Common.{◌≡◌, ◌∙◌, ◌+◌, ◌<◌, ℕ, Bool, true, false, List, [], ap, sym, subst, refl, arith}
 use Rattle.std.specs.Prelude.{Option, Some, None, Err, ltb, slice_get, slice_set}
 use Rattle.vx_history.proofs.Fuses.{worked_twice}
+use Rattle.vx_history.proofs.Updates.{updated_other}
 use Rattle.vx_history.specs.Doubts.{Doubted}
 use Rattle.vx_history.specs.Events.{delivered, packet_at}
 use Rattle.vx_history.specs.Refusals.{Outcome, says}
@@ -25,42 +26,47 @@ use Rattle.vx_peers.specs.Answers.{is_answer}
 use Rattle.vx_diskset.specs.DiskSets.{CrashedAt}
 use Rattle.vx_diskset.specs.Holds.{beside_of, header_links, state_with}
 use Rattle.vx_diskset.specs.Keeps.{KeptAt}
-use Rattle.vx_diskset.specs.Noted.{NotesOn}
+use Rattle.vx_diskset.specs.Aboves.{site_in}
+use Rattle.vx_diskset.specs.Noted.{NotesOn, below_rvg}
 use Rattle.vx_diskset.specs.Stands.{KeepsRole, RoleIs, SiteStands}
 use Rattle.vx_diskset.specs.declared.disk_set.DiskSet.{DiskSet}
 use Rattle.vx_diskset.specs.declared.disk_set.DiskSet.TheVariants.{Over}
 use Rattle.vx_diskset.specs.declared.over_set.OverSet.{OverSet}
 use Rattle.vx_events.proofs.RvgEvents.{rvg_apart}
 use Rattle.vx_events.specs.GroupLines.{is_over_group}
+use Rattle.vx_events.specs.GroupNotes.{note_at}
 use Rattle.vx_events.specs.LinkEnds.{LinkEnds}
 use Rattle.vx_events.specs.RvgLinks.{AllKnown, is_target, works_at}
 use Rattle.vx_events.specs.RvgViews.{is_over_rvg}
+use Rattle.vx_events.specs.RvgWorks.{FuseRanOut}
 use Rattle.vx_events.specs.StepsOver.{facts_over}
 use Rattle.vx_events.specs.declared.said.Said.{Said}
 use Rattle.vx_events.specs.declared.said.Said.TheVariants.{Ignored, Refused}
 use Rattle.vx_joins.specs.Hearings.{StoresAt}
 use Rattle.vx_above.proofs.Moved.{OverCall}
 use Rattle.vx_above.proofs.OverComes.{lit_burned}
-use Rattle.vx_above.proofs.OverSites.{OverIs, over_set}
+use Rattle.vx_above.proofs.OverSites.{OverIs, over_set, site_noted}
+use Rattle.vx_above.proofs.StillNoted.{config_on, works_still}
 use Rattle.vx_link_lines.proofs.HeadedAbove.{above_done, above_refused}
 use Rattle.vx_link_lines.proofs.HeaderCalls.{IsHeader, answered_keep}
 use Rattle.vx_link_lines.proofs.HeardLine.{unheard_carries, unheard_changes, unheard_ends, unheard_node, unheard_stands}
 use Rattle.vx_link_lines.proofs.HeardMoves.{Heard, heard_behind, heard_carried, heard_ends, heard_kept_as, heard_role, less_true, refused_noted}
 use Rattle.vx_link_lines.proofs.HeardWorld.{heard_header, heard_rose}
+use Rattle.vx_link_lines.proofs.LinkAbove.{links_still}
 use Rattle.vx_link_lines.proofs.LinkedLeads.{linked_done}
 use Rattle.vx_link_lines.proofs.NotedYard.{carries_noted, note_one}
 use Rattle.vx_link_lines.proofs.SetAbove.{other_number, same_number}
 use Rattle.vx_link_lines.proofs.Turned.{Moves, moves_reach}
 use Rattle.vx_link_lines.specs.Headed.{behind, noted_by}
 use Rattle.vx_yard.proofs.Carrying.{LetsGoBy}
-use Rattle.vx_yard.proofs.Lists.{set_same}
 use Rattle.vx_yard.proofs.NoteSite.{changes_one}
 use Rattle.vx_yard.proofs.OneSite.{Changed}
 use Rattle.vx_yard.specs.AboveLines.{LeadsLinked}
 use Rattle.vx_yard.specs.Happenings.{reply_of}
-use Rattle.vx_yard.specs.Standing.{BeginsFirst, IsSameSite, StandsFor}
+use Rattle.vx_yard.specs.Standing.{StandsFor}
 use Rattle.vx_yard.specs.Writes.{noted_facts}
-use Rattle.vx_yard.specs.Yards.{IsTold}
+use Rattle.vx_yard.specs.Yards.{IsTold, count_of}
+use Rattle.vx_yard.proofs.ChangeSite.{rose_none}
 use Rattle.vx_yard.specs.declared.yard.Yard.{Yard}
 
 -- the line works at the target of its packet alone
@@ -112,27 +118,22 @@ module _ {R : Type 0} {g : Ghosts R} (d : Doubted) (number : ℕ) (p : Packet) (
           (subst (λ (y : DiskSet R g). StillAt old new said (Over was.set) y) (sym now.is) (still_over old new said was.set now.set stands below over up))
 
   -- nobody hears it
-  pub unheard_above : (y : Yard R g) (e : DiskSet R g) → StandsFor d y → s < d.world.sites → slice_get y.disk_sets.items s ≡ Some e → is_over_rvg (d.world.nodes s) ≡ true → n.state ≡ IsUp → NotesOn e e
+  pub unheard_above : (y : Yard R g) (e : DiskSet R g) → StandsFor d y → s < d.world.sites → slice_get y.disk_sets.items s ≡ Some e → is_over_rvg (d.world.nodes s) ≡ true
       → delivered d.world number (packet_at d.world.packets number) ≡ says d.world IsIgnored → LeadsLinked d line Ignored y y
-  unheard_above y e stands below there over up notes is =
-      let changes = unheard_changes d number p y e at stands below there is in
-      let node = unheard_node d number p y e at stands below there is in
-      let stood : StandsFor to y = unheard_stands d number p y e at stands below there is in
-      let within : s < to.world.sites = omega (arith, below, changes.sites) in
-      still_leads y y Ignored e e stands below over up
-      (record { there = there; later = record { counts = λ k. omega arith; told = λ told. told }; disk_sets = sym (set_same y.disk_sets.items s e there); racks = refl }) notes
-      (record {
-        changes = changes;
-        node = node;
-        links = stood.links;
-        stands = subst (λ (k : Node). SiteStands (beside_of to s) k e) node (stood.disk_sets.sites s e within there);
-        role = subst (λ (k : Node). RoleIs k e) node (stood.roles.each s e within there);
-        first = subst (λ (k : Node). BeginsFirst s k) node (stood.first s within);
-        doubt = λ a some. subst (λ (k : Node). IsSameSite k a.node) node (stood.doubts s a some);
-        facts = stood.facts;
-        carries = unheard_carries d number p y e at stands below there is;
-      })
-      (unheard_ends d number p y e at stands below there is (AllKnown (IsTold y) d.world line))
+  unheard_above y e stands below there over is =
+      let set : OverIs e = over_set (beside_of d s) n e (stands.disk_sets.sites s e below there) over in
+      let noted = site_noted d y s set.set stands below (there ∙ ap (λ (x : DiskSet R g). Some x) set.is) over in
+      let config = config_on (below_rvg n) (note_at n) (site_in set.set) noted.0 in
+      record {
+        next = to;
+        fails = [];
+        works = links_still line d s over (works_target d number p at) (works_apart d number p at) to
+            (λ i apart. (unheard_changes d number p y e at stands below there is).nodes i apart ∙ updated_other d.world.nodes s i (worked n) apart) (unheard_node d number p y e at stands below there is) (IsTold y) Ignored
+            (works_still s [] (FuseRanOut n Ignored) (note_at n) config.0 config.1) (unheard_ends d number p y e at stands below there is (AllKnown (IsTold y) d.world line)) tt tt;
+        stands = unheard_stands d number p y e at stands below there is;
+        carries = λ carries. unheard_carries d number p y e at stands below there is (carries_noted d y s carries);
+        rose = rose_none (count_of y) (count_of y) (λ k u. omega arith);
+      }
 
   -- ---- its link hears it
 

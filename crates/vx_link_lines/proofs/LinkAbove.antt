@@ -7,9 +7,12 @@ use Rattle.std.proofs.lemmas.Bool.{cases_eq}
 use Rattle.vx_history.proofs.Updates.{at_place, updated_other}
 use Rattle.vx_history.specs.Doubts.{Doubted}
 use Rattle.vx_history.specs.Groups.{GroupNode}
-use Rattle.vx_history.specs.World.{Node, updated, with_node}
+use Rattle.vx_history.specs.Steps.{burned, worked}
+use Rattle.vx_history.specs.World.{Fuse, Node, updated, with_node}
 use Rattle.vx_script.specs.declared.line.ScriptLine.{ScriptLine}
+use Rattle.vx_above.proofs.OverComes.{lit_burned}
 use Rattle.vx_above.proofs.OverSites.{note_is}
+use Rattle.vx_effects.proofs.Effects.{updated_self}
 use Rattle.vx_disk.specs.declared.shelf.Shelf.{Ghosts}
 use Rattle.vx_events.proofs.Parts.{none_done}
 use Rattle.vx_events.specs.Doubts.{IsAs}
@@ -127,6 +130,32 @@ module _ (line : ScriptLine) (d : Doubted) (s : ℕ) (over : is_over_rvg (d.worl
         works = logs;
         calls = passes;
       }
+
+-- a line that made no call on the disks of the site
+module _ (line : ScriptLine) (d : Doubted) (s : ℕ) (over : is_over_rvg (d.world.nodes s) ≡ true) (works : works_at d.world line s ≡ true)
+    (others : (i : ℕ) → (i ≡ s → ⊥) → works_at d.world line i ≡ false) (middle : Doubted) (same : (i : ℕ) → (i ≡ s → ⊥) → middle.world.nodes i ≡ d.world.nodes i)
+    (node : middle.world.nodes s ≡ worked (d.world.nodes s)) where
+  abbrev old : Node
+  old = d.world.nodes s
+
+  abbrev kept : GroupNode
+  kept = note_at (d.world.nodes s)
+
+  worked_there : noted_there d.world line s kept (worked old) ≡ worked old
+  worked_there =
+      ap (λ (b : Bool). let k : Node = record old { group = Some kept; fuse = fuse_there b old.fuse (burned old.fuse) } in k) works
+      ∙ ap (λ (f : Fuse). let k : Node = record old { group = Some kept; fuse = f } in k) (lit_burned old.fuse)
+      ∙ ap (λ (o : Option GroupNode). let k : Node = record old { group = o; fuse = burned old.fuse } in k) (sym (note_is old over))
+
+  world_same : over_world line d s over works others middle same kept ≡ middle
+  world_same =
+      ap (λ (k : Node). record middle { world = with_node middle.world s k }) (subst (λ (k : Node). noted_there d.world line s kept k ≡ k) (sym node) worked_there)
+      ∙ ap (λ (f : ℕ → Node). record middle { world = record middle.world { nodes = f } }) (fun_ext (λ i. updated_self middle.world.nodes s i))
+
+  pub links_still : (told : Type 0) (said : Said) → NotesWork (FuseRanOut (d.world.nodes s) said) s [] (note_at (d.world.nodes s)) (note_at (d.world.nodes s)) → LinkEnds (AllKnown told d.world line) d line [] said middle
+      → NeedsLogs d.world line said → NeedsPasses d.world line said → LinksOver told d line [] said middle
+  links_still told said worked ends logs passes =
+      subst (λ (x : Doubted). LinksOver told d line [] said x) world_same (links_over line d s over works others middle same kept told [] said worked [] [] refl tt ends logs passes)
 
 module _ {R : Type 0} {g : Ghosts R} where
   -- nothing of the line was done, as memory was short

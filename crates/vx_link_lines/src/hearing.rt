@@ -127,7 +127,7 @@ pub(crate) fn hear_answer<R: Rack>(
     requires few { target < MOST_SITES }
     ensures leads { (d : Doubted) (p : Packet) → StandsFor d yard.old → is_over_rvg (d.world.nodes target) ≡ false → Carries d yard.old → GoodFor d yard.old → packet_at d.world.packets number ≡ Some p → p.target ≡ target
         → p.source ≡ source → target < d.world.sites → is_answer p.message ≡ true → LeadsIs d (Deliver number) yard.old yard.new result }
-    ensures above { (d : Doubted) (p : Packet) → StandsFor d yard.old → is_over_rvg (d.world.nodes target) ≡ true → (d.world.nodes target).state ≡ UpState → Carries d yard.old → GoodFor d yard.old → packet_at d.world.packets number ≡ Some p
+    ensures above { (d : Doubted) (p : Packet) → StandsFor d yard.old → is_over_rvg (d.world.nodes target) ≡ true → Carries d yard.old → GoodFor d yard.old → packet_at d.world.packets number ≡ Some p
         → p.target ≡ target → p.source ≡ source → target < d.world.sites → is_answer p.message ≡ true → LeadsLinkedIs d (Deliver number) yard.old yard.new result }
     ensures asked { (d : Doubted) → StandsFor d yard.old → is_over_rvg (d.world.nodes target) ≡ false → target < d.world.sites → AllSameFailing yard.old yard.new }
     // One header where the link comes to count more as stored, and else no call.

@@ -28,12 +28,9 @@ use Rattle.vx_yard.proofs.ApplySite.{calls_keep}
 use Rattle.vx_yard.proofs.OverGroup.{none_noted}
 use Rattle.vx_link_lines.proofs.Behind.{behind_short}
 use Rattle.vx_yard.proofs.ChangeSite.{told_before}
-use Rattle.vx_joins.proofs.StoresNotes.{notes_rest}
 use Rattle.vx_link_lines.proofs.HeardAbove.{denied_above, heard_above, unheard_above}
 use Rattle.vx_link_lines.proofs.LinkAbove.{stays_above, stops_above}
-use Rattle.vx_model.specs.declared.site.SiteState.TheVariants.{Up as IsUp}
 use Rattle.vx_events.specs.RvgViews.{is_over_rvg}
-use Rattle.vx_untold.specs.Shades.{shade_rack}
 use Rattle.vx_link_lines.proofs.HeardLine.{deaf_to, heard_by, refused_by, stays_same, stop_is, stop_none, unheard_stays}
 use Rattle.vx_link_lines.proofs.DeliverCalls.{deaf_calls, deaf_head, heard_head, never_short, never_stopped, refused_head}
 use Rattle.vx_link_lines.proofs.HeardWorld.{answer_says, hears_as, listening, shown_by}
@@ -249,26 +246,25 @@ returns-in-Ok-clause-leads g c = λ d p stands off carries good at to from below
     })
 
 pub returns-in_default-clause-above : goal.returns-in_default-clause-above
-returns-in_default-clause-above g c = λ d p stands over up carries good at to from below answers.
+returns-in_default-clause-above g c = λ d p stands over carries good at to from below answers.
     let y = c.args.yard.now in
     let t = c.args.target in
     let e = get_there y.disk_sets.items t c.requires.disk_set in
-    let is_rack = (g.met.R.Rack g.world.𝓛 g.world.𝓜 g.world.𝓡 ((λ s x. x), (λ x. x), (λ x. x), λ x. x)).rack in
     let is = deaf_to d c.args.number p at answers stands.links
     (λ small. c.in_default.ensures.deaf d.world p (event_for p.message) (c.deref.ensures.value ∙ stands.facts) refl to from below (subst (λ (i : ℕ). i < d.world.sites) from small)
     (λ over. over_unlinked d y c.args.target c.args.source (get_there y.disk_sets.items c.args.target c.requires.disk_set).0 stands below (get_there y.disk_sets.items c.args.target c.requires.disk_set).1 over) (listed d stands.links)
     (hears_as d c.args.number p at answers p.message answers)) in
     unheard_above d c.args.number p at y e.0 stands (subst (λ (i : ℕ). i < d.world.sites) (sym to) below) (subst (λ (i : ℕ). slice_get y.disk_sets.items i ≡ Some e.0) (sym to) e.1)
-    (subst (λ (i : ℕ). is_over_rvg (d.world.nodes i) ≡ true) (sym to) over) (subst (λ (i : ℕ). (d.world.nodes i).state ≡ IsUp) (sym to) up) (notes_rest (shade_rack g.R.Shelf.meaning is_rack) e.0) is
+    (subst (λ (i : ℕ). is_over_rvg (d.world.nodes i) ≡ true) (sym to) over) is
 
 pub returns-in_default-state_here-clause-above : goal.returns-in_default-state_here-clause-above
-returns-in_default-state_here-clause-above g c = λ d p stands over up carries good at to from below answers. stops_above d _ c.args.yard.now stands
+returns-in_default-state_here-clause-above g c = λ d p stands over carries good at to from below answers. stops_above d _ c.args.yard.now stands
 
 pub returns-in_default-heard_needs-clause-above : goal.returns-in_default-heard_needs-clause-above
-returns-in_default-heard_needs-clause-above g c = λ d p stands over up carries good at to from below answers. stops_above d _ c.args.yard.now stands
+returns-in_default-heard_needs-clause-above g c = λ d p stands over carries good at to from below answers. stops_above d _ c.args.yard.now stands
 
 pub returns-in-None-clause-above : goal.returns-in-None-clause-above
-returns-in-None-clause-above g c = λ d p stands over up carries good at to from below answers.
+returns-in-None-clause-above g c = λ d p stands over carries good at to from below answers.
     let old = c.args.yard.now in
     let t = c.args.target in
     let before = c.index_mut.result.now in
@@ -289,7 +285,7 @@ returns-in-None-clause-above g c = λ d p stands over up carries good at to from
     }) (told_before old.disk_sets.items t before after there c.hear-said.ensures.later))
 
 pub returns-in-Some-refusal-clause-above : goal.returns-in-Some-refusal-clause-above
-returns-in-Some-refusal-clause-above g c = λ d p stands over up carries good at to from below answers.
+returns-in-Some-refusal-clause-above g c = λ d p stands over carries good at to from below answers.
     let old = c.args.yard.now in
     let t = c.args.target in
     let q = p.source in
@@ -328,7 +324,7 @@ returns-in-Some-refusal-clause-above g c = λ d p stands over up carries good at
     })
 
 pub returns-in-Ok-clause-above : goal.returns-in-Ok-clause-above
-returns-in-Ok-clause-above g c = λ d p stands over up carries good at to from below answers.
+returns-in-Ok-clause-above g c = λ d p stands over carries good at to from below answers.
     let old = c.args.yard.now in
     let t = c.args.target in
     let q = p.source in
