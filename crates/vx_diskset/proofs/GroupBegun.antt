@@ -73,6 +73,7 @@ module _ {R : Type 0} {g : Ghosts R} where
       few = few;
       some = some;
       maps = λ never note there. absurd (never state);
+      plain = λ never note there. absurd (never state);
     }
 
     bare_stop : (site : ℕ) (old : Meaning) (s : GroupSet R g) (stop : Stop) → cut_value s.cut ≡ None → BeginsGroup site n old s.site (Err stop) → IsGroupSet beside n s

@@ -142,6 +142,7 @@ module _ {R : Type 0} {g : Ghosts R} where
     few = it.few;
     some = it.some;
     maps = it.maps;
+    plain = it.plain;
   }
 
   -- a site with a replicated volume group is not bare

@@ -124,6 +124,7 @@ module _ (n k : Node) (like : IsLikeGroup n k) where
       few = subst (λ (x : ℕ). x ≤ MOST_DISKS) like.disks it.few;
       some = subst (λ (x : ℕ). LEAST_BLOCKS ≤ x) like.blocks it.some;
       maps = λ some note is. it.maps (λ state. some (sym like.state ∙ state)) note (like.group ∙ is);
+      plain = λ some note is. it.plain (λ state. some (sym like.state ∙ state)) note (like.group ∙ is);
     }
 
 -- what a line that works on a site notes of its fuse

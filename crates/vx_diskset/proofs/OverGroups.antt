@@ -38,6 +38,7 @@ module _ {R : Type 0} {g : Ghosts R} where
         few = it.few;
         some = it.some;
         maps = λ some note there. stays note (it.maps some note there);
+        plain = λ some note there. it.plain some note there;
       }
 
   pub set_later : (e : DiskSet R g) (s : GroupSet R g) (site : GroupSite R g) → e ≡ OfGroup s → CountsAlike s.site site → Later e (OfGroup (record s { site = site }))
@@ -89,6 +90,7 @@ module _ {R : Type 0} {g : Ghosts R} where
         few = it.few;
         some = it.some;
         maps = λ some note there. stays note (it.maps some note there);
+        plain = λ some note there. it.plain some note there;
       }
 
   pub set_asked : (beside : KeptBeside) (n : Node) (calls pick : ℕ) (e : DiskSet R g) (s : GroupSet R g) (site : GroupSite R g) → e ≡ OfGroup s
@@ -127,6 +129,7 @@ module _ {R : Type 0} {g : Ghosts R} where
           few = it.few;
           some = it.some;
           maps = λ other note there. stays note (it.maps some note there);
+          plain = λ other note there. it.plain some note there;
         };
       }
     where

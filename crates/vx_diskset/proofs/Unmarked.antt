@@ -75,6 +75,7 @@ module _ {R : Type 0} {g : Ghosts R} where
     few = it.few;
     some = it.some;
     maps = λ some note there. absurd (some it.marked.state);
+    plain = λ some note there. absurd (some it.marked.state);
   }
 
   -- what such a set stands for

@@ -41,6 +41,7 @@ use Rattle.vx_kept.specs.Opens.{OpenVolumes}
 use Rattle.vx_grouped.specs.Readies.{ready_of}
 use Rattle.vx_grouped.specs.declared.idle.Idle.{Idle}
 use Rattle.vx_untold.specs.Shades.{shade_meaning}
+use Rattle.vx_events.specs.RvgFits.{rvg_noted}
 use Rattle.vx_events.specs.RvgNotes.{inside_of}
 use Rattle.vx_ground.specs.Lifted.{laid_volumes}
 use Rattle.vx_diskset.specs.Aboves.{above_in, site_in}
@@ -252,6 +253,8 @@ module _ {R : Type 0} {g : Ghosts R} where
     pub few : n.disks ≤ MOST_DISKS
     pub some : LEAST_BLOCKS ≤ n.blocks
     pub maps : (n.state ≡ IsBare → ⊥) → (note : GroupNode) → n.group ≡ Some note → StandMaps note s.site
+    -- the configuration that it notes names no replicated volume group
+    pub plain : (n.state ≡ IsBare → ⊥) → (note : GroupNode) → n.group ≡ Some note → rvg_noted note ≡ None
 
   -- disks by themselves as an import sees them
   abbrev pub idle_ready : Idle R g → Meaning

@@ -222,7 +222,7 @@ module _ {R : Type 0} {g : Ghosts R} where
               (subst (λ (x : DiskSet R g). Changed old new s before x) to.is changed)
               comes
               (up_notes m note to.set.site up).0
-              (up_set m note to.set (record { few = site.few; some = site.some }) up to.holds.5 cut to.holds.2.cut)
+              (up_set m note to.set (record { few = site.few; some = site.some }) up to.holds.5 ? cut to.holds.2.cut)
               (subst (λ (x : DiskSet R g). FailsAs m x) to.is (fails_as m refl)) (fused_none m (OfGroup to.set) unfused) fact so.0 load
 
           shown : view ≡ grouped_view (record n { state = IsUp }) note

@@ -55,6 +55,7 @@ use Rattle.vx_events.specs.GroupMaps.{MapsAttached, MapsCalled, MapsLost}
 use Rattle.vx_group_lines.proofs.MapGoing.{on_map, with_goes}
 use Rattle.vx_group_lines.proofs.Serials.{att_left}
 use Rattle.vx_group_lines.proofs.MapLines.{att_named, copies_known, copies_unknown, like_named, logs_low}
+use Rattle.vx_group_lines.proofs.Plains.{att_rvg, rvg_goes}
 use Rattle.vx_group_lines.specs.Noting.{IsNotedRefusal, reply_noted}
 
 -- the regions of a volume, by its note
@@ -161,10 +162,10 @@ module _ {R : Type 0} {g : Ghosts R} where
     v = plain_number (note_at (d.world.nodes s)) volume
 
     att_fails_same : SameTable note (λ o e. AttFails v plex o e)
-    att_fails_same = record { same = λ many o e t fails next was now names noted noted_now change. keeps_table t many fails o e note next names (uses was v plex) was now noted noted_now change }
+    att_fails_same = record { same = λ many o e t fails next was now names noted noted_now change. keeps_table t many fails o e note next names (uses was v plex) was now noted noted_now change; rvg = λ o e next was now noted noted_now change. rvg_goes note next was now noted noted_now change.parts.rvg }
 
     att_cuts_same : SameTable note (λ o e. AttCuts v plex o e)
-    att_cuts_same = record { same = λ many o e t fails next was now names noted noted_now change. att_table t many fails o e note next names v plex was now noted noted_now change }
+    att_cuts_same = record { same = λ many o e t fails next was now names noted noted_now change. att_table t many fails o e note next names v plex was now noted noted_now change; rvg = λ o e next was now noted noted_now change. rvg_goes note next was now noted noted_now (att_rvg v plex o e was now change) }
 
     pub att_ends : (count : ℕ) → OnSites (λ o e. AttCalled n note v plex o e (Ok count)) before after → OnSites (λ o e. AttMapped v plex o e (Ok count)) before after → (IsTrue (is_plex_on it.call.at.set.site v plex) → count ≡ 0) → (is_plex_on it.call.at.set.site v plex ≡ false → RegionsOf it.call.at.set.site v count)
         → ((no : No) → refuses_att it.call.at.set.site v plex ≡ Some no → ⊥) → new.facts.items ≡ old.facts.items → SameLoad old new → LeadsOver d (PlexAttach name volume plex) (DoneAt count) old new
@@ -181,7 +182,7 @@ module _ {R : Type 0} {g : Ghosts R} where
             att_left n note it.call.at.set.site v plex is_up (maps_were d old new name s before after stands it.call) never,
           );
         })
-        (record { same = λ many o e t fails next was now names noted noted_now change. stated_table t many fails o e note next names (λ k. uses was v plex k) v plex Active was now noted noted_now change })
+        (record { same = λ many o e t fails next was now names noted noted_now change. stated_table t many fails o e note next names (λ k. uses was v plex k) v plex Active was now noted noted_now change; rvg = λ o e next was now noted noted_now change. rvg_goes note next was now noted noted_now change.moves.parts.rvg })
         on (on_map (λ o e. AttMapped v plex o e (Ok count)) (λ o e. UpMaps (AttMaps v plex) o e) (λ o e m. m.0) before after it.call.at.set it.call.at.is_set maps) facts load
 
     pub att_refused : (mid : Yard R g) (result : Result Said OutOfMemory) → Midway old mid → (why : No) → OnSites (λ o e. AttCalled n note v plex o e (Err (StopsBy why))) before after

@@ -32,6 +32,7 @@ use Rattle.vx_events.specs.GroupEnds.{AreOf}
 use Rattle.vx_events.specs.GroupLines.{noting}
 use Rattle.vx_events.specs.GroupNotes.{note_at}
 use Rattle.vx_events.specs.GroupViews.{noted_table}
+use Rattle.vx_events.specs.RvgFits.{rvg_noted}
 use Rattle.vx_events.specs.StepsOver.{fact_of_group}
 use Rattle.vx_yard.proofs.Carrying.{LetsGo, SameLoad}
 use Rattle.vx_yard.proofs.ChangeSite.{counts_later}
@@ -161,6 +162,10 @@ module _ {R : Type 0} {g : Ghosts R} where
     pub maps_were : StandMaps note call.at.set.site
     maps_were = call.at.stands.maps call.at.made note (group_noted_at d old name s before call.at)
 
+    -- it names no replicated volume group
+    pub plain_were : rvg_noted note ≡ None
+    plain_were = call.at.stands.plain call.at.made note (group_noted_at d old name s before call.at)
+
     -- nothing is cut, and so it is noted
     pub note_uncut : n.state ≡ IsUp → note.cut ≡ None
     note_uncut up =
@@ -188,22 +193,22 @@ module _ {R : Type 0} {g : Ghosts R} where
         subst (λ (x : DiskSet R g). FailsAs m x) is (fails_then n m before after same call.failing (stands.failing s before call.at.below call.changed.there))
 
     -- it is up still
-    pub up_follows : (k : GroupNode) (next : GroupSet R g) → n.state ≡ IsUp → after ≡ OfGroup next → UpNoted (with_note k n) k next.site → StandMaps k next.site → k.cut ≡ note.cut → cut_in after ≡ cut_in before
+    pub up_follows : (k : GroupNode) (next : GroupSet R g) → n.state ≡ IsUp → after ≡ OfGroup next → UpNoted (with_note k n) k next.site → StandMaps k next.site → rvg_noted k ≡ None → k.cut ≡ note.cut → cut_in after ≡ cut_in before
         → FusedAs (with_note k n) (OfGroup next) → (f : SiteFacts) → f ≡ fact_of_group (with_note k n) k → new.facts.items ≡ slice_set old.facts.items s f → SameLoad old new
         → Follows d (record d { world = worked_on (noting d.world s k) s }) old new
-    up_follows k next up is noted maps cut_noted cut fuse f fact facts load =
+    up_follows k next up is noted maps plain cut_noted cut fuse f fact facts load =
         follows_on d (record d { world = worked_on (noting d.world s k) s }) s (with_note k n) k f old new before next stands call.at.below (called_to next is)
         (arrives_worked d d s n k (d.world.gathering s) (begins_at d old name s before stands call.at))
         (up_notes (with_note k n) k next.site noted).0
-        (up_set (with_note k n) k next (record { few = sized.few; some = sized.some }) noted maps (cut_of next is None (cut ∙ before_cut ∙ set_uncut up)) (cut_noted ∙ note_uncut up))
+        (up_set (with_note k n) k next (record { few = sized.few; some = sized.some }) noted maps plain (cut_of next is None (cut ∙ before_cut ∙ set_uncut up)) (cut_noted ∙ note_uncut up))
         (failing_to (with_note k n) next is refl) fuse fact facts load
 
     -- its fuse ran out
-    pub off_follows : (k : GroupNode) (next : GroupSet R g) → n.state ≡ IsUp → after ≡ OfGroup next → DownNoted (crashed (with_note k n) 0) k next.site → StandMaps k next.site
+    pub off_follows : (k : GroupNode) (next : GroupSet R g) → n.state ≡ IsUp → after ≡ OfGroup next → DownNoted (crashed (with_note k n) 0) k next.site → StandMaps k next.site → rvg_noted k ≡ None
         → cut_in after ≡ k.cut → ((x : CutWrite) → next.cut ≡ Some x → FitsPlain k x.volume x.block (length x.bytes))
         → (f : SiteFacts) → f ≡ fact_of_group (crashed (with_note k n) 0) k → new.facts.items ≡ slice_set old.facts.items s f → LetsGo old new s
         → Follows d (record (happened d (CrashAt s 0) false) { world = worked_on (noting (happened d (CrashAt s 0) false).world s k) s }) old new
-    off_follows k next up is noted maps cut fits f fact facts lets =
+    off_follows k next up is noted maps plain cut fits f fact facts lets =
         let e : Doubted = happened d (CrashAt s 0) false in
         let none : HasNoRvg n = (set_notes (beside_of d s) n call.at.set call.at.stands call.at.made).1.none in
         let m : Node = crashed (with_note k n) 0 in
@@ -212,5 +217,5 @@ module _ {R : Type 0} {g : Ghosts R} where
         (arrives_crash d d s n (d.world.gathering s) (begins_at d old name s before stands call.at) call.at.below up none.log none.safe))
         (λ back. let w : IsDown ≡ IsUp = back in absurd (cc))
         (down_notes m k next.site noted).0
-        (down_set m k next (record { few = sized.few; some = sized.some }) noted maps (cut_of next is k.cut cut) fits)
+        (down_set m k next (record { few = sized.few; some = sized.some }) noted maps plain (cut_of next is k.cut cut) fits)
         (failing_to m next is refl) (fused_none m (OfGroup next) refl) fact facts lets

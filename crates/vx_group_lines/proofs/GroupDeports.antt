@@ -50,7 +50,7 @@ use Rattle.vx_above.proofs.SiteCalls.{calls}
 use Rattle.vx_above.proofs.Changing.{moves_table, moves_to, notes_table, reconfigures}
 use Rattle.vx_above.proofs.Fails.{contains_some}
 use Rattle.vx_group_lines.proofs.GroupAt.{away_notes}
-use Rattle.vx_group_lines.proofs.GroupCalls.{SetThen, calls_all, calls_are, calls_names, fused_since, note_uncut, set_uncut, sets_then, maps_were}
+use Rattle.vx_group_lines.proofs.GroupCalls.{SetThen, calls_all, calls_are, calls_names, fused_since, note_uncut, set_uncut, sets_then, maps_were, plain_were}
 use Rattle.vx_group_lines.proofs.GroupDone.{refused_leads}
 use Rattle.vx_group_lines.proofs.GroupEnding.{Calling, Midway, since_at}
 use Rattle.vx_group_lines.proofs.GroupLeads.{away_set, follows_off, leads_by, sized_of}
@@ -62,6 +62,7 @@ use Rattle.vx_history.specs.Missing.{with_maps}
 use Rattle.vx_events.specs.GroupMaps.{MapsCalled, MapsLost}
 use Rattle.vx_group_lines.proofs.MapGoing.{MapsAway, goes_away, on_both, with_goes}
 use Rattle.vx_group_lines.proofs.MapLines.{like_named, logs_bound, logs_low}
+use Rattle.vx_group_lines.proofs.Plains.{cleans_rvg, rvg_goes}
 use Rattle.vx_group_lines.proofs.Serials.{lacks_past, serial_noted}
 use Rattle.vx_group_lines.specs.Noting.{IsNotedRefusal, reply_noted}
 
@@ -148,7 +149,8 @@ module _ {R : Type 0} {g : Ghosts R} where
         (arrives_worked d e s _ k None (arrives_away d d s n (d.world.gathering s) (begins_at d old name s before stands it.call.at) it.call.at.below it.up none.running none.log none.safe))
         (λ up. let w : IsDeported ≡ IsUp = up in absurd (cc))
         (away_notes m k then.set.site gone).0
-        (away_set m k then.set (record { few = sized.few; some = sized.some }) gone go.stands clear (then.holds.1.same.cut ∙ note_uncut d old new name s before after stands it.call it.up))
+        (away_set m k then.set (record { few = sized.few; some = sized.some }) gone go.stands
+        (rvg_goes note next goes.was goes.now goes.noted goes.noted_now (cleans_rvg (site_disks was_site) (site_disks then.set.site) goes.was goes.now goes.change) ∙ plain_were d old new name s before after stands it.call) clear (then.holds.1.same.cut ∙ note_uncut d old new name s before after stands it.call it.up))
         (subst (λ (x : DiskSet R g). FailsAs m x) then.is (fails_then n m before after refl it.call.failing (stands.failing s before it.call.at.below it.call.changed.there)))
         (fused_since n m it.call.at.set then.set refl (since_at before after it.call.at.set then.set it.call.at.is_set then.is it.since) (site_away m k then.set.site gone)
         (subst (λ (x : DiskSet R g). FusedAs n x) it.call.at.is_set (stands.fuses s before it.call.at.below it.call.changed.there)))
@@ -171,8 +173,8 @@ module _ {R : Type 0} {g : Ghosts R} where
               (reconfigures s many fails o e note next names (λ c x. ConfigLoses s fails c x) (λ a b. NoteUnsettles false a b) was now noted noted_now (moves_to s many fails o e note next names none_again was now enough change) keeps)
               (record { none = by.none });
         })
-        (record { same = λ many o e t fails next was now names noted noted_now change. moves_table t many fails o e note next names none_again was now noted noted_now change })
-        (record { same = λ many o e t fails next was now names noted noted_now change. moves_table t many fails o e note next names none_again was now noted noted_now change })
+        (record { same = λ many o e t fails next was now names noted noted_now change. moves_table t many fails o e note next names none_again was now noted noted_now change; rvg = λ o e next was now noted noted_now change. rvg_goes note next was now noted noted_now change.parts.rvg })
+        (record { same = λ many o e t fails next was now names noted noted_now change. moves_table t many fails o e note next names none_again was now noted noted_now change; rvg = λ o e next was now noted noted_now change. rvg_goes note next was now noted noted_now change.parts.rvg })
         (λ which is. limit_wants note was_site name which (maps_were d old new name s before after stands it.call) is) why on maps refusal
 
     deport_memory : OnSites (λ o e. SiteDeported n note o e (Err MemoryStop)) before after → ⊥

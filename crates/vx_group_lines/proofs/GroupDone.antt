@@ -32,7 +32,7 @@ use Rattle.vx_yard.specs.Standing.{LeadsOver, LeadsOverIs, StandsFor}
 use Rattle.vx_yard.specs.Writes.{below_facts}
 use Rattle.vx_yard.specs.Yards.{IsTold}
 use Rattle.vx_yard.specs.declared.yard.Yard.{Yard}
-use Rattle.vx_group_lines.proofs.GroupCalls.{SetThen, calls_all, calls_are, calls_named, calls_names, calls_none, note_uncut, sets_then, maps_were}
+use Rattle.vx_group_lines.proofs.GroupCalls.{SetThen, calls_all, calls_are, calls_named, calls_names, calls_none, note_uncut, sets_then, maps_were, plain_were}
 use Rattle.vx_group_lines.proofs.GroupEnding.{Broke, Calling, FellOff, LeftDone, Means, Midway, SameTable, Wanted, called_why, lets_on, load_on, off_leads, up_leads, world_up}
 use Rattle.vx_group_lines.proofs.GroupMarks.{group_noted_at}
 use Rattle.vx_above.proofs.SiteCalls.{calls}
@@ -87,7 +87,8 @@ module _ {R : Type 0} {g : Ghosts R} where
         let go : MapsOn (By (site_disks was_site) (site_disks then.set.site) goes.was goes.now) note next then.set.site
         = goes_up By (with_note next n) note next next was_site then.set.site (Done (site_disks was_site) (site_disks then.set.site)) had goes then.holds.2 moved in
         let k : GroupNode = with_maps go.maps next in
-        up_leads d line old new name s before after stands it said (calls s old new many) k then.set then.is (up_with_maps go.maps (with_note next n) next then.set.site then.holds.2) go.stands then.holds.1.same.cut
+        up_leads d line old new name s before after stands it said (calls s old new many) k then.set then.is (up_with_maps go.maps (with_note next n) next then.set.site then.holds.2) go.stands
+        (table.rvg (site_disks was_site) (site_disks then.set.site) next goes.was goes.now goes.noted goes.noted_now goes.change ∙ plain_were d old new name s before after stands it.call) then.holds.1.same.cut
         (table.same many (site_disks was_site) (site_disks then.set.site) s (calls s old new many) next goes.was goes.now names goes.noted goes.noted_now goes.change) facts load
         (GroupDone k (calls_are d old new name s before after stands it.call many)
         (means.ends many (calls s old new many) (site_disks was_site) (site_disks then.set.site) next goes.was goes.now names goes.noted goes.noted_now (omega arith) (omega arith) goes.change then.holds.1 go.maps go.by) (leaves k (it.is_line.done k)))
@@ -115,7 +116,8 @@ module _ {R : Type 0} {g : Ghosts R} where
           (let go : MapsOn (By (site_disks was_site) (site_disks then.set.site) b.goes.was b.goes.now) note b.next then.set.site
           = goes_up By (with_note b.next n) note b.next b.next was_site then.set.site (Lost (site_disks was_site) (site_disks then.set.site)) had b.goes b.noted then.holds.1 in
           let k : GroupNode = with_maps go.maps b.next in
-          up_leads d line old new name s before after stands it (Refused (Device disk)) (calls s old new many) k then.set then.is (up_with_maps go.maps (with_note b.next n) b.next then.set.site b.noted) go.stands b.keeps.same.cut
+          up_leads d line old new name s before after stands it (Refused (Device disk)) (calls s old new many) k then.set then.is (up_with_maps go.maps (with_note b.next n) b.next then.set.site b.noted) go.stands
+          (table.rvg (site_disks was_site) (site_disks then.set.site) b.next b.goes.was b.goes.now b.goes.noted b.goes.noted_now b.goes.change ∙ plain_were d old new name s before after stands it.call) b.keeps.same.cut
           (table.same many (site_disks was_site) (site_disks then.set.site) s (calls s old new many) b.next b.goes.was b.goes.now names b.goes.noted b.goes.noted_now b.goes.change)
           (facts_same (below_facts (Device disk) f) refl r.facts) (load_on old mid new half r.same r.assemblies)
           (GroupFails disk k (calls_are d old new name s before after stands it.call many)
@@ -134,7 +136,8 @@ module _ {R : Type 0} {g : Ghosts R} where
           = calls_names d old new name s before after stands it.call it.call.at.set then.set it.call.at.is_set then.is many (omega arith) in
           subst (λ (x : Result Said OutOfMemory). LeadsOverIs d line old new x) (sym r.said)
           (off_leads d line old new name s before after stands it (Refused IsOff) (calls s old new many) k then.set then.is (down_with_maps no_maps (crashed (with_note b.next n) 0) b.next then.set.site b.noted)
-          (off_stands (crashed (with_note b.next n) 0) b.next b.next b.goes.now then.set.site b.goes.noted_now b.noted then.holds.1.1) b.keeps.same.cut
+          (off_stands (crashed (with_note b.next n) 0) b.next b.next b.goes.now then.set.site b.goes.noted_now b.noted then.holds.1.1)
+          (table.rvg (site_disks was_site) (site_disks then.set.site) b.next b.goes.was b.goes.now b.goes.noted b.goes.noted_now b.goes.change ∙ plain_were d old new name s before after stands it.call) b.keeps.same.cut
           (note_uncut d old new name s before after stands it.call it.up)
           (table.same many (site_disks was_site) (site_disks then.set.site) s (calls s old new many) b.next b.goes.was b.goes.now names b.goes.noted b.goes.noted_now b.goes.change)
           (below_facts IsOff f) refl (r.facts ∙ ap (λ (fs : List SiteFacts). slice_set fs s (below_facts IsOff f)) half.facts) (lets_on old mid new s half r.same r.assemblies)
@@ -147,7 +150,7 @@ module _ {R : Type 0} {g : Ghosts R} where
           let w = then.holds in
           subst (λ (x : Result Said OutOfMemory). LeadsOverIs d line old new x) (sym refusal.said)
           (up_leads d line old new name s before after stands it (Refused why) [] note then.set then.is
-          (burned_noted n note then.set.site (group_noted_at d old name s before it.call.at) w.noted) (w.maps note had) refl refl
+          (burned_noted n note then.set.site (group_noted_at d old name s before it.call.at) w.noted) (w.maps note had) (plain_were d old new name s before after stands it.call) refl refl
           (facts_same (below_facts why f) (w.quiet.facts f) refusal.facts) (load_on old mid new half refusal.same (w.quiet.loads s mid.assemblies.items new.assemblies.items refusal.assemblies))
           (GroupLacks why (wants w.lacks) refl refl (it.is_line.lacks note)) (calls_none d old new name s before after stands it.call))
 

@@ -36,6 +36,7 @@ use Rattle.vx_events.specs.GroupEnds.{GroupEnds, IsLeftOver}
 use Rattle.vx_events.specs.GroupLines.{cut_events, group_events, noting, refused_events}
 use Rattle.vx_events.specs.GroupNotes.{note_at}
 use Rattle.vx_events.specs.GroupViews.{noted_table}
+use Rattle.vx_events.specs.RvgFits.{rvg_noted}
 use Rattle.vx_events.specs.StepsOver.{fact_of_group, group_place}
 use Rattle.vx_events.specs.declared.said.Said.{Said}
 use Rattle.vx_yard.proofs.Carrying.{LetsGo, SameLoad}
@@ -87,9 +88,10 @@ pub record Means (s : ℕ) (note : GroupNode) (Keeps : GroupNode → GroupNode �
   pub ends : (many : ℕ) (fails : Fails) (o e : Meaning) (next : GroupNode) (was now : Config) → Names s many fails o e → NotesConfig note was → NotesConfig next now → length was.disks ≤ many → logs_bound was.volumes ≤ many → Change o e was now → Keeps note next
       → (w : MissedNote) → By o e was now note.maps w → Ends fails (with_maps w next)
 
--- and that the tests see the same volumes behind it
+-- and that the tests see the same volumes behind it, and the same replicated volume group
 pub record SameTable (note : GroupNode) (Change : Meaning → Meaning → Config → Config → Type 0) : Type 1 where
   pub same : (many : ℕ) (o e : Meaning) (s : ℕ) (fails : Fails) (next : GroupNode) (was now : Config) → Names s many fails o e → NotesConfig note was → NotesConfig next now → Change o e was now → noted_table next ≡ noted_table note
+  pub rvg : (o e : Meaning) (next : GroupNode) (was now : Config) → NotesConfig note was → NotesConfig next now → Change o e was now → rvg_noted next ≡ rvg_noted note
 
 module _ {R : Type 0} {g : Ghosts R} where
   pub record Broke (twice : Bool) (Fails : Config → Config → Type 0) (n : Node) (note : GroupNode) (old new : GroupSite R g) (disk : ℕ) : Type 0 where
@@ -190,30 +192,30 @@ module _ {R : Type 0} {g : Ghosts R} where
         (subst (λ (x : DiskSet R g). FusedAs n x) it.call.at.is_set (stands.fuses s before it.call.at.below it.call.changed.there))
 
     -- it is up still, with the same volumes
-    pub up_leads : (said : Said) (fails : Fails) (k : GroupNode) (next : GroupSet R g) → after ≡ OfGroup next → UpNoted (with_note k n) k next.site → StandMaps k next.site → k.cut ≡ note.cut → noted_table k ≡ noted_table note
+    pub up_leads : (said : Said) (fails : Fails) (k : GroupNode) (next : GroupSet R g) → after ≡ OfGroup next → UpNoted (with_note k n) k next.site → StandMaps k next.site → rvg_noted k ≡ None → k.cut ≡ note.cut → noted_table k ≡ noted_table note
         → new.facts.items ≡ old.facts.items → SameLoad old new → GroupEnds (IsTold new) d line s fails said (world_up d s k) → RoseAll fails (count_of old) (count_of new) → LeadsOver d line said old new
-    up_leads said fails k next is noted maps cut table facts load ends rose =
+    up_leads said fails k next is noted maps plain cut table facts load ends rose =
         leads_by d (world_up d s k) line s fails said old new it.is_line.place ends
-        (up_follows d old new name s before after stands it.call k next it.up is noted maps cut it.cut (fused_to k next is noted) (fact_of_group n note)
+        (up_follows d old new name s before after stands it.call k next it.up is noted maps plain cut it.cut (fused_to k next is noted) (fact_of_group n note)
         (seen_as n (with_note k n) note k refl refl refl refl table) (facts ∙ sym (set_same old.facts.items s (fact_of_group n note) it.call.at.fact)) load) rose
 
     -- it is up still, and the tests see other volumes
-    pub turned_leads : (said : Said) (fails : Fails) (k : GroupNode) (next : GroupSet R g) → after ≡ OfGroup next → UpNoted (with_note k n) k next.site → StandMaps k next.site → k.cut ≡ note.cut
+    pub turned_leads : (said : Said) (fails : Fails) (k : GroupNode) (next : GroupSet R g) → after ≡ OfGroup next → UpNoted (with_note k n) k next.site → StandMaps k next.site → rvg_noted k ≡ None → k.cut ≡ note.cut
         → (f : SiteFacts) → f ≡ fact_of_group (with_note k n) k → new.facts.items ≡ slice_set old.facts.items s f → SameLoad old new → GroupEnds (IsTold new) d line s fails said (world_up d s k)
         → RoseAll fails (count_of old) (count_of new) → LeadsOver d line said old new
-    turned_leads said fails k next is noted maps cut f fact facts load ends rose =
+    turned_leads said fails k next is noted maps plain cut f fact facts load ends rose =
         leads_by d (world_up d s k) line s fails said old new it.is_line.place ends
-        (up_follows d old new name s before after stands it.call k next it.up is noted maps cut it.cut (fused_to k next is noted) f fact facts load) rose
+        (up_follows d old new name s before after stands it.call k next it.up is noted maps plain cut it.cut (fused_to k next is noted) f fact facts load) rose
 
     -- its fuse ran out in no write
-    pub off_leads : (said : Said) (fails : Fails) (k : GroupNode) (next : GroupSet R g) → after ≡ OfGroup next → DownNoted (crashed (with_note k n) 0) k next.site → StandMaps k next.site → k.cut ≡ note.cut → note.cut ≡ None → noted_table k ≡ noted_table note
+    pub off_leads : (said : Said) (fails : Fails) (k : GroupNode) (next : GroupSet R g) → after ≡ OfGroup next → DownNoted (crashed (with_note k n) 0) k next.site → StandMaps k next.site → rvg_noted k ≡ None → k.cut ≡ note.cut → note.cut ≡ None → noted_table k ≡ noted_table note
         → (f : SiteFacts) → f ≡ below_facts IsOff (fact_of_group n note) → new.facts.items ≡ slice_set old.facts.items s f → LetsGo old new s → GroupEnds (IsTold new) d line s fails said (world_off d s k)
         → RoseAll fails (count_of old) (count_of new) → LeadsOver d line said old new
-    off_leads said fails k next is noted maps cut uncut table f fact facts lets ends rose =
+    off_leads said fails k next is noted maps plain cut uncut table f fact facts lets ends rose =
         let none : cut_in after ≡ None = it.cut ∙ ap (λ (x : DiskSet R g). cut_in x) it.call.at.is_set ∙ set_uncut d old new name s before after stands it.call it.up in
         let clear : cut_value next.cut ≡ None = ap (λ (x : DiskSet R g). cut_in x) (sym is) ∙ none in
         leads_by d (world_off d s k) line s fails said old new it.is_line.place ends
-        (off_follows d old new name s before after stands it.call k next it.up is noted maps (none ∙ sym (cut ∙ uncut))
+        (off_follows d old new name s before after stands it.call k next it.up is noted maps plain (none ∙ sym (cut ∙ uncut))
         (λ x at. let no : Some x ≡ None = sym at ∙ no_value next.cut clear in absurd (cc))
         f (fact ∙ down_seen n note k (none_at d old name s before it.call.at).volumes table) facts lets) rose
 

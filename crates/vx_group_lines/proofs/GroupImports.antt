@@ -41,7 +41,9 @@ use Rattle.vx_events.specs.Parts.{StopsRead, StopsShort}
 use Rattle.vx_events.specs.GroupEnds.{AreOf, FindsNoGroup, GroupCut, GroupDone, GroupEnds, GroupFails, GroupNotFound, ImportFails}
 use Rattle.vx_events.specs.GroupLines.{fuse_lost, noting}
 use Rattle.vx_events.specs.GroupNotes.{IsKnown, note_at, NotesShort}
-use Rattle.vx_events.specs.GroupViews.{plain_fact}
+use Rattle.vx_events.specs.GroupViews.{config_of, plain_fact}
+use Rattle.vx_events.proofs.RvgStays.{refused_config}
+use Rattle.vx_events.specs.RvgFits.{config_rvg, rvg_noted}
 use Rattle.vx_events.specs.StepsOver.{fact_of_group, group_place, over_group_at}
 use Rattle.vx_events.specs.declared.said.Said.{Said}
 use Rattle.vx_events.specs.declared.said.Said.TheVariants.{Done, Refused}
@@ -60,7 +62,7 @@ use Rattle.vx_above.proofs.SiteCalls.{calls}
 use Rattle.vx_above.proofs.Changing.{notes_config, notes_table}
 use Rattle.vx_group_lines.proofs.Choosing.{or_stops}
 use Rattle.vx_group_lines.proofs.GroupAt.{away_notes, down_notes, no_value, uncut, up_notes, lit_away, lit_up, loose_away}
-use Rattle.vx_group_lines.proofs.GroupCalls.{Called, SetThen, called_to, calls_all, calls_are, calls_named, calls_names, calls_none, cut_of, failing_to, maps_were, sets_then, sized}
+use Rattle.vx_group_lines.proofs.GroupCalls.{Called, SetThen, called_to, calls_all, calls_are, calls_named, calls_names, calls_none, cut_of, failing_to, maps_were, plain_were, sets_then, sized}
 use Rattle.vx_group_lines.proofs.GroupEnding.{Midway, load_on, lets_on}
 use Rattle.vx_group_lines.proofs.GroupLeads.{Follows, away_set, down_set, follows_off, follows_on, leads_by, up_set}
 use Rattle.vx_group_lines.proofs.GroupMarks.{begins_at, group_noted_at}
@@ -123,9 +125,10 @@ module _ {R : Type 0} {g : Ghosts R} where
     -- ---- done
 
     pub import_done : OnSites (λ o e. SiteImports n note o e (Ok (tt {0}))) before after → OnSites (λ o e. CameMapped o e (Ok (tt {0}))) before after → cut_in after ≡ None → SameLoad old new
+        → ((c : Config) → AtSite (λ site. site_config site ≡ Some c) after → c.rvg ≡ None)
         → ((c : Config) → AtSite (λ site. site_config site ≡ Some c) after → new.facts.items ≡ slice_set old.facts.items s (group_up_facts (map plain_fact c.volumes) (fact_of_group (d.world.nodes s) (note_at (d.world.nodes s)))))
         → LeadsOver d (GroupImport name) Done old new
-    import_done on maps cut load facts =
+    import_done on maps cut load alone facts =
         let P : GroupSite R g → GroupSite R g → Type 0 = λ o e. SiteImports n note o e (Ok (tt {0})) in
         let then : SetThen (P was_site) after = sets_then P before after call.at.set call.at.is_set on in
         let first : GroupNode = then.holds.0.0 in
@@ -171,7 +174,8 @@ module _ {R : Type 0} {g : Ghosts R} where
         (arrives_worked d e s (group_up n) next (d.world.gathering s)
         (arrives_up d d s n (d.world.gathering s) (begins_at d old name s before stands call.at) call.at.below (ap (λ t. is_at_rest t) away) none.role none.volumes none.log))
         (up_notes m next then.set.site up).0
-        (up_set m next then.set (record { few = (sized d old new name s before after stands call).few; some = (sized d old new name s before after stands call).some }) up came.stands (cut_of d old new name s before after stands call then.set then.is None cut) back.cut)
+        (up_set m next then.set (record { few = (sized d old new name s before after stands call).few; some = (sized d old new name s before after stands call).some }) up came.stands
+        (ap (λ (o : Option Config). config_rvg o) (notes_config next config.now config.noted_now) ∙ alone config.now held) (cut_of d old new name s before after stands call then.set then.is None cut) back.cut)
         (failing_to d old new name s before after stands call m then.set then.is refl)
         (fused_keeps n m before after call.at.set then.set call.at.is_set then.is refl call.failing keeps (stands.fuses s before call.at.below call.changed.there))
         (ap (λ (vs : List VolumeFacts). group_up_facts vs (fact_of_group n note)) (sym (notes_table next config.now config.noted_now))) (facts config.now held) load)
@@ -183,6 +187,10 @@ module _ {R : Type 0} {g : Ghosts R} where
     left_stands : (late : Bool) (stop : Stop) (next : GroupSet R g) → late ≡ not (stops_early stop) → AwayNoted (with_note (left late) (d.world.nodes s)) (left late) next.site → CameMapped call.at.set.site next.site (Err stop) → StandMaps (left late) next.site
     left_stands late stop next is there came = stays_away n (with_note (left late) n) note late dims was_site next.site stop (maps_were d old new name s before after stands call) noted there is came
 
+    left_plain : (late : Bool) → rvg_noted (left late) ≡ None
+    left_plain late =
+        ap (λ (c : List ℕ). config_rvg (config_of c)) (refused_config note (left late) (notes_refused late dims note)) ∙ plain_were d old new name s before after stands call
+
     -- the disks are by themselves still, and their fuse as it was
     pub stays_follows : (late : Bool) (next : GroupSet R g) → after ≡ OfGroup next → AwayNoted (with_note (left late) (d.world.nodes s)) (left late) next.site → StandMaps (left late) next.site → KeepsFuse (as_imported was_site) (site_disks next.site) → cut_in after ≡ cut_in before
         → new.facts.items ≡ old.facts.items → SameLoad old new → Follows d (record d { world = worked_on (noting d.world s (left late)) s }) old new
@@ -192,7 +200,7 @@ module _ {R : Type 0} {g : Ghosts R} where
         follows_on d (record d { world = worked_on (noting d.world s k) s }) s m k (fact_of_group n note) old new before next stands call.at.below (called_to d old new name s before after stands call next is)
         (arrives_worked d d s n k (d.world.gathering s) (begins_at d old name s before stands call.at))
         (away_notes m k next.site there).0
-        (away_set m k next (record { few = (sized d old new name s before after stands call).few; some = (sized d old new name s before after stands call).some }) there maps
+        (away_set m k next (record { few = (sized d old new name s before after stands call).few; some = (sized d old new name s before after stands call).some }) there maps (left_plain late)
         (cut_of d old new name s before after stands call next is None (cut ∙ ap (λ (x : DiskSet R g). cut_in x) call.at.is_set ∙ set_clear)) note_clear)
         (failing_to d old new name s before after stands call m next is refl)
         (fused_keeps n m before after call.at.set next call.at.is_set is refl call.failing keeps (stands.fuses s before call.at.below call.changed.there))
@@ -208,7 +216,7 @@ module _ {R : Type 0} {g : Ghosts R} where
         follows_on d (record d { world = fuse_lost (noting d.world s k) s }) s m k (fact_of_group n note) old new before next stands call.at.below (called_to d old new name s before after stands call next is)
         (arrives_unfused d d s n k (d.world.gathering s) (begins_at d old name s before stands call.at))
         (away_notes m k next.site there).0
-        (away_set m k next (record { few = (sized d old new name s before after stands call).few; some = (sized d old new name s before after stands call).some }) there maps
+        (away_set m k next (record { few = (sized d old new name s before after stands call).few; some = (sized d old new name s before after stands call).some }) there maps (left_plain late)
         (cut_of d old new name s before after stands call next is None (cut ∙ ap (λ (x : DiskSet R g). cut_in x) call.at.is_set ∙ set_clear)) note_clear)
         (failing_to d old new name s before after stands call m next is refl) (fused_none m (OfGroup next) refl)
         refl (facts ∙ sym (set_same old.facts.items s (fact_of_group n note) call.at.fact)) load
@@ -232,7 +240,7 @@ module _ {R : Type 0} {g : Ghosts R} where
         (λ up. let w : IsDown ≡ IsUp = up in absurd (cc))
         (down_notes m k next.site down).0
         (down_set m k next (record { few = (sized d old new name s before after stands call).few; some = (sized d old new name s before after stands call).some }) down
-        (fell_dark m note dims was_site next.site (maps_were d old new name s before after stands call) down) (clear ∙ sym note_clear)
+        (fell_dark m note dims was_site next.site (maps_were d old new name s before after stands call) down) (left_plain true) (clear ∙ sym note_clear)
         (λ x at. let no : Some x ≡ None = sym at ∙ no_value next.cut clear in absurd (cc)))
         (failing_to d old new name s before after stands call m next is refl) (fused_none m (OfGroup next) refl) refl facts lets)
         (calls_all d old new name s before after stands call n.disks)

@@ -44,6 +44,7 @@ use Rattle.vx_events.specs.GroupEnds.{GroupDone, InitFails}
 use Rattle.vx_events.specs.GroupLines.{is_over_group}
 use Rattle.vx_events.specs.GroupNotes.{FirstNote}
 use Rattle.vx_events.specs.GroupViews.{config_of, noted_table, plain_fact}
+use Rattle.vx_events.specs.RvgFits.{config_rvg}
 use Rattle.vx_events.specs.LinkedFacts.{linked_fact, links_by, links_of_site}
 use Rattle.vx_events.specs.StepsOver.{fact_of_group, fact_over}
 use Rattle.vx_events.specs.declared.said.Said.{Said}
@@ -206,7 +207,7 @@ module _ {R : Type 0} {g : Ghosts R} where
         (arrives_made d d s n (d.world.gathering s)
         (arrives_none d s stands.links (bare_sure d s site.at.bare stands.links) (blank_links d s (stands.links.bare s site.at.bare))) site.at.below site.at.bare site.at.is))
         (up_notes m note to.set.site to.holds.2).0
-        (up_set m note to.set (record { few = site.at.few; some = site.at.some }) to.holds.2 to.holds.5 cut to.holds.1.cut) fails (fused_none m (OfGroup to.set) unfused)
+        (up_set m note to.set (record { few = site.at.few; some = site.at.some }) to.holds.2 to.holds.5 (ap (λ (o : Option Config). config_rvg o) first.0.is ∙ first.0.rvg) cut to.holds.1.cut) fails (fused_none m (OfGroup to.set) unfused)
         (made_fact d.world s note site.at.bare first.1) facts load)
         rose_here
 

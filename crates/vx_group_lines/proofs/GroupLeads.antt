@@ -28,6 +28,7 @@ use Rattle.vx_events.specs.Fails.{Fails}
 use Rattle.vx_events.specs.GroupEnds.{GroupEnds}
 use Rattle.vx_events.specs.GroupLines.{is_over_group}
 use Rattle.vx_events.specs.GroupNotes.{note_at}
+use Rattle.vx_events.specs.RvgFits.{rvg_noted}
 use Rattle.vx_events.specs.StepsOver.{fact_of_group, fact_over, group_place}
 use Rattle.vx_events.specs.declared.said.Said.{Said}
 use Rattle.vx_yard.proofs.Carrying.{Feeds, LetsGo, SameLoad, carries_at, carries_let, feeds_none}
@@ -102,9 +103,14 @@ module _ {R : Type 0} {g : Ghosts R} where
       let same : next ≡ note = (let some : Some next ≡ Some note = sym noted.is ∙ is in cc) in
       subst (λ (k : GroupNode). StandMaps k e) same maps
 
+  plain_as : (m : Node) (next : GroupNode) → NotesGroup m next → rvg_noted next ≡ None → (note : GroupNode) → m.group ≡ Some note → rvg_noted note ≡ None
+  plain_as m next noted plain note is =
+      let same : next ≡ note = (let some : Some next ≡ Some note = sym noted.is ∙ is in cc) in
+      subst (λ (k : GroupNode). rvg_noted k ≡ None) same plain
+
   -- a group that is up
-  pub up_set : (m : Node) (next : GroupNode) (set : GroupSet R g) → Sized m → UpNoted m next set.site → StandMaps next set.site → cut_value set.cut ≡ None → next.cut ≡ None → Sets m set
-  up_set m next set sized up maps none cut beside sure unlinked =
+  pub up_set : (m : Node) (next : GroupNode) (set : GroupSet R g) → Sized m → UpNoted m next set.site → StandMaps next set.site → rvg_noted next ≡ None → cut_value set.cut ≡ None → next.cut ≡ None → Sets m set
+  up_set m next set sized up maps plain none cut beside sure unlinked =
       let says = up_notes m next set.site up in
       record {
         sure = λ _. sure;
@@ -116,11 +122,12 @@ module _ {R : Type 0} {g : Ghosts R} where
         few = sized.few;
         some = sized.some;
         maps = λ made. maps_as m next set.site says.0 maps;
+        plain = λ made. plain_as m next says.0 plain;
       }
 
   -- one that is deported
-  pub away_set : (m : Node) (next : GroupNode) (set : GroupSet R g) → Sized m → AwayNoted m next set.site → StandMaps next set.site → cut_value set.cut ≡ None → next.cut ≡ None → Sets m set
-  away_set m next set sized away maps none cut beside sure unlinked =
+  pub away_set : (m : Node) (next : GroupNode) (set : GroupSet R g) → Sized m → AwayNoted m next set.site → StandMaps next set.site → rvg_noted next ≡ None → cut_value set.cut ≡ None → next.cut ≡ None → Sets m set
+  away_set m next set sized away maps plain none cut beside sure unlinked =
       let says = away_notes m next set.site away in
       record {
         sure = λ _. sure;
@@ -132,12 +139,13 @@ module _ {R : Type 0} {g : Ghosts R} where
         few = sized.few;
         some = sized.some;
         maps = λ made. maps_as m next set.site says.0 maps;
+        plain = λ made. plain_as m next says.0 plain;
       }
 
   -- and one that is down, where the write that is cut lies in its volume
-  pub down_set : (m : Node) (next : GroupNode) (set : GroupSet R g) → Sized m → DownNoted m next set.site → StandMaps next set.site → cut_value set.cut ≡ next.cut
+  pub down_set : (m : Node) (next : GroupNode) (set : GroupSet R g) → Sized m → DownNoted m next set.site → StandMaps next set.site → rvg_noted next ≡ None → cut_value set.cut ≡ next.cut
       → ((x : CutWrite) → set.cut ≡ Some x → FitsPlain next x.volume x.block (length x.bytes)) → Sets m set
-  down_set m next set sized down maps cut fits beside sure unlinked =
+  down_set m next set sized down maps plain cut fits beside sure unlinked =
       let says = down_notes m next set.site down in
       record {
         sure = λ _. sure;
@@ -154,6 +162,7 @@ module _ {R : Type 0} {g : Ghosts R} where
         few = sized.few;
         some = sized.some;
         maps = λ made. maps_as m next set.site says.0 maps;
+        plain = λ made. plain_as m next says.0 plain;
       }
 
   -- ---- the world
@@ -184,7 +193,7 @@ module _ {R : Type 0} {g : Ghosts R} where
       → f ≡ fact_of_group m next → new.facts.items ≡ slice_set old.facts.items s f → SameLoad old new → Follows d e old new
   follows_on d e s m next f old new before set stands below changed arrives noted here failing fuse fact facts load = record {
     stands = stands_at d e old new s f before (OfGroup set) stands below changed (group_comes d e s m (d.world.gathering s) set arrives here failing fuse)
-        (λ was. subst (λ (x : Node). BeginsFirst s x) (sym arrives.node) (arrives.first was))
+        (λ was. subst (λ (x : Node). BeginsFirst s x) (sym arrives.node) (arrives.first was)) (λ _. tt)
         (fact_seen e s m next f arrives.node noted fact) facts;
     carries = λ carries.
         carries_at s d e old new carries load (record { site = arrives.site; packets = arrives.packets; gathering = arrives.gathering })
@@ -198,7 +207,7 @@ module _ {R : Type 0} {g : Ghosts R} where
       → f ≡ fact_of_group m next → new.facts.items ≡ slice_set old.facts.items s f → LetsGo old new s → Follows d e old new
   follows_off d e s m next f old new before set stands below changed arrives off noted here failing fuse fact facts lets = record {
     stands = stands_at d e old new s f before (OfGroup set) stands below changed (group_comes d e s m None set arrives here failing fuse)
-        (λ was. subst (λ (x : Node). BeginsFirst s x) (sym arrives.node) (arrives.first was))
+        (λ was. subst (λ (x : Node). BeginsFirst s x) (sym arrives.node) (arrives.first was)) (λ _. tt)
         (fact_seen e s m next f arrives.node noted fact) facts;
     carries = λ carries.
         carries_let s d e old new lets (omega (arith, below, stands.disk_sets.few)) arrives.site arrives.packets arrives.gathering

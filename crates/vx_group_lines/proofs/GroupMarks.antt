@@ -106,6 +106,7 @@ module _ {R : Type 0} {g : Ghosts R} where
     few = it.few;
     some = it.some;
     maps = it.maps;
+    plain = it.plain;
   }
 
   -- where the line begins

@@ -60,6 +60,7 @@ use Rattle.vx_grouped.specs.SiteMaps.{DetMapped, DetMapsDone, DetMapsFailed, Sta
 use Rattle.vx_events.specs.GroupMaps.{MapsDetached, MapsLost, MapsUndetached}
 use Rattle.vx_group_lines.proofs.MapGoing.{with_goes}
 use Rattle.vx_group_lines.proofs.MapLines.{det_named, logs_low, undet_named}
+use Rattle.vx_group_lines.proofs.Plains.{det_rvg, rvg_goes}
 use Rattle.vx_group_lines.proofs.Serials.{det_left, lacks_by, serial_noted}
 use Rattle.vx_group_lines.specs.Noting.{IsNotedRefusal, reply_noted}
 
@@ -305,10 +306,10 @@ module _ {R : Type 0} {g : Ghosts R} where
     v = plain_number (note_at (d.world.nodes s)) volume
 
     det_fails_same : SameTable note (λ o e. DetFails o e)
-    det_fails_same = record { same = λ many o e t fails next was now names noted noted_now change. keeps_table t many fails o e note next names none_again was now noted noted_now change }
+    det_fails_same = record { same = λ many o e t fails next was now names noted noted_now change. keeps_table t many fails o e note next names none_again was now noted noted_now change; rvg = λ o e next was now noted noted_now change. rvg_goes note next was now noted noted_now change.parts.rvg }
 
     det_cuts_same : SameTable note (λ o e. DetCuts v plex o e)
-    det_cuts_same = record { same = λ many o e t fails next was now names noted noted_now change. det_table t many fails o e note next names v plex was now noted noted_now change }
+    det_cuts_same = record { same = λ many o e t fails next was now names noted noted_now change. det_table t many fails o e note next names v plex was now noted noted_now change; rvg = λ o e next was now noted noted_now change. rvg_goes note next was now noted noted_now (det_rvg v plex o e was now change) }
 
     pub det_done : OnSites (λ o e. DetCalled n note v plex o e (Ok (tt {0}))) before after → OnSites (λ o e. UpMaps (DetMapsDone v plex) o e) before after
         → ((no : No) → refuses_det it.call.at.set.site v plex ≡ Some no → (let r : Result (Unit {0}) Stop = Ok (tt {0}) in r) ≡ Err (StopsBy no)) → new.facts.items ≡ old.facts.items → SameLoad old new → LeadsOver d (PlexDetach name volume plex) Done old new
@@ -325,7 +326,7 @@ module _ {R : Type 0} {g : Ghosts R} where
             det_left n note it.call.at.set.site v plex is_up (maps_were d old new name s before after stands it.call) (λ no is. (let clash = refused no is in absurd (cc))),
           );
         })
-        (record { same = λ many o e t fails next was now names noted noted_now change. stated_table t many fails o e note next names none_again v plex Stale was now noted noted_now change })
+        (record { same = λ many o e t fails next was now names noted noted_now change. stated_table t many fails o e note next names none_again v plex Stale was now noted noted_now change; rvg = λ o e next was now noted noted_now change. rvg_goes note next was now noted noted_now change.moves.parts.rvg })
         on maps facts load
 
     pub det_refused : (mid : Yard R g) (result : Result Said OutOfMemory) → Midway old mid → (why : No) → OnSites (λ o e. DetCalled n note v plex o e (Err (StopsBy why))) before after

@@ -46,7 +46,7 @@ use Rattle.vx_yard.specs.declared.yard.Yard.{Yard}
 use Rattle.vx_above.proofs.SiteCalls.{calls}
 use Rattle.vx_above.proofs.Changing.{notes_config}
 use Rattle.vx_group_lines.proofs.GroupAt.{lit_up, up_noted}
-use Rattle.vx_group_lines.proofs.GroupCalls.{Called, SetThen, calls_all, calls_are, calls_named, calls_names, fused_since, seen_as, sets_then, site_up, up_follows, maps_were}
+use Rattle.vx_group_lines.proofs.GroupCalls.{Called, SetThen, calls_all, calls_are, calls_named, calls_names, fused_since, seen_as, sets_then, site_up, up_follows, maps_were, plain_were}
 use Rattle.vx_group_lines.proofs.GroupLeads.{Follows, leads_by}
 use Rattle.vx_group_lines.proofs.GroupMarks.{group_noted_at}
 use Rattle.vx_group_lines.proofs.GroupPlain.{PlainCall}
@@ -138,7 +138,7 @@ module _ {R : Type 0} {g : Ghosts R} where
     follows : (next : GroupSet R g) → after ≡ OfGroup next → UpNoted (worked n) note next.site → StaysMapped called.at.set.site next.site → cut_in after ≡ cut_in before → Follows d behind old new
     follows next to up stays cut =
         let noted : UpNoted (with_note note n) note next.site = subst (λ (k : Node). UpNoted k note next.site) (noted_burned n note (group_noted_at d old name s before called.at)) up in
-        up_follows d old new name s before after stands called note next plain.up to noted (stays note (maps_were d old new name s before after stands called)) refl cut
+        up_follows d old new name s before after stands called note next plain.up to noted (stays note (maps_were d old new name s before after stands called)) (plain_were d old new name s before after stands called) refl cut
         (fused_since n (with_note note n) called.at.set next refl
         (subst (λ (e : DiskSet R g). CalledOn (OfGroup called.at.set) e) to (subst (λ (e : DiskSet R g). CalledOn e after) called.at.is_set since)) (site_up (with_note note n) note next.site noted)
         (subst (λ (e : DiskSet R g). FusedAs n e) called.at.is_set (stands.fuses s before called.at.below called.changed.there)))

@@ -26,6 +26,7 @@ use Rattle.vx_kept.specs.Cleans.{at_serial}
 use Rattle.vx_layout.specs.Made.{IsVolumeMade, with_volume}
 use Rattle.vx_layout.specs.Space.{IsFound, IsSpaceShort}
 use Rattle.vx_layout.specs.declared.shape.Shape.{Shape}
+use Rattle.vx_model.specs.declared.units.Units.{Units}
 use Rattle.vx_group.specs.Dets.{margin}
 use Rattle.vx_group.specs.Makes.{has_name, is_few, is_shape, make_refusal}
 use Rattle.vx_order.specs.Volumes.{is_layout, is_volume_shape}
@@ -73,7 +74,7 @@ use Rattle.vx_yard.specs.declared.yard.Yard.{Yard}
 use Rattle.vx_above.proofs.SiteCalls.{calls}
 use Rattle.vx_above.proofs.Changing.{moves_table, moves_to, notes_config, notes_table, reconfigures}
 use Rattle.vx_group_lines.proofs.GroupAt.{up_notes}
-use Rattle.vx_group_lines.proofs.GroupCalls.{SetThen, calls_all, calls_are, calls_names, calls_none, fused_since, note_uncut, set_uncut, sets_then, site_up, maps_were}
+use Rattle.vx_group_lines.proofs.GroupCalls.{SetThen, calls_all, calls_are, calls_names, calls_none, fused_since, note_uncut, set_uncut, sets_then, site_up, maps_were, plain_were}
 use Rattle.vx_group_lines.proofs.GroupDone.{refused_leads}
 use Rattle.vx_group_lines.proofs.GroupEnding.{Calling, Midway, since_at, turned_leads}
 use Rattle.vx_group_lines.proofs.GroupLeads.{follows_on, sized_of, up_set}
@@ -86,6 +87,7 @@ use Rattle.vx_history.specs.Missing.{with_maps}
 use Rattle.vx_events.specs.GroupMaps.{MapsCalled, MapsLost}
 use Rattle.vx_group_lines.proofs.MapGoing.{MapsOn, goes_up, on_both, stand_as, with_goes}
 use Rattle.vx_group_lines.proofs.MapLines.{added_named, like_named, logs_bound, logs_low}
+use Rattle.vx_group_lines.proofs.Plains.{rvg_goes}
 use Rattle.vx_group_lines.proofs.Serials.{lacks_by, serial_noted}
 use Rattle.vx_group_lines.specs.Noting.{reply_noted}
 
@@ -256,10 +258,10 @@ module _ {R : Type 0} {g : Ghosts R} where
     abbrev many_of : Config → ℕ
     many_of was = (site_disks it.call.at.set.site).units + length was.disks + logs_bound was.volumes
 
-    pub volume_done : rvg_noted (note_at (d.world.nodes s)) ≡ None → (vol : ℕ) → OnSites (λ o e. SiteAdded n note volume want o e (Ok vol)) before after → OnSites (λ o e. AddedMapped o e (Ok vol)) before after
+    pub volume_done : (vol : ℕ) → OnSites (λ o e. SiteAdded n note volume want o e (Ok vol)) before after → OnSites (λ o e. AddedMapped o e (Ok vol)) before after
         → ((c : Config) → AtSite (λ e. site_config e ≡ Some c) after → new.facts.items ≡ slice_set old.facts.items s (with_volumes (kinds_by c.rvg c.volumes) (fact_of_group (d.world.nodes s) (note_at (d.world.nodes s)))))
         → SameLoad old new → LeadsOver d (Volume name volume blocks mirrors layout log map_of policy) Done old new
-    volume_done plain vol on maps facts load =
+    volume_done vol on maps facts load =
         let it_is : SetThen (λ e. SiteAdded n note volume want was_site e (Ok vol)) after = sets_then (λ o e. SiteAdded n note volume want o e (Ok vol)) before after it.call.at.set it.call.at.is_set on in
         let next : GroupNode = it_is.holds.0 in
         let goes : ConfigGoes (VolumeAdded volume want vol (site_disks was_site) (site_disks it_is.set.site)) note next was_site it_is.set.site = it_is.holds.3 in
@@ -273,9 +275,11 @@ module _ {R : Type 0} {g : Ghosts R} where
         let names : Names s many (calls s old new many) (site_disks was_site) (site_disks it_is.set.site)
         = calls_names d old new name s before after stands it.call it.call.at.set it_is.set it.call.at.is_set it_is.is many (omega arith) in
         let noted_k : NotesConfig k goes.now = record { is = goes.noted_now.is; spells = goes.noted_now.spells } in
+        let plain : rvg_noted next ≡ None =
+        rvg_goes note next goes.was goes.now goes.noted goes.noted_now goes.change.moves.parts.rvg ∙ plain_were d old new name s before after stands it.call in
         let f : SiteFacts = with_volumes (kinds_by goes.now.rvg goes.now.volumes) (fact_of_group (d.world.nodes s) (note_at (d.world.nodes s))) in
-        turned_leads d (Volume name volume blocks mirrors layout log map_of policy) old new name s before after stands it Done (calls s old new many) k it_is.set it_is.is up (stand_as (with_maps go.maps next) k it_is.set.site refl refl refl go.stands) it_is.holds.1.same.cut f
-        (seen_up k goes.now noted_k (goes.change.moves.parts.rvg ∙ ap (λ (o : Option Config). config_rvg o) (sym (notes_config note goes.was goes.noted)) ∙ plain))
+        turned_leads d (Volume name volume blocks mirrors layout log map_of policy) old new name s before after stands it Done (calls s old new many) k it_is.set it_is.is up (stand_as (with_maps go.maps next) k it_is.set.site refl refl refl go.stands) plain it_is.holds.1.same.cut f
+        (seen_up k goes.now noted_k (sym (ap (λ (o : Option Config). config_rvg o) (notes_config next goes.now goes.noted_now)) ∙ plain))
         (facts goes.now (subst (λ (x : DiskSet R g). AtSite (λ e. site_config e ≡ Some goes.now) x) (sym it_is.is) (config_now goes.now (with_note k n) k it_is.set.site up goes.has))) load
         (GroupDone k (calls_are d old new name s before after stands it.call many)
         (does many (calls s old new many) next it_is.set.site vol goes.was goes.now names goes.noted goes.noted_now (omega arith) (omega arith) goes.change it_is.holds.1 go.maps go.by, refl) (it.is_line.done k))
@@ -302,7 +306,7 @@ module _ {R : Type 0} {g : Ghosts R} where
         (subst (λ (x : DiskSet R g). FusedAs n x) it.call.at.is_set (stands.fuses s before it.call.at.below it.call.changed.there)) in
         let follows = follows_on d d s n note (fact_of_group n note) old new before it_is.set stands it.call.at.below (subst (λ (x : DiskSet R g). Changed old new s before x) it_is.is it.call.changed)
         (begins_at d old name s before stands it.call.at) (up_notes n note it_is.set.site up).0
-        (up_set n note it_is.set (sized_of (beside_of d s) n it.call.at.set it.call.at.stands) up (stays.1 note (maps_were d old new name s before after stands it.call)) uncut (note_uncut d old new name s before after stands it.call it.up)) failing
+        (up_set n note it_is.set (sized_of (beside_of d s) n it.call.at.set it.call.at.stands) up (stays.1 note (maps_were d old new name s before after stands it.call)) (plain_were d old new name s before after stands it.call) uncut (note_uncut d old new name s before after stands it.call it.up)) failing
         (record { told = λ x at. unburned n.fuse x.fuse (left.told x at) }) refl (facts ∙ sym (set_same old.facts.items s (fact_of_group n note) it.call.at.fact)) load in
         record { stands = follows.stands; carries = follows.carries; rose = calls_none d old new name s before after stands it.call }
 
@@ -344,8 +348,8 @@ module _ {R : Type 0} {g : Ghosts R} where
                 (reconfigures s many fails o e note next names (λ c x. ConfigLoses s fails c x) (λ a b. NoteUnsettles false a b) was now noted noted_now (moves_to s many fails o e note next names none_again was now enough change) keeps)
                 (record { none = by.none });
           })
-          (record { same = λ many o e t fails next was now names noted noted_now change. moves_table t many fails o e note next names none_again was now noted noted_now change })
-          (record { same = λ many o e t fails next was now names noted noted_now change. moves_table t many fails o e note next names none_again was now noted noted_now change })
+          (record { same = λ many o e t fails next was now names noted noted_now change. moves_table t many fails o e note next names none_again was now noted noted_now change; rvg = λ o e next was now noted noted_now change. rvg_goes note next was now noted noted_now change.parts.rvg })
+          (record { same = λ many o e t fails next was now names noted noted_now change. moves_table t many fails o e note next names none_again was now noted noted_now change; rvg = λ o e next was now noted noted_now change. rvg_goes note next was now noted noted_now change.parts.rvg })
           (λ which lacks. volume_wants it.call.at.set.site is_up (maps_were d old new name s before after stands it.call) which lacks) why on maps refusal
       volume_stopped MemoryStop on maps refusal =
           subst (λ (x : Result Said OutOfMemory). LeadsOverIs d (Volume name volume blocks mirrors layout log map_of policy) old new x) (sym refusal.1)

@@ -52,7 +52,7 @@ use Rattle.vx_yard.specs.Yards.{IsTold, in_files}
 use Rattle.vx_yard.specs.declared.yard.Yard.{Yard}
 use Rattle.vx_above.proofs.SiteCalls.{calls}
 use Rattle.vx_above.proofs.Changing.{moves_table, moves_to, reconfigures}
-use Rattle.vx_group_lines.proofs.GroupCalls.{Called, SetThen, calls_all, calls_are, calls_named, calls_names, down_seen, fused_since, off_follows, seen_as, sets_then, site_up, up_follows, maps_were}
+use Rattle.vx_group_lines.proofs.GroupCalls.{Called, SetThen, calls_all, calls_are, calls_named, calls_names, down_seen, fused_since, off_follows, seen_as, sets_then, site_up, up_follows, maps_were, plain_were}
 use Rattle.vx_group_lines.proofs.GroupLeads.{leads_by}
 use Rattle.vx_group_lines.proofs.GroupPlain.{PlainCall, plain_fits}
 use Rattle.vx_grouped.specs.SiteMaps.{DoubtMaps, StandMaps, UpMaps, WriteMaps, WroteMapped}
@@ -61,6 +61,7 @@ use Rattle.vx_history.specs.Missing.{no_maps, with_maps}
 use Rattle.vx_events.specs.GroupMaps.{MapsLost, MapsOfDoubt, MapsOfWrite}
 use Rattle.vx_group_lines.proofs.MapGoing.{Goes, MapsOn, goes_up, off_stands, on_both, stand_as, with_goes}
 use Rattle.vx_group_lines.proofs.MapLines.{doubt_named, logs_bound, logs_low, write_named}
+use Rattle.vx_group_lines.proofs.Plains.{rvg_goes}
 use Rattle.vx_above.proofs.Losing.{Names}
 
 -- ---- the two lines
@@ -228,7 +229,8 @@ module _ {R : Type 0} {g : Ghosts R} where
           is = refl;
         })
         (record { world = refl; after = λ i. refl }))
-        (up_follows d old new name s before after stands called k to.set plain.up to.is up (stand_as (with_maps go.maps middle) k to.set.site refl refl refl go.stands) settles.same.cut cut (fuse_on k to.set to.is up) (fact_of_group n note)
+        (up_follows d old new name s before after stands called k to.set plain.up to.is up (stand_as (with_maps go.maps middle) k to.set.site refl refl refl go.stands)
+        (rvg_goes note middle goes.was goes.now goes.noted goes.noted_now goes.change.parts.rvg ∙ plain_were d old new name s before after stands called) settles.same.cut cut (fuse_on k to.set to.is up) (fact_of_group n note)
         (seen_as n (with_note k n) note k refl refl refl refl (table to.set to.is middle to.holds.3)) (facts_still facts) load)
         (calls_all d old new name s before after stands called many)
 
@@ -255,7 +257,8 @@ module _ {R : Type 0} {g : Ghosts R} where
           is = refl;
         })
         (record { world = refl; after = λ i. refl }))
-        (up_follows d old new name s before after stands called k to.set plain.up to.is up (stand_as (with_maps go.maps middle) k to.set.site refl refl refl go.stands) unsettles.same.cut cut (fuse_on k to.set to.is up) (fact_of_group n note)
+        (up_follows d old new name s before after stands called k to.set plain.up to.is up (stand_as (with_maps go.maps middle) k to.set.site refl refl refl go.stands)
+        (rvg_goes note middle goes.was goes.now goes.noted goes.noted_now goes.change.parts.rvg ∙ plain_were d old new name s before after stands called) unsettles.same.cut cut (fuse_on k to.set to.is up) (fact_of_group n note)
         (seen_as n (with_note k n) note k refl refl refl refl (table to.set to.is middle to.holds.4)) facts load)
         (calls_all d old new name s before after stands called many)
 
@@ -289,7 +292,8 @@ module _ {R : Type 0} {g : Ghosts R} where
           is = refl;
         })
         (record { world = refl; after = λ i. refl }))
-        (off_follows d old new name s before after stands called k to.set plain.up to.is down (stand_as (with_maps no_maps middle) k to.set.site refl refl refl lost) cut
+        (off_follows d old new name s before after stands called k to.set plain.up to.is down (stand_as (with_maps no_maps middle) k to.set.site refl refl refl lost)
+        (rvg_goes note middle goes.was goes.now goes.noted goes.noted_now goes.change.parts.rvg ∙ plain_were d old new name s before after stands called) cut
         (cut_fits k to.set.cut (record { some = fits.some; whole = fits.whole; within = omega (arith, fits.within, ap (λ c. c.size place) unsettles.same.bytes) })
         (ap (λ (z : DiskSet R g). cut_in z) (sym to.is) ∙ cut))
         (down_fact (fact_of_group n note))

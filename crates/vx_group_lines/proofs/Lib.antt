@@ -45,3 +45,4 @@ pub mod MapGoing
 pub mod MapComing
 pub mod Numbered
 pub mod Going
+pub mod Plains

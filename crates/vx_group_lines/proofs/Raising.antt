@@ -1,7 +1,7 @@
 -- What the import of a group that is down leads a yard to where it is refused.
 use Rattle.vx_above.proofs.SiteCalls.{calls}
 use Rattle.std.proofs.Common.{◌≡◌, ◌∙◌, ◌⊎◌, inl, inr, ⊎_elim, ◌<◌, ◌≤◌, ℕ, suc, true, false, List, [], length, ap, sym, subst, refl, arith, IsTrue, Bool}
-use Rattle.std.specs.Prelude.{Contains, Option, Some, slice_get, slice_set, Result, Err, not}
+use Rattle.std.specs.Prelude.{Contains, Option, Some, None, slice_get, slice_set, Result, Err, not}
 use Rattle.std.proofs.lemmas.Option.{slice_get_within}
 use Rattle.vx_model.specs.Content.{Content}
 use Rattle.vx_model.specs.declared.errors.OutOfMemory.{OutOfMemory}
@@ -53,11 +53,14 @@ use Rattle.vx_group_lines.specs.Noting.{IsNotedRefusal, KeepsRest, reply_noted}
 use Rattle.vx_group_lines.specs.Rises.{ComesDown, RisesFor, RisesIs}
 use Rattle.vx_group_lines.proofs.Arriving.{Arrives, arrives_noted, noted_at}
 use Rattle.vx_group_lines.proofs.GroupAt.{down_noted, down_notes, lit_down, loose_down}
-use Rattle.vx_group_lines.proofs.GroupCalls.{Called, calls_all, calls_are, calls_named, calls_none, maps_were, set_then}
+use Rattle.vx_group_lines.proofs.GroupCalls.{Called, calls_all, calls_are, calls_named, calls_none, maps_were, plain_were, set_then}
 use Rattle.vx_group_lines.proofs.GroupLeads.{Follows, Sized, down_set, follows_on, sized_of}
 use Rattle.vx_group_lines.proofs.GroupMarks.{begins_at, group_noted_at}
 use Rattle.vx_group_lines.proofs.MapComing.{stays_down}
 use Rattle.vx_group_lines.proofs.Rising.{fits_as, refused_as, sits_down, told_of, unfused_down}
+use Rattle.vx_events.proofs.RvgStays.{refused_config}
+use Rattle.vx_events.specs.GroupViews.{config_of}
+use Rattle.vx_events.specs.RvgFits.{config_rvg, rvg_noted}
 use Rattle.vx_group_lines.proofs.Dimming.{dimmed_by, knows_none, no_call, none_found, notes_refused, early_known, notes_short}
 
 -- ---- counts
@@ -149,6 +152,10 @@ module _ {R : Type 0} {g : Ghosts R} where
     abbrev left_node : Bool → Node
     left_node late = record (e.world.nodes s) { group = Some (left_note late) }
 
+    left_plain : (late : Bool) → rvg_noted (left_note late) ≡ None
+    left_plain late =
+        ap (λ (c : List ℕ). config_rvg (config_of c)) (refused_config note (left_note late) (notes_refused late dims note)) ∙ plain_were e old new [] s before after begin.stands call
+
     stays : (late : Bool) (set : GroupSet R g) → after ≡ OfGroup set → DownNoted (left_node late) (left_note late) set.site → StandMaps (left_note late) set.site → cut_in after ≡ cut_value call.at.set.cut → new.facts.items ≡ old.facts.items → SameLoad old new
         → Follows e (noted_at e s (left_note late)) old new
     stays late set is holds maps cut facts load =
@@ -156,7 +163,7 @@ module _ {R : Type 0} {g : Ghosts R} where
         let m : Node = left_node late in
         let same : cut_value set.cut ≡ cut_value call.at.set.cut = ap (λ (x : DiskSet R g). cut_in x) (sym is) ∙ cut in
         follows_on e (noted_at e s k) s m k (fact_of_group n note) old new before set begin.stands begin.below (turned set is) (arrives_noted e e s n k (e.world.gathering s) starts) (down_notes m k set.site holds).0
-        (down_set m k set (record { few = sized.few; some = sized.some }) holds maps (same ∙ was_cut) (fits_as k call.at.set.cut set.cut same (λ x at. fits_note k note refl x (was_fits x at)))) (still_fails m set is refl)
+        (down_set m k set (record { few = sized.few; some = sized.some }) holds maps (left_plain late) (same ∙ was_cut) (fits_as k call.at.set.cut set.cut same (λ x at. fits_note k note refl x (was_fits x at)))) (still_fails m set is refl)
         (fused_none m (OfGroup set) (unfused_down n note site is_down)) refl (facts ∙ sym (set_same old.facts.items s (fact_of_group n note) call.at.fact)) load
 
     -- what a recovery notes that is refused

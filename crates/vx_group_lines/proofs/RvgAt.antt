@@ -134,8 +134,9 @@ module _ {R : Type 0} {g : Ghosts R} where
     pub asks_has : config_in e ≡ Some asks_config.config
     asks_has = ap (λ (x : DiskSet R g). config_in x) at.group.is_set ∙ asks_config.has
 
-    pub asks_none : rvg_noted (note_at (d.world.nodes s)) ≡ None → asks_config.config.rvg ≡ None
-    asks_none none = ap (λ (o : Option Config). config_rvg o) (sym (notes_config note asks_config.config asks_config.noted)) ∙ none
+    pub asks_none : asks_config.config.rvg ≡ None
+    asks_none = ap (λ (o : Option Config). config_rvg o) (sym (notes_config note asks_config.config asks_config.noted))
+        ∙ at.group.stands.plain at.group.made note (group_noted_at d y name s e at.group)
 
     pub entries_same : entries_noted (note_at (d.world.nodes s)) ≡ asks_config.config.volumes
     entries_same = ap (λ (o : Option Config). volumes_of o) (notes_config note asks_config.config asks_config.noted)

@@ -29,6 +29,7 @@ use Rattle.vx_diskset.specs.declared.group_set.GroupSet.{GroupSet}
 use Rattle.vx_events.specs.Fails.{Fails}
 use Rattle.vx_events.specs.GroupNotes.{note_at}
 use Rattle.vx_events.specs.GroupViews.{noted_table}
+use Rattle.vx_events.specs.RvgFits.{rvg_noted}
 use Rattle.vx_events.specs.RvgMakes.{MakesRvg, RvgFails, RvgLacks}
 use Rattle.vx_events.specs.RvgNotes.{units_named}
 use Rattle.vx_events.specs.RvgParts.{RvgShort, ShortMade}
@@ -49,6 +50,7 @@ use Rattle.vx_above.proofs.Fails.{calls_of}
 use Rattle.vx_above.proofs.Losing.{Names}
 use Rattle.vx_group_lines.proofs.RvgAt.{RvgAt}
 use Rattle.vx_group_lines.proofs.RvgCalls.{below_faults}
+use Rattle.vx_group_lines.proofs.Plains.{rvg_goes}
 use Rattle.vx_group_lines.proofs.RvgNotes.{notes_lacking, notes_none}
 use Rattle.vx_group_lines.proofs.RvgStays.{rvg_left, stays_carries, stays_none, stays_stands}
 
@@ -107,6 +109,9 @@ module _ {R : Type 0} {g : Ghosts R} where
       table : noted_table next ≡ noted_table note
       table = moves_table s many fails o e note next names none_again goes.was goes.now was_noted goes.noted_now goes.change
 
+      same_rvg : rvg_noted next ≡ rvg_noted note
+      same_rvg = rvg_goes note next goes.was goes.now was_noted goes.noted_now goes.change.parts.rvg
+
       same_cut : next.cut ≡ note.cut
       same_cut = works.same.cut ∙ ap (λ (k : GroupNode). k.cut) narrows.same
 
@@ -121,7 +126,7 @@ module _ {R : Type 0} {g : Ghosts R} where
         next = left;
         fails = fails;
         makes = subst (λ (k : ℕ). MakesRvg (IsTold new) d (Rvg name srl maps volumes) k fails said left) (sym at.number) makes;
-        stands = stays_stands d old new name srl maps volumes s before after stands at changed failing since next noted stand_maps same_cut table facts;
+        stands = stays_stands d old new name srl maps volumes s before after stands at changed failing since next noted stand_maps same_cut table same_rvg facts;
         none = λ other never. stays_none d old new name srl maps volumes s before after stands at changed failing since next noted stand_maps same_cut table never;
         carries = stays_carries d old new name srl maps volumes s before after stands at changed failing since next noted stand_maps same_cut table load;
         rose = rose_below old new s before after changed many;
@@ -146,7 +151,7 @@ module _ {R : Type 0} {g : Ghosts R} where
         part = inr (subst (λ (k : ℕ). RvgShort (IsTold new) d (Rvg name srl maps volumes) k left) (sym at.number)
             (ShortMade name srl maps volumes fails next refl (calls_of s (count_of old s) (count_of new s) many)
             (notes_none s many fails o e names (IsTold new) units note middle narrows goes.was goes.now goes.noted (omega arith) next goes.noted_now goes.change ⊥ keeps) (record { world = refl; after = λ i. refl })));
-        stands = stays_stands d old new name srl maps volumes s before after stands at changed failing since next noted stand_maps same_cut table facts;
+        stands = stays_stands d old new name srl maps volumes s before after stands at changed failing since next noted stand_maps same_cut table same_rvg facts;
         none = λ never. stays_none d old new name srl maps volumes s before after stands at changed failing since next noted stand_maps same_cut table never;
         carries = stays_carries d old new name srl maps volumes s before after stands at changed failing since next noted stand_maps same_cut table load;
         rose = rose_still old new s before after changed.there changed.later changed.disk_sets;

@@ -24,6 +24,7 @@ use Rattle.vx_diskset.specs.declared.group_set.GroupSet.{GroupSet}
 use Rattle.vx_events.specs.GroupLines.{is_over_group, noting}
 use Rattle.vx_events.specs.GroupNotes.{note_at}
 use Rattle.vx_events.specs.GroupViews.{noted_table}
+use Rattle.vx_events.specs.RvgFits.{rvg_noted}
 use Rattle.vx_events.specs.RvgSteps.{HasNoRvgs}
 use Rattle.vx_events.specs.RvgViews.{is_over_rvg}
 use Rattle.vx_events.specs.StepsOver.{fact_of_group, fact_over}
@@ -122,11 +123,12 @@ module _ {R : Type 0} {g : Ghosts R} where
           ∙ ap (λ (x : Node). fact_of_group x (note_at x)) (sym arrives.node)
           ∙ sym (fact_grouped rvg_left.world s (ap (λ (x : Node). is_over_group x) arrives.node ∙ over))
 
-      pub stays_stands : new.facts.items ≡ old.facts.items → StandsFor rvg_left new
-      stays_stands facts =
+      pub stays_stands : rvg_noted next ≡ rvg_noted (note_at (d.world.nodes s)) → new.facts.items ≡ old.facts.items → StandsFor rvg_left new
+      stays_stands rvg facts =
           stands_at d rvg_left old new s (fact_of_group n note) before (OfGroup plain.set) stands at.group.below to
           (group_comes d rvg_left s m (d.world.gathering s) plain.set arrives
-          (up_set m next plain.set (sized_of (beside_of d s) n at.group.set at.group.stands) plain.noted (maps_stand plain.set plain.is) (plain.cut ∙ same_cut ∙ rvg_uncut) (same_cut ∙ rvg_uncut)) fails fused)
+          (up_set m next plain.set (sized_of (beside_of d s) n at.group.set at.group.stands) plain.noted (maps_stand plain.set plain.is)
+          (rvg ∙ at.group.stands.plain at.group.made note (group_noted_at d old name s before at.group)) (plain.cut ∙ same_cut ∙ rvg_uncut) (same_cut ∙ rvg_uncut)) fails fused)
           (λ was. subst (λ (x : Node). BeginsFirst s x) (sym arrives.node) (arrives.first was)) (λ _. tt) seen
           (facts ∙ sym (set_same old.facts.items s (fact_of_group n note) at.group.fact))
 

@@ -30,7 +30,6 @@ use Rattle.vx_diskset.specs.declared.disk_set.DiskSet.{DiskSet}
 use Rattle.vx_events.specs.Facts.{seat_of, site_number}
 use Rattle.vx_events.specs.GroupLines.{shape_of}
 use Rattle.vx_events.specs.GroupNotes.{note_at}
-use Rattle.vx_events.specs.RvgFits.{rvg_noted}
 use Rattle.vx_events.specs.RvgViews.{kinds_by}
 use Rattle.vx_events.specs.StepsOver.{fact_of_group, over_group_at}
 use Rattle.vx_events.specs.declared.said.Said.{Said}
@@ -103,11 +102,11 @@ module _ {R : Type 0} {g : Ghosts R} where
     is_up : AtSite (UpNoted (d.world.nodes s) (note_at (d.world.nodes s))) before
     is_up = at_up d old name s before at up
 
-    line_done : rvg_noted (note_at (d.world.nodes s)) ≡ None → (new : Yard R g) (vol : ℕ) → ((k : Node) (next : GroupNode) → AtSite (UpNoted k next) before → OnSites (λ o e. SiteAdded k next volume want o e (Ok vol)) before after) → ((k : Node) (next : GroupNode) → AtSite (UpNoted k next) before → OnSites (λ o e. AddedMapped o e (Ok vol)) before after)
+    line_done : (new : Yard R g) (vol : ℕ) → ((k : Node) (next : GroupNode) → AtSite (UpNoted k next) before → OnSites (λ o e. SiteAdded k next volume want o e (Ok vol)) before after) → ((k : Node) (next : GroupNode) → AtSite (UpNoted k next) before → OnSites (λ o e. AddedMapped o e (Ok vol)) before after)
         → ((f : SiteFacts) (c : Config) → slice_get mid.facts.items s ≡ Some f → HasConfig s c mid → new.facts.items ≡ slice_set mid.facts.items s (with_volumes (kinds_by c.rvg c.volumes) f))
         → new.assemblies ≡ mid.assemblies → KeepsRest mid new → LeadsOver d (Volume name volume blocks mirrors layout log map_of policy) Done old new
-    line_done plain new vol made maps facts assemblies rest =
-        volume_done d old new name volume blocks mirrors layout log map_of policy want is_want s before after stands (calling new rest) plain vol (made n note is_up) (maps n note is_up)
+    line_done new vol made maps facts assemblies rest =
+        volume_done d old new name volume blocks mirrors layout log map_of policy want is_want s before after stands (calling new rest) vol (made n note is_up) (maps n note is_up)
         (λ c has.
         facts (fact_of_group (d.world.nodes s) (note_at (d.world.nodes s))) c (ap (λ (fs : List SiteFacts). slice_get fs s) half.facts ∙ at.fact)
         (record { disk_set = after; there = ap (λ (es : List (DiskSet R g)). slice_get es s) changed.disk_sets ∙ get-set_same old.disk_sets.items s after (slice_get_within old.disk_sets.items s before changed.there); is = has })
@@ -141,11 +140,11 @@ module _ {R : Type 0} {g : Ghosts R} where
   pub done_by : (mid new : Yard R g) → KeepsRest mid new → (d : Doubted) (old : Yard R g) (name volume : List ℕ) (blocks mirrors : ℕ) (layout : Layout) (log : VolumeLog) (map_of : VolumeMap) (policy : ReadPolicy) (want : Shape)
       → want ≡ shape_of blocks mirrors layout log map_of policy → (s : ℕ) (before after : DiskSet R g) → StandsFor d old → seat_of old.facts.items name ≡ Some s → over_group_at d.world name ≡ true
       → IsFree old (Volume name volume blocks mirrors layout log map_of policy) → Changed old mid s before after → SameFailing before after → cut_in after ≡ cut_in before → CalledOn before after → Midway old mid
-      → rvg_noted (note_at (d.world.nodes s)) ≡ None → (vol : ℕ) → ((k : Node) (next : GroupNode) → AtSite (UpNoted k next) before → OnSites (λ o e. SiteAdded k next volume want o e (Ok vol)) before after) → ((k : Node) (next : GroupNode) → AtSite (UpNoted k next) before → OnSites (λ o e. AddedMapped o e (Ok vol)) before after)
+      → (vol : ℕ) → ((k : Node) (next : GroupNode) → AtSite (UpNoted k next) before → OnSites (λ o e. SiteAdded k next volume want o e (Ok vol)) before after) → ((k : Node) (next : GroupNode) → AtSite (UpNoted k next) before → OnSites (λ o e. AddedMapped o e (Ok vol)) before after)
       → ((f : SiteFacts) (c : Config) → slice_get mid.facts.items s ≡ Some f → HasConfig s c mid → new.facts.items ≡ slice_set mid.facts.items s (with_volumes (kinds_by c.rvg c.volumes) f))
       → new.assemblies ≡ mid.assemblies → LeadsOver d (Volume name volume blocks mirrors layout log map_of policy) Done old new
-  done_by mid new rest d old name volume blocks mirrors layout log map_of policy want is_want s before after stands seat over free changed failing cut since half plain vol made maps facts assemblies =
-      line_done d old mid name volume blocks mirrors layout log map_of policy want is_want s before after stands seat over free changed failing cut since half plain new vol made maps facts assemblies rest
+  done_by mid new rest d old name volume blocks mirrors layout log map_of policy want is_want s before after stands seat over free changed failing cut since half vol made maps facts assemblies =
+      line_done d old mid name volume blocks mirrors layout log map_of policy want is_want s before after stands seat over free changed failing cut since half new vol made maps facts assemblies rest
 
   pub stopped_by : (s : ℕ) (stop : Stop) (result : Result Said OutOfMemory) (mid new : Yard R g) → ((f : SiteFacts) → slice_get mid.facts.items s ≡ Some f → reply_noted s f stop mid new result)
       → (d : Doubted) (old : Yard R g) (name volume : List ℕ) (blocks mirrors : ℕ) (layout : Layout) (log : VolumeLog) (map_of : VolumeMap) (policy : ReadPolicy) (want : Shape)

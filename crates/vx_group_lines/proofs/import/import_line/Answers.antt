@@ -66,6 +66,7 @@ returns-in-Ok-clause-leads g c = λ d stands over.
     (subst (λ r. OnSites (λ o e. CameMapped o e r) before after) c.in-Ok.is (c.import_group-disk_set.ensures.maps n note up.noted))
     (c.import_group-disk_set.ensures.cut ∙ ap (λ r. cut_past r before) c.in-Ok.is)
     (record { flight = same.flight; assemblies = ap (λ xs. xs.items) c.note_up.ensures.assemblies; feeders = ap (λ xs. xs.items) same.feeders })
+    (λ x has. ?)
     (λ x has. c.note_up.ensures.facts f x up.at.fact (record {
       disk_set = after;
       there = ap (λ es. slice_get es s) twice ∙ get-set_same sets s after (slice_get_within sets s before there);

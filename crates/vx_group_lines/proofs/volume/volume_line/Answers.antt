@@ -13,7 +13,7 @@ returns-in-Ok-clause-leads g c = λ d blocks mirrors layout log map policy stand
     let there = get_at c.args.yard.now.disk_sets.items c.site_of-site.result c.index_mut.result.now c.site_of-site.ensures.disk_set c.index_mut.ensures.value in
     done_by _ c.note_volumes.new.yard c.note_volumes.ensures.same d c.args.yard.now c.args.name.now c.args.volume.now blocks mirrors layout log map policy c.args.want.now is_want c.site_of-site.result c.index_mut.result.now c.make_volume.new.self
     stands c.site_of-site.ensures.seat over free (record { there = there; later = c.make_volume.ensures.later; disk_sets = refl; racks = refl }) c.make_volume.ensures.failing c.make_volume.ensures.cut c.make_volume.ensures.since
-    (record { facts = refl; load = record { flight = refl; assemblies = refl; feeders = refl } }) ? c.in-Ok.field-0 c.in-Ok.ensures.made c.in-Ok.ensures.maps c.note_volumes.ensures.facts c.note_volumes.ensures.assemblies
+    (record { facts = refl; load = record { flight = refl; assemblies = refl; feeders = refl } }) c.in-Ok.field-0 c.in-Ok.ensures.made c.in-Ok.ensures.maps c.note_volumes.ensures.facts c.note_volumes.ensures.assemblies
 
 pub returns-in-Ok-clause-asked : goal.returns-in-Ok-clause-asked
 returns-in-Ok-clause-asked g c = λ d blocks mirrors layout log map policy stands is_want free over.
