@@ -21,11 +21,13 @@ pub mod OverDowns
 pub mod OverDims
 pub mod OverDisks
 pub mod OverFalls
+pub mod OverFetches
 pub mod OverFinds
 pub mod OverFrames
 pub mod OverKept
 pub mod OverLikes
 pub mod OverPlain
+pub mod OverPumps
 pub mod OverReads
 pub mod OverReceivers
 pub mod OverAsked

@@ -19,11 +19,9 @@ use Rattle.vx_history.specs.declared.sender.Action.TheVariants.{Nothing as Sends
 use Rattle.vx_history.specs.declared.sender.SEvent.TheVariants.{Pump}
 use Rattle.vx_courier.specs.UnderWay.{FlightStands}
 use Rattle.vx_disk.specs.Shelf.{Meaning}
-use Rattle.vx_disk.specs.declared.shelf.Shelf.{Ghosts}
 use Rattle.vx_net.specs.Flights.{Flying}
 use Rattle.vx_peers.specs.Senders.{LinkMoved, ReadCause, SendsFrom}
 use Rattle.vx_rvg.specs.Views.{Core, last_of}
-use Rattle.vx_rvg.specs.declared.group.Rvg.{Rvg}
 use Rattle.vx_diskset.specs.Holds.{beside_of, header_links}
 use Rattle.vx_diskset.specs.Needs.{hold_of, is_needing, kept_mode_hold, mode_needs}
 use Rattle.vx_diskset.specs.Pumps.{PumpStop, PumpedIs}
@@ -47,19 +45,18 @@ mode_by Stale stored is = absurd (let e : false ≡ true = is in cc)
 needing_by : (to : ℕ) (l : Link) → by_log l.mode ≡ true → l.attached ≡ true → (is_needing (kept_link to l) ≡ true) × (hold_of (kept_link to l) ≤ l.stored)
 needing_by to l logs attached = let by = mode_by l.mode l.stored logs in (ap (λ (b : Bool). b && mode_needs (kept_mode l.mode)) attached ∙ by.0, by.1)
 
-module _ {R : Type 0} {g : Ghosts R} where
-  -- so it is there
-  pub never_lacks : (d : Doubted) (site to k : ℕ) (rvg : Rvg R g) (link : PlainLink) → IsUpAt (beside_of d site) (d.world.nodes site) rvg.core (g.meaning rvg.shelf) → (d.world.nodes site).halted ≡ None → IsTrue (g.meaning rvg.shelf).tells
-      → slice_get (header_links d.world site) k ≡ Some (kept_link to (d.world.links site to)) → link ≡ plain_link to (d.world.links site to) → by_log link.mode ≡ true → link.attached ≡ true → rvg.core.log.header.low ≤ link.stored + 1
-  never_lacks d site to k rvg link up none told there is logs attached =
-      let l : Link = d.world.links site to in
-      let by = needing_by to l (sym (ap (λ (x : PlainLink). by_log x.mode) is) ∙ logs) (sym (ap (λ (x : PlainLink). x.attached) is) ∙ attached) in
-      let low = low_needed (beside_of d site) (d.world.nodes site) rvg k (hold_of (kept_link to l)) (kept_link to l) up none told there by.0 (omega arith) in
-      omega (arith, low, by.1, ap (λ (x : PlainLink). x.stored) is)
+-- so it is there
+pub never_lacks : (d : Doubted) (site to k : ℕ) (c : Core) (m : Meaning) (link : PlainLink) → IsUpAt (beside_of d site) (d.world.nodes site) c m → (d.world.nodes site).halted ≡ None → IsTrue m.tells
+    → slice_get (header_links d.world site) k ≡ Some (kept_link to (d.world.links site to)) → link ≡ plain_link to (d.world.links site to) → by_log link.mode ≡ true → link.attached ≡ true → c.log.header.low ≤ link.stored + 1
+never_lacks d site to k c m link up none told there is logs attached =
+    let l : Link = d.world.links site to in
+    let by = needing_by to l (sym (ap (λ (x : PlainLink). by_log x.mode) is) ∙ logs) (sym (ap (λ (x : PlainLink). x.attached) is) ∙ attached) in
+    let low = low_needed (beside_of d site) (d.world.nodes site) c m k (hold_of (kept_link to l)) (kept_link to l) up none told there by.0 (omega arith) in
+    omega (arith, low, by.1, ap (λ (x : PlainLink). x.stored) is)
 
 -- ---- the site as the sending end of a link
 
-sends_from : {beside : KeptBeside} (n : Node) (c : Core) (m : Meaning) → IsUpAt beside n c m → n.halted ≡ None → IsTrue m.tells → SendsFrom n c m
+pub sends_from : {beside : KeptBeside} (n : Node) (c : Core) (m : Meaning) → IsUpAt beside n c m → n.halted ≡ None → IsTrue m.tells → SendsFrom n c m
 sends_from n c m up none told =
     let stood = up.content none told in
     record {

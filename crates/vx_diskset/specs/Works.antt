@@ -1,5 +1,6 @@
 -- What each call on a replicated volume group makes of it and of the shelf below, whatever shelf that is.
-use Rattle.std.specs.Prelude.{◌≡◌, ◌⊎◌, ℕ, ◌+◌, ◌%◌, ◌<◌, ◌≤◌, List, length, take, Contains, None, Result, Ok, Err, IfErr, IfOk, OnOk, IsFalse, IsTrue}
+use Rattle.std.specs.Prelude.{◌≡◌, ◌⊎◌, ℕ, ◌+◌, ◌%◌, ◌<◌, ◌≤◌, List, length, take, Contains, None, Result, Ok, Err, IfErr, IfOk, OnOk, IsFalse, IsTrue, Vec}
+use Rattle.std.specs.declared.alloc.Global.{Global}
 use Rattle.vx_disk.specs.Causes.{DeviceCause, refusal_of}
 use Rattle.vx_disk.specs.Moves.{Anything, Blocks, Moves, Run}
 use Rattle.vx_disk.specs.Shelf.{Goes, Meaning}
@@ -10,7 +11,7 @@ use Rattle.vx_model.specs.Content.{Content, blocks_in}
 use Rattle.vx_model.specs.Sizes.{ring_of}
 use Rattle.vx_model.specs.declared.call.Update.{Update}
 use Rattle.vx_model.specs.declared.errors.Stop.{Stop}
-use Rattle.vx_model.specs.declared.limits.TheConstants.{MOST_CALL_BYTES}
+use Rattle.vx_model.specs.declared.limits.TheConstants.{MOST_CALL_BYTES, MOST_NUMBER}
 use Rattle.vx_model.specs.declared.no.No.{No}
 use Rattle.vx_model.specs.declared.no.No.TheVariants.{Device}
 use Rattle.vx_disk.specs.Counts.{Rose}
@@ -18,10 +19,11 @@ use Rattle.vx_rvg.specs.Contents.{ShowsContent}
 use Rattle.vx_model.specs.declared.state.State.{State}
 use Rattle.vx_model.specs.declared.units.Units.{Units}
 use Rattle.vx_rvg.specs.Groups.{MakeCause, new_core}
-use Rattle.vx_rvg.specs.Holdings.{nothing_logged}
+use Rattle.vx_peers.specs.Senders.{AreRead, ReadCause}
+use Rattle.vx_rvg.specs.Holdings.{Holding, nothing_logged}
 use Rattle.vx_rvg.specs.Stands.{HoldsContent, Stands}
 use Rattle.vx_rvg.specs.Starts.{IsStarted, StartCause, Starting, ring_in}
-use Rattle.vx_rvg.specs.Views.{Core, IsSound}
+use Rattle.vx_rvg.specs.Views.{Core, IsSound, last_of}
 use Rattle.vx_secondary.specs.Receivers.{Wait}
 use Rattle.vx_srl.specs.Starts.{ReadsAtLimit}
 use Rattle.vx_ground.specs.Rewrites.{OneRests}
@@ -101,6 +103,27 @@ pub record DoesApply (c : Core) (to : ℕ) (m : Meaning) (c' : Core) (m' : Meani
   pub reached : IfOk r (λ number. c'.applied ≡ number)
   pub waiting : (us : List Update) → Wait c m.size us → Wait c' m'.size us
   pub off : OffIf r m'.down
+
+-- ---- logged writes, to be sent
+
+pub record AsksFetch (c : Core) (first count : ℕ) (m : Meaning) : Type 0 where
+  pub sound : IsSound c m
+  pub running : c.halted ≡ None
+  pub low : c.log.header.low ≤ first
+  pub held : first + count ≤ last_of c + 1
+  pub number : first + count ≤ MOST_NUMBER + 1
+
+-- the writes of these numbers, where contents are told those that the log holds
+abbrev pub HasFetched : Core → (first count : ℕ) → Meaning → Meaning → Vec Update Global → Type 0
+HasFetched c first count m m' us = (length us.items ≡ count) × ((h : Holding) → Stands c h m → IsTrue m.tells → AreRead h c.log.header.state.line first us.items × Stands c h m')
+
+pub record DoesFetch (c : Core) (first count : ℕ) (m : Meaning) (c' : Core) (m' : Meaning) (r : Result (Vec Update Global) Stop) : Type 0 where
+  pub keeps : KeepsSound c c' m m'
+  pub same : c' ≡ c
+  pub stays : (beside : KeptBeside) (n : Node) → IsUpAt beside n c m → n.halted ≡ None → IsUpAt beside n c' m'
+  pub fetched : IfOk r (λ us. HasFetched c first count m m' us)
+  pub cause : IfErr r (ReadCause c m m')
+  pub down : m'.down ≡ m.down
 
 -- ---- what waits
 

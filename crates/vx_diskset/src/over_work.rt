@@ -1,7 +1,7 @@
 // What is done to a replicated volume group over the volumes of a disk group.
 ghost use Rattle.std.specs.Prelude.{◌≡◌, ◌*◌, ◌<◌, ◌≤◌, ℕ, Contains};
 ghost use Rattle.vx_disk.specs.Maps.{maps_of};
-ghost use Rattle.vx_diskset.specs.Works.{AsksReach, AsksRead, AsksShow, AsksWrite, DoesApply, DoesKeep, DoesMake, DoesReach, DoesRead, DoesRewrite, DoesShow, DoesStart, DoesWrite};
+ghost use Rattle.vx_diskset.specs.Works.{AsksFetch, AsksReach, AsksRead, AsksShow, AsksWrite, DoesApply, DoesFetch, DoesKeep, DoesMake, DoesReach, DoesRead, DoesRewrite, DoesShow, DoesStart, DoesWrite};
 ghost use Rattle.vx_model.specs.declared.limits.TheConstants.{LEAST_BLOCKS, LINK_PLACES};
 ghost use Rattle.vx_rvg.specs.Starts.{ring_in};
 ghost use Rattle.vx_rvg.specs.Views.{IsSound, UnitsPlaced};
@@ -14,7 +14,8 @@ use std::alloc::Global;
 use vx_disk::{Shelf, ShelfError};
 use vx_ground::{Work, write_over};
 use vx_model::limits::MOST_CALL_BYTES;
-use vx_model::{No, State, Stop, Units};
+use vx_model::{No, State, Stop, Units, Update};
+use vx_peers::read_updates;
 use vx_rvg::{Rvg, RvgCore, StartRoom};
 use vx_secondary::{Secondary, Waiting};
 
@@ -142,6 +143,30 @@ impl Work for Reaches {
         let answer = apply_oldest(&mut rvg, &mut waiting, self.count);
         let (shelf, core) = rvg.apart();
         (shelf, (core, waiting, answer))
+    }
+}
+
+/// Logged writes that are read to be sent, so many from a number on.
+#[derive(Drop)]
+pub(crate) struct Fetches {
+    pub alloc: Global,
+    pub core: RvgCore,
+    pub first: u64,
+    pub count: u64,
+}
+
+impl Work for Fetches {
+    type Answer = (RvgCore, Result<Vec<Update>, Stop>);
+
+    ghost asks = { λ w m. AsksFetch w.core w.first w.count m };
+
+    ghost does = { λ w m n r. DoesFetch w.core w.first w.count m r.0 n r.1 };
+
+    fn run<S: Shelf>(self, shelf: S) -> (S, (RvgCore, Result<Vec<Update>, Stop>)) {
+        let mut rvg = Rvg::together(shelf, self.core);
+        let answer = read_updates(self.alloc, &mut rvg, self.first, self.count);
+        let (shelf, core) = rvg.apart();
+        (shelf, (core, answer))
     }
 }
 

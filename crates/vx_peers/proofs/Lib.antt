@@ -7,4 +7,5 @@ pub mod Delivers
 pub mod Hears
 pub mod Links
 pub mod MorePackets
+pub mod Asking
 pub mod GatherWaits

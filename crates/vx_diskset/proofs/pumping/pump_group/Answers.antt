@@ -9,7 +9,7 @@ use Rattle.vx_diskset.proofs.pumping.pump_group.Goals as goal
 
 pub returns-then-low-link-clause-pumped : goal.returns-then-low-link-clause-pumped
 returns-then-low-link-clause-pumped g c = λ d k up none told there is flight.
-    let low = never_lacks d c.args.site c.args.link.now.site k c.args.rvg.now c.args.link.now up none told there is (sym c.goes_by_log.ensures ∙ c.if-goes_by_log.true) c.if-link.true in
+    let low = never_lacks d c.args.site c.args.link.now.site k c.args.rvg.now.core (g.S.Shelf.meaning c.args.rvg.now.shelf) c.args.link.now up none told there is (sym c.goes_by_log.ensures ∙ c.if-goes_by_log.true) c.if-link.true in
     absurd (omega (arith, low, c.low-low.ensures, c.if-low-link.true))
 
 pub returns-clause-pumped : goal.returns-clause-pumped
