@@ -27,7 +27,7 @@ pub fn pump_line<R: Rack>(
     requires kept { IsYardKept yard.old }
     requires free { IsFree yard.old (Pump first.now second.now) }
     ensures leads { (d : Doubted) → StandsFor d yard.old → links_rvg d.world (Pump first.now second.now) ≡ false → Carries d yard.old → LeadsIs d (Pump first.now second.now) yard.old yard.new result }
-    ensures asked { (d : Doubted) → StandsFor d yard.old → AsAsked d.world (Pump first.now second.now) yard.old yard.new }
+    ensures asked { (d : Doubted) → StandsFor d yard.old → links_rvg d.world (Pump first.now second.now) ≡ false → AsAsked d.world (Pump first.now second.now) yard.old yard.new }
     ensures called { (d : Doubted) → StandsFor d yard.old → links_rvg d.world (Pump first.now second.now) ≡ false → IfOk result (λ said. HasCalled d.world (Pump first.now second.now) said yard.old yard.new) }
     ensures told { IsTold yard.new → IsTold yard.old }
     ensures files { in_files yard.new ≡ in_files yard.old }

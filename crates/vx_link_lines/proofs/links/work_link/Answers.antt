@@ -150,7 +150,7 @@ returns-in-Pump-clause-leads g c = λ d stands off carries.
 
 pub returns-in-Pump-clause-asked : goal.returns-in-Pump-clause-asked
 returns-in-Pump-clause-asked g c = λ d stands off.
-    subst (λ (line : ScriptLine). AsAsked d.world line c.args.yard.now c.pump_line.new.yard) (sym c.in-Pump.is) (c.pump_line.ensures.asked d stands)
+    subst (λ (line : ScriptLine). AsAsked d.world line c.args.yard.now c.pump_line.new.yard) (sym c.in-Pump.is) (c.pump_line.ensures.asked d stands (subst (λ (line : ScriptLine). links_rvg d.world line ≡ false) c.in-Pump.is off))
 
 pub returns-in-Pump-clause-called : goal.returns-in-Pump-clause-called
 returns-in-Pump-clause-called g c = λ d stands off.

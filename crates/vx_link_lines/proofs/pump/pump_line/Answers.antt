@@ -22,6 +22,7 @@ use Rattle.vx_yard.proofs.ChangeSite.{told_before}
 use Rattle.vx_link_lines.proofs.Deaf.{all_told}
 use Rattle.vx_yard.proofs.Lists.{get_at}
 use Rattle.vx_yard.proofs.NamedSite.{asks_at}
+use Rattle.vx_yard.proofs.RawSites.{raw_site}
 use Rattle.vx_link_lines.proofs.PumpLine.{asked_named, moved_named, pump_brings, pump_finds, pump_stops, pump_told, pumped_named, pumping, sent_named}
 use Rattle.vx_link_lines.proofs.RawParts.{none_seat}
 use Rattle.vx_link_lines.proofs.pump.pump_line.Goals as goal
@@ -73,11 +74,11 @@ returns-in-Ok-clause-leads g c = λ d stands off carries.
     ⊎_elim
     (λ tells.
     let moved = moved_named d old p q s c.link_named.result.link c.pump.new.link c.pump.new.flight asks
-    (c.in-Ok.ensures.pumped d asks.place stood asks.origin asks.up none asks.running ((was tells).each s before at) asks.kept asks.link_is carries.flight) in
-    pump_brings d old _ s before after stands carries asks.seat.below (record { there = at; later = c.in-Ok.ensures.later; disk_sets = refl; racks = refl }) c.in-Ok.ensures.still c.in-Ok.ensures.stands c.in-Ok.ensures.role none
+    (c.in-Ok.ensures.pumped d asks.place stood asks.origin asks.up asks.running ((was tells).each s before at) asks.kept asks.link_is carries.flight) in
+    pump_brings d old _ s before after stands carries asks.seat.below (record { there = at; later = c.in-Ok.ensures.later; disk_sets = refl; racks = refl }) (c.in-Ok.ensures.still (raw_site (beside_of d s) (d.world.nodes s) before none stood)) c.in-Ok.ensures.stands c.in-Ok.ensures.role none
     (record { assemblies = refl; feeders = refl }) was p q c.keep_pumped.new.sites (c.keep_pumped.ensures.world d.world c.pump.new.flight (c.deref_mut.ensures.value ∙ stands.facts) moved.link moved.flight) items)
     (λ untold.
-    pump_finds d old _ s before after stands carries asks.seat.below (record { there = at; later = c.in-Ok.ensures.later; disk_sets = refl; racks = refl }) c.in-Ok.ensures.still c.in-Ok.ensures.stands c.in-Ok.ensures.role none
+    pump_finds d old _ s before after stands carries asks.seat.below (record { there = at; later = c.in-Ok.ensures.later; disk_sets = refl; racks = refl }) (c.in-Ok.ensures.still (raw_site (beside_of d s) (d.world.nodes s) before none stood)) c.in-Ok.ensures.stands c.in-Ok.ensures.role none
     (record { assemblies = refl; feeders = refl }) was p q c.keep_pumped.new.sites untold
     (sent_named d old p q s c.link_named.result.link old.flight c.pump.new.flight asks (c.in-Ok.ensures.more (beside_of d s) (d.world.nodes s) stood))
     (c.keep_pumped.ensures.facts d.world (c.deref_mut.ensures.value ∙ stands.facts) (pumped_named d old p q s c.link_named.result.link c.pump.new.link asks (c.in-Ok.ensures.rule (beside_of d s) (d.world.nodes s) stood))) items)
@@ -99,36 +100,59 @@ returns-in-Err-clause-leads g c = λ d stands off carries.
     let stood = stands.disk_sets.sites s before asks.seat.below at in
     let none = none_seat d old p s stands c.site_of-here.ensures.seat asks.seat.apart off in
     let was = told_before es s before after at c.in-Err.ensures.later in
-    pump_stops d old _ s before after stands carries asks.seat.below (record { there = at; later = c.in-Err.ensures.later; disk_sets = refl; racks = refl }) c.in-Err.ensures.still c.in-Err.ensures.stands c.in-Err.ensures.role none
-    (record { assemblies = refl; feeders = refl }) was p q c.pump.new.flight c.in-Err.stop c.stopped.result (subst (λ (a : Action). PumpStop (d.world.nodes s) a (faults_at before) (faults_at after) c.in-Err.stop) (asked_named d old p q s c.link_named.result.link asks) (c.in-Err.ensures.stops (beside_of d s) (d.world.nodes s) stood asks.origin asks.up none asks.running))
+    pump_stops d old _ s before after stands carries asks.seat.below (record { there = at; later = c.in-Err.ensures.later; disk_sets = refl; racks = refl }) (c.in-Err.ensures.still (raw_site (beside_of d s) (d.world.nodes s) before none stood)) c.in-Err.ensures.stands c.in-Err.ensures.role none
+    (record { assemblies = refl; feeders = refl }) was p q c.pump.new.flight c.in-Err.stop c.stopped.result (subst (λ (a : Action). PumpStop (d.world.nodes s) a (faults_at before) (faults_at after) c.in-Err.stop) (asked_named d old p q s c.link_named.result.link asks) (c.in-Err.ensures.stops (beside_of d s) (d.world.nodes s) stood asks.origin asks.up asks.running))
     (λ why same other tells.
     pump_told d.world s c.link_named.result.link.site c.pump.new.link c.pump.new.flight (faults_at before) (faults_at after) c.in-Err.stop
-    (c.in-Err.ensures.pumped d asks.place stood asks.origin asks.up none asks.running ((was tells).each s before at) asks.kept asks.link_is carries.flight) why same other)
+    (c.in-Err.ensures.pumped d asks.place stood asks.origin asks.up asks.running ((was tells).each s before at) asks.kept asks.link_is carries.flight) why same other)
     c.stopped.ensures asks.seat.number refl refl c.in-Err.ensures.unsent
 
 pub returns-in-Ok-clause-asked : goal.returns-in-Ok-clause-asked
-returns-in-Ok-clause-asked g c = λ d stands.
+returns-in-Ok-clause-asked g c = λ d stands off.
     let old = c.args.yard.now in
     let s = c.site_of-here.result in
-    asks_at LeavesAlone d old _ c.args.first.now s c.index_mut.result.now c.pump.new.self stands c.site_of-here.ensures.seat
-    (get_at old.disk_sets.items s c.index_mut.result.now c.site_of-here.ensures.disk_set c.index_mut.ensures.value) refl c.in-Ok.ensures.still
+    let p = c.args.first.now in
+    let q = c.args.second.now in
+    let before = c.index_mut.result.now in
+    let at = get_at old.disk_sets.items s before c.site_of-here.ensures.disk_set c.index_mut.ensures.value in
+    let there = found old.facts.items p q (pump_tested old.facts.items p q (in_files old, c.requires.free)) in
+    let asks = pumping d old p q s c.deref.result.now c.link_named.result stands c.requires.free c.site_of-here.ensures.seat c.deref.ensures.value c.link_named.ensures.link
+    (subst (λ fs. FoundLink fs p q) (sym c.deref.ensures.value) there) in
+    let stood = stands.disk_sets.sites s before asks.seat.below at in
+    let none = none_seat d old p s stands c.site_of-here.ensures.seat asks.seat.apart off in
+    asks_at LeavesAlone d old _ p s before c.pump.new.self stands c.site_of-here.ensures.seat at refl (c.in-Ok.ensures.still (raw_site (beside_of d s) (d.world.nodes s) before none stood))
 
 pub returns-in-Err-clause-asked : goal.returns-in-Err-clause-asked
-returns-in-Err-clause-asked g c = λ d stands.
+returns-in-Err-clause-asked g c = λ d stands off.
     let old = c.args.yard.now in
     let s = c.site_of-here.result in
-    asks_at LeavesAlone d old _ c.args.first.now s c.index_mut.result.now c.pump.new.self stands c.site_of-here.ensures.seat
-    (get_at old.disk_sets.items s c.index_mut.result.now c.site_of-here.ensures.disk_set c.index_mut.ensures.value) refl c.in-Err.ensures.still
+    let p = c.args.first.now in
+    let q = c.args.second.now in
+    let before = c.index_mut.result.now in
+    let at = get_at old.disk_sets.items s before c.site_of-here.ensures.disk_set c.index_mut.ensures.value in
+    let there = found old.facts.items p q (pump_tested old.facts.items p q (in_files old, c.requires.free)) in
+    let asks = pumping d old p q s c.deref.result.now c.link_named.result stands c.requires.free c.site_of-here.ensures.seat c.deref.ensures.value c.link_named.ensures.link
+    (subst (λ fs. FoundLink fs p q) (sym c.deref.ensures.value) there) in
+    let stood = stands.disk_sets.sites s before asks.seat.below at in
+    let none = none_seat d old p s stands c.site_of-here.ensures.seat asks.seat.apart off in
+    asks_at LeavesAlone d old _ p s before c.pump.new.self stands c.site_of-here.ensures.seat at refl (c.in-Err.ensures.still (raw_site (beside_of d s) (d.world.nodes s) before none stood))
 
 pub returns-in-Ok-clause-called : goal.returns-in-Ok-clause-called
 returns-in-Ok-clause-called g c = λ d stands off.
     let old = c.args.yard.now in
     let s = c.site_of-here.result in
+    let p = c.args.first.now in
+    let q = c.args.second.now in
     let before = c.index_mut.result.now in
     let after = c.pump.new.self in
-    asks_at (LeavesFuse NoMore Done) d old _ c.args.first.now s before after stands c.site_of-here.ensures.seat
-    (get_at old.disk_sets.items s before c.site_of-here.ensures.disk_set c.index_mut.ensures.value) refl
-    (alone_leaves Done before after (λ why is. let said : Done ≡ Refused why = is in cc) c.in-Ok.ensures.still)
+    let at = get_at old.disk_sets.items s before c.site_of-here.ensures.disk_set c.index_mut.ensures.value in
+    let there = found old.facts.items p q (pump_tested old.facts.items p q (in_files old, c.requires.free)) in
+    let asks = pumping d old p q s c.deref.result.now c.link_named.result stands c.requires.free c.site_of-here.ensures.seat c.deref.ensures.value c.link_named.ensures.link
+    (subst (λ fs. FoundLink fs p q) (sym c.deref.ensures.value) there) in
+    let stood = stands.disk_sets.sites s before asks.seat.below at in
+    let none = none_seat d old p s stands c.site_of-here.ensures.seat asks.seat.apart off in
+    asks_at (LeavesFuse NoMore Done) d old _ p s before after stands c.site_of-here.ensures.seat at refl
+    (alone_leaves Done before after (λ why is. let said : Done ≡ Refused why = is in cc) (c.in-Ok.ensures.still (raw_site (beside_of d s) (d.world.nodes s) before none stood)))
 
 pub returns-in-Err-clause-called : goal.returns-in-Err-clause-called
 returns-in-Err-clause-called g c = λ d stands off.
@@ -144,5 +168,5 @@ returns-in-Err-clause-called g c = λ d stands off.
     (subst (λ fs. FoundLink fs p q) (sym c.deref.ensures.value) there) in
     let stood = stands.disk_sets.sites s before asks.seat.below at in
     let none = none_seat d old p s stands c.site_of-here.ensures.seat asks.seat.apart off in
-    pump_stopped s old _ before after at refl c.in-Err.ensures.still (d.world.nodes s) (pump_asks c.link_named.result.link (d.world.nodes s).safe) (faults_at before) (faults_at after) (site_number d.world p) c.in-Err.stop c.stopped.result asks.seat.number
-    (c.in-Err.ensures.stops (beside_of d s) (d.world.nodes s) stood asks.origin asks.up none asks.running) c.stopped.ensures
+    pump_stopped s old _ before after at refl (c.in-Err.ensures.still (raw_site (beside_of d s) (d.world.nodes s) before none stood)) (d.world.nodes s) (pump_asks c.link_named.result.link (d.world.nodes s).safe) (faults_at before) (faults_at after) (site_number d.world p) c.in-Err.stop c.stopped.result asks.seat.number
+    (c.in-Err.ensures.stops (beside_of d s) (d.world.nodes s) stood asks.origin asks.up asks.running) c.stopped.ensures
