@@ -1,5 +1,5 @@
 -- A line that applies the log of a site over a group of disks with a replicated volume group.
-use Rattle.std.proofs.Common.{◌≡◌, ◌∙◌, ◌≤◌, ◌+◌, ℕ, true, List, length, ap, sym, subst, refl, arith}
+use Rattle.std.proofs.Common.{◌≡◌, ◌∙◌, ◌≤◌, ◌+◌, ℕ, true, false, List, length, ap, sym, subst, refl, arith}
 use Rattle.std.specs.Prelude.{Some, slice_get, slice_set, Ok}
 use Rattle.vx_history.specs.Doubts.{Doubted, happened}
 use Rattle.vx_history.specs.Groups.{GroupNode}

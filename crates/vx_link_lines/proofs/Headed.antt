@@ -1,6 +1,6 @@
 -- A yard behind an event that writes one header of the log of a site that notes no group, by what the call on its disks answered.
 use Rattle.std.proofs.Common.{◌≡◌, ◌∙◌, ◌<◌, ℕ, List, [], ◌∷◌, ap, subst, refl}
-use Rattle.std.specs.Prelude.{Option, None, slice_get, slice_set, Ok, Err}
+use Rattle.std.specs.Prelude.{Option, Some, None, slice_get, slice_set, Ok, Err}
 use Rattle.vx_history.proofs.Fuses.{burned_twice, fused_before}
 use Rattle.vx_history.specs.Doubts.{Doubted, crashed_as, halved}
 use Rattle.vx_history.specs.Steps.{burned, crashed, worked}

@@ -1,5 +1,5 @@
 -- What a line of links leads a yard to that writes one header of the log of a site over a group of disks with a replicated volume group.
-use Rattle.std.proofs.Common.{◌≡◌, ◌∙◌, ⊎_elim, ◌<◌, ℕ, true, false, List, [], ap, sym, subst, refl}
+use Rattle.std.proofs.Common.{◌≡◌, ◌∙◌, ⊎_elim, ◌+◌, ◌<◌, ℕ, true, false, List, [], ap, sym, subst, refl}
 use Rattle.std.specs.Prelude.{Option, Some, slice_get, slice_set, Ok, Err}
 use Rattle.vx_history.proofs.Fuses.{fused_before}
 use Rattle.vx_history.specs.Doubts.{Doubted, crashed_as, halved}

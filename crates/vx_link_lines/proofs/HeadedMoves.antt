@@ -1,6 +1,6 @@
 -- What a site comes to behind an event that writes one header of its log, by what the call on its disks answered: all but which disks are made to fail,
 -- what its fuse has left and what it notes of a group.
-use Rattle.std.proofs.Common.{◌≡◌, ◌∙◌, ⊎_elim, ◌+◌, ◌<◌, ◌≤◌, ℕ, Bool, true, false, List, [], length, ap, sym, subst, refl, arith}
+use Rattle.std.proofs.Common.{◌≡◌, ◌∙◌, ⊎_elim, ◌+◌, ◌<◌, ◌≤◌, ℕ, Bool, true, false, List, length, ap, sym, subst, refl, arith}
 use Rattle.std.specs.Prelude.{Option, Some, None, slice_get, slice_set, Ok}
 use Rattle.vx_history.proofs.Behind.{after_of}
 use Rattle.vx_history.proofs.Fuses.{worked_twice}

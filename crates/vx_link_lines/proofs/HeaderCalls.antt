@@ -1,5 +1,5 @@
 -- An event that writes one header of a site's log, and what a call on the disks of the site promises that does it.
-use Rattle.std.proofs.Common.{◌≡◌, ◌∙◌, ◌≤◌, ◌+◌, ℕ, List, ap, length}
+use Rattle.std.proofs.Common.{◌≡◌, ◌∙◌, ◌≤◌, ◌+◌, ℕ, false, List, ap, length}
 use Rattle.std.specs.Prelude.{◌&&◌, eqb, Option, Some, None, is_some, Result, Ok, Err}
 use Rattle.vx_history.specs.Groups.{GroupNode}
 use Rattle.vx_history.specs.Doubts.{Doubted}

@@ -26,8 +26,7 @@ use Rattle.vx_events.specs.RvgViews.{is_over_rvg}
 use Rattle.vx_events.specs.RvgWorks.{FuseRanOut, NotesWork}
 use Rattle.vx_events.specs.declared.said.Said.{Said}
 use Rattle.vx_yard.proofs.ChangeSite.{rose_none}
-use Rattle.vx_yard.specs.AboveLines.{StopsAbove}
-use Rattle.vx_yard.specs.Standing.{StandsFor, StaysFor}
+use Rattle.vx_yard.specs.Standing.{StandsFor, StaysFor, StopsAbove}
 use Rattle.vx_yard.specs.Yards.{count_of}
 use Rattle.vx_yard.specs.declared.yard.Yard.{Yard}
 

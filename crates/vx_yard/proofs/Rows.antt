@@ -74,7 +74,7 @@ apart_same n m row new sites many apart node same count =
 
 -- ---- a site that went down
 
-facts_is : (f k : SiteFacts) → f.name ≡ k.name → f.state ≡ k.state → f.disks ≡ k.disks → f.blocks ≡ k.blocks → f.grouped ≡ k.grouped → f.volumes ≡ k.volumes → f.rvg ≡ k.rvg → f.links ≡ k.links → f ≡ k
+pub facts_is : (f k : SiteFacts) → f.name ≡ k.name → f.state ≡ k.state → f.disks ≡ k.disks → f.blocks ≡ k.blocks → f.grouped ≡ k.grouped → f.volumes ≡ k.volumes → f.rvg ≡ k.rvg → f.links ≡ k.links → f ≡ k
 facts_is f k name state disks blocks grouped volumes rvg links =
     ap (λ (x : List ℕ). let y : SiteFacts = record f { name = x } in y) name
     ∙ ap (λ (x : SiteState). let y : SiteFacts = record f { name = k.name; state = x } in y) state
