@@ -18,13 +18,13 @@ use Rattle.vx_events.specs.StepsOver.{FindsKept}
 use Rattle.vx_events.specs.declared.said.Said.{Said}
 
 module _ {T U : Type 0} (f : U → T) where
-  known_told : (note : GroupNode) → IsKnown U note → IsKnown T note
+  pub known_told : (note : GroupNode) → IsKnown U note → IsKnown T note
   known_told note k = (f k.0, k.1)
 
   gives_told : (note : GroupNode) (volume start count : ℕ) (said : Said) → GivesPlain T note volume start count said → GivesPlain U note volume start count said
   gives_told note volume start count said x = record { bytes = x.bytes; got = x.got; size = x.size; each = λ k. x.each (known_told note k) }
 
-  back_told : (s : ℕ) (n : Node) (fails : Fails) (note new : GroupNode) → NotesBack T s n fails note new → NotesBack U s n fails note new
+  pub back_told : (s : ℕ) (n : Node) (fails : Fails) (note new : GroupNode) → NotesBack T s n fails note new → NotesBack U s n fails note new
   back_told s n fails note new x = record {
     old = x.old;
     now = x.now;
@@ -53,7 +53,7 @@ module _ {T U : Type 0} (f : U → T) where
   kept_told : (x : Write) (next : GroupNode) (kept : Kept) → IsKeptOf T x next kept → IsKeptOf U x next kept
   kept_told x next kept k = record { volume = k.volume; is_volume = k.is_volume; name = k.name; block = k.block; many = k.many; each = λ u. k.each (known_told next u) }
 
-  shows_told : (cut : Option Write) (next : GroupNode) (kept : Option Kept) → ShowsKept T cut next kept → ShowsKept U cut next kept
+  pub shows_told : (cut : Option Write) (next : GroupNode) (kept : Option Kept) → ShowsKept T cut next kept → ShowsKept U cut next kept
   shows_told None next kept x = x
   shows_told (Some w) next kept x = (x.0, x.1, kept_told w next x.0 x.2)
 
@@ -67,7 +67,7 @@ module _ {T U : Type 0} (f : U → T) where
   does_told s n note (GroupImport site) fails said next x = (back_told s n fails note next x.0, λ u. x.1 (known_told next u), x.2)
   does_told s n note other fails said next x = x
 
-  nothing_told : (note : GroupNode) → KnowsNothing T note → KnowsNothing U note
+  pub nothing_told : (note : GroupNode) → KnowsNothing T note → KnowsNothing U note
   nothing_told note (inl never) = inl (λ u. never (f u))
   nothing_told note (inr unknown) = inr unknown
 

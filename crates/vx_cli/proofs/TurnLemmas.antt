@@ -12,7 +12,7 @@ use Rattle.vx_stream.proofs.SendLemmas.{appends_none}
 use Rattle.vx_yard.specs.declared.yard.Yard.{Yard}
 use Rattle.vx_yard.specs.Lines.{script_line}
 use Rattle.vx_yard.specs.Steps.{SaidStep}
-use Rattle.vx_yard.specs.Standing.{Serves, StepsFor, StopsFor}
+use Rattle.vx_yard.specs.Standing.{Serves, StepsFor, StopsAbove}
 use Rattle.vx_yard.specs.Yards.{IsTold, count_of, in_files}
 use Rattle.vx_cli.specs.declared.reader.Next.TheVariants as nexts
 use Rattle.vx_cli.specs.declared.status.Status.{Status}
@@ -60,7 +60,7 @@ module _ {R : Type 0} {g : Ghosts R} where
       }
 
   -- a line within which memory ran out
-  did_part : (w : Doubted) (words : ScriptLine) (old new : Yard R g) → Serves w old → (IsTold new → IsTold old) → StopsFor w words old new → DidPart w words old new
+  did_part : (w : Doubted) (words : ScriptLine) (old new : Yard R g) → Serves w old → (IsTold new → IsTold old) → StopsAbove w words old new → DidPart w words old new
   did_part w words old new serves told stops = record {
     next = stops.next;
     part = stops.part;
@@ -69,7 +69,7 @@ module _ {R : Type 0} {g : Ghosts R} where
   }
 
   pub memory_answer : (w : Doubted) (line : List ℕ) (words : ScriptLine) (old new : Yard R g) → script_line line ≡ Ok (Some words) → Serves w old → (IsTold new → IsTold old)
-      → StopsFor w words old new ⊎ ((text : List ℕ) × StepsFor w words old new text) → MemoryStops w line old new
+      → StopsAbove w words old new ⊎ ((text : List ℕ) × StepsFor w words old new text) → MemoryStops w line old new
   memory_answer w line words old new e serves told (inl short) = StopsWithin words e (did_part w words old new serves told short)
   memory_answer w line words old new e serves told (inr did) = StopsBehind did.0 (did_line w line words old new did.0 e serves told did.1)
 

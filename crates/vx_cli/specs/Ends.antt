@@ -8,7 +8,8 @@ use Rattle.vx_events.specs.Doubts.{sure}
 use Rattle.vx_yard.specs.Lines.{script_line}
 use Rattle.vx_yard.specs.Stands.{RoseAll}
 use Rattle.vx_events.specs.Fails.{Fails}
-use Rattle.vx_events.specs.Parts.{StopsShort, may_stop}
+use Rattle.vx_events.specs.Parts.{may_stop}
+use Rattle.vx_events.specs.RvgParts.{ShortFull}
 use Rattle.vx_script.specs.Lines.{split_lines, whole_lines_of}
 use Rattle.vx_script.specs.declared.line.ScriptLine.{ScriptLine}
 use Rattle.vx_cli.specs.Reading.{MayHave}
@@ -73,7 +74,7 @@ RunEnds n Usage bytes left part out = ⊥
 
 -- what want of memory may leave of a line that was read, over disks that tell their contents or not
 abbrev pub PartOfLine : Type 0 → Result (Option ScriptLine) ℕ → Doubted → Doubted → Type 0
-PartOfLine told (Ok (Some words)) d last = StopsShort told d words last
+PartOfLine told (Ok (Some words)) d last = ShortFull told d words last
 PartOfLine told (Ok None) d last = last ≡ d
 PartOfLine told (Err column) d last = last ≡ d
 

@@ -10,7 +10,7 @@ use Rattle.vx_yard.specs.Lines.{script_line}
 use Rattle.vx_yard.specs.Stands.{RoseAll}
 use Rattle.vx_yard.specs.Steps.{BytesStep}
 use Rattle.vx_events.specs.Fails.{Fails}
-use Rattle.vx_events.specs.Parts.{StopsShort}
+use Rattle.vx_events.specs.RvgParts.{ShortFull}
 use Rattle.vx_yard.specs.Standing.{Serves}
 use Rattle.vx_yard.specs.Yards.{IsTold, count_of, in_files}
 use Rattle.vx_yard.specs.declared.yard.Yard.{Yard}
@@ -51,7 +51,7 @@ module _ {R : Type 0} {g : Ghosts R} where
   -- memory ran out within a line, which left this of it
   pub record DidPart (d : Doubted) (words : ScriptLine) (old new : Yard R g) : Type 0 where
     pub next : Doubted
-    pub part : StopsShort (IsTold new) d words next
+    pub part : ShortFull (IsTold new) d words next
     pub serves : Serves next new
     pub rose : RoseAll [] (count_of old) (count_of new)
 

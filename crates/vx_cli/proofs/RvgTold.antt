@@ -1,0 +1,183 @@
+-- What a line came to at sites with replicated volume groups over groups of disks where contents are told it came to where even more is told.
+use Rattle.std.proofs.Common.{ℕ, Bool, true, false, inl, inr}
+use Rattle.std.specs.Prelude.{Option, Some, None}
+use Rattle.vx_history.specs.Doubts.{Doubted}
+use Rattle.vx_history.specs.Groups.{GroupNode}
+use Rattle.vx_history.specs.World.{World}
+use Rattle.vx_model.specs.declared.no.No.{No}
+use Rattle.vx_model.specs.declared.units.Units.{Units}
+use Rattle.vx_script.specs.declared.line.ScriptLine.{ScriptLine}
+use Rattle.vx_script.specs.declared.line.ScriptLine.TheVariants.{GroupImport, Recover, Rvg}
+use Rattle.vx_events.specs.Ends.{place_of}
+use Rattle.vx_events.specs.Facts.{site_number}
+use Rattle.vx_events.specs.Fails.{Fails}
+use Rattle.vx_events.specs.GroupNotes.{note_at}
+use Rattle.vx_events.specs.Lines.{is_of_links}
+use Rattle.vx_events.specs.Parts.{StopsBetween, StopsDown, StopsInPart, StopsRead, StopsShort}
+use Rattle.vx_events.specs.RvgBack.{GroupCutOff, GroupHeld, GroupUnfound, KeptLost, LogCut, LogFails, LogLacks, FindsNoRvg, FindsPlain, FindsRvg, RvgBack, RvgFinds, RvgUp, SaysUp}
+use Rattle.vx_events.specs.RvgLinks.{AllKnown, LinksOver, links_rvg}
+use Rattle.vx_events.specs.RvgMakes.{MakesRvg, RvgCut, RvgDone, RvgFails, RvgLacks}
+use Rattle.vx_events.specs.RvgNotes.{NotesLacking, NotesNarrowed, NotesNoRvg, NotesRvg}
+use Rattle.vx_events.specs.RvgOver.{BelowEnds, EndsOrShows, EndsOver, OverRvgBy, TakesOr, is_below, is_inside, missed_in, CutBelow}
+use Rattle.vx_events.specs.RvgParts.{RvgShort, ShortFull, ShortGroup, ShortLog, ShortMade, short_place}
+use Rattle.vx_events.specs.RvgSteps.{AsBefore, FoundOne, FullBy, Gained, WorksAbove, WorksBeside, WorksFull, is_for_rvg, rvg_place}
+use Rattle.vx_events.specs.StepsOver.{WorksOver, group_place, is_for_group}
+use Rattle.vx_events.specs.declared.said.Said.{Said}
+use Rattle.vx_cli.proofs.GroupTold.{back_told, finds_told, group_told, known_told, nothing_told, shows_told}
+use Rattle.vx_cli.proofs.LineTold.{counts_told, ends_told, kind_told, links_told}
+use Rattle.vx_events.specs.GroupEnds.{GroupEnds}
+
+module _ {T U : Type 0} (f : U → T) where
+  -- ---- a line at sites over groups without one, or over none
+
+  works_told : (group : Bool) (d : Doubted) (line : ScriptLine) (fails : Fails) (said : Said) (new : Doubted) → WorksOver group T d line fails said new → WorksOver group U d line fails said new
+  works_told true d line fails said new x = group_told f d line (group_place d.world line) fails said new x
+  works_told false d line fails said new (inl x) =
+      inl (record { ends = kind_told (is_of_links line) d line fails said new x.ends; counts = counts_told d.world line said x.counts; works = x.works; calls = x.calls })
+  works_told false d line fails said new (inr x) = inr (finds_told f d line (group_place d.world line) fails said new x)
+
+  -- ---- a line that makes one
+
+  narrowed_told : (units : Units) (note new : GroupNode) → NotesNarrowed T units note new → NotesNarrowed U units note new
+  narrowed_told units note new x = record { size = x.size; may = λ known. x.may (known_told f note known); others = x.others; inside = x.inside; same = x.same }
+
+  no_rvg_told : (Off : Type 0) (s : ℕ) (fails : Fails) (units : Units) (note new : GroupNode) → NotesNoRvg T Off s fails units note new → NotesNoRvg U Off s fails units note new
+  no_rvg_told Off s fails units note new x = record { middle = x.middle; narrowed = narrowed_told units note x.middle x.narrowed; moves = x.moves }
+
+  lacking_told : (s : ℕ) (fails : Fails) (units : Units) (note new : GroupNode) → NotesLacking T s fails units note new → NotesLacking U s fails units note new
+  lacking_told s fails units note new x = record { middle = x.middle; narrowed = narrowed_told units note x.middle x.narrowed; moves = x.moves }
+
+  rvg_told : (s : ℕ) (fails : Fails) (units : Units) (note middle new : GroupNode) → NotesRvg T s fails units note middle new → NotesRvg U s fails units note middle new
+  rvg_told s fails units note middle new x = record { narrowed = narrowed_told units note middle x.narrowed; one = x.one; settled = x.settled; moves = x.moves; is = x.is }
+
+  makes_told : (d : Doubted) (line : ScriptLine) (s : ℕ) (fails : Fails) (said : Said) (new : Doubted) → MakesRvg T d line s fails said new → MakesRvg U d line s fails said new
+  makes_told d line s fails said new (RvgDone site srl maps volumes middle next is of notes says left) = RvgDone site srl maps volumes middle next is of (rvg_told s fails _ (note_at (d.world.nodes s)) middle next notes) says left
+  makes_told d line s fails said new (RvgLacks site srl maps volumes next is of notes says left) = RvgLacks site srl maps volumes next is of (lacking_told s fails _ (note_at (d.world.nodes s)) next notes) says left
+  makes_told d line s fails said new (RvgFails site srl maps volumes disk next is of has notes says left) = RvgFails site srl maps volumes disk next is of has (no_rvg_told _ s fails _ (note_at (d.world.nodes s)) next notes) says left
+  makes_told d line s fails said new (RvgCut site srl maps volumes next is of fused notes says left) = RvgCut site srl maps volumes next is of fused (no_rvg_told _ s fails _ (note_at (d.world.nodes s)) next notes) says left
+
+  -- ---- one that takes a site up
+
+  says_up_told : (s : ℕ) (line : ScriptLine) (note next : GroupNode) (v : World) (said : Said) → SaysUp T s line note next v said → SaysUp U s line note next v said
+  says_up_told s (Recover site) note next v said x = (x.0, x.1, shows_told f note.cut next x.0 x.2)
+  says_up_told s (GroupImport site) note next v said x = x
+  says_up_told s other note next v said x = absurd x
+
+  came_told : (d : Doubted) (line : ScriptLine) (s : ℕ) (fails : Fails) (said : Said) (new : Doubted) → RvgBack T d line s fails said new → RvgBack U d line s fails said new
+  came_told d line s fails said new (RvgUp kept taken middle found next from rest of brings back rests works says left) =
+      RvgUp kept taken middle found next from rest of brings (back_told f s (d.world.nodes s) fails (note_at (d.world.nodes s)) middle back) rests works
+      (says_up_told s line (note_at (d.world.nodes s)) next _ said says) left
+  came_told d line s fails said new (LogFails kept taken disk middle found next from rest gone of has brings back rests works session says left) =
+      LogFails kept taken disk middle found next from rest gone of has brings (back_told f s (d.world.nodes s) fails (note_at (d.world.nodes s)) middle back) rests works session says left
+  came_told d line s fails said new (LogLacks kept taken middle found next from rest of brings back rests works lacks says left) =
+      LogLacks kept taken middle found next from rest of brings (back_told f s (d.world.nodes s) fails (note_at (d.world.nodes s)) middle back) rests works (λ u. lacks (f u)) says left
+  came_told d line s fails said new (KeptLost kept taken disk middle found next from rest site is of has back rests works says left) =
+      KeptLost kept taken disk middle found next from rest site is of has (back_told f s (d.world.nodes s) fails (note_at (d.world.nodes s)) middle back) rests works says left
+  came_told d line s fails said new (LogCut middle found next from rest gone site is of fused back rests works session says left) =
+      LogCut middle found next from rest gone site is of fused (back_told f s (d.world.nodes s) fails (note_at (d.world.nodes s)) middle back) rests works session says left
+  came_told d line s fails said new (GroupCutOff next site is over of fused notes says left) = GroupCutOff next site is over of fused notes says left
+  came_told d line s fails said new (GroupUnfound kept taken lost why next over of brings not leaves says left) = GroupUnfound kept taken lost why next over of brings not leaves says left
+  came_told d line s fails said new (GroupHeld kept taken lost disk next over of has brings notes says left) = GroupHeld kept taken lost disk next over of has brings notes says left
+
+  found_told : (d : Doubted) (line : ScriptLine) (s : ℕ) (fails : Fails) (said : Said) (new : Doubted) → RvgFinds T d line s fails said new → RvgFinds U d line s fails said new
+  found_told d line s fails said new (FindsRvg kept taken next mid n k row c units of brings knows dark is same comes config fits lies says left) =
+      FindsRvg kept taken next mid n k row c units of brings (nothing_told f (note_at (d.world.nodes s)) knows) (λ u. dark (f u)) is same comes config fits lies says left
+  found_told d line s fails said new (FindsPlain kept taken next mid over of brings knows dark is none says left) =
+      FindsPlain kept taken next mid over of brings (nothing_told f (note_at (d.world.nodes s)) knows) (λ u. dark (f u)) is none says left
+  found_told d line s fails said new (FindsNoRvg kept taken lost next why over of brings knows other notes says left) =
+      FindsNoRvg kept taken lost next why over of brings (nothing_told f (note_at (d.world.nodes s)) knows) other notes says left
+
+  -- ---- one at a site with one
+
+  over_told : (d : Doubted) (line : ScriptLine) (s : ℕ) (fails : Fails) (said : Said) (new : Doubted) → EndsOver T d line s fails said new → EndsOver U d line s fails said new
+  over_told d line s fails said new x = record {
+    borne = x.borne;
+    ending = x.ending;
+    split = x.split;
+    bears = x.bears;
+    inner = x.inner;
+    middle = x.middle;
+    ends = ends_told (known_told f (note_at (d.world.nodes s))) d line (place_of d.world line) x.ending x.inner x.middle x.ends;
+    next = x.next;
+    notes = x.notes;
+    says = x.says;
+    left = x.left;
+  }
+
+  shows_or_told : (inside : Bool) (d : Doubted) (line : ScriptLine) (s : ℕ) (fails : Fails) (said : Said) (new : Doubted) → EndsOrShows inside T d line s fails said new → EndsOrShows inside U d line s fails said new
+  shows_or_told true d line s fails said new x = x
+  shows_or_told false d line s fails said new x = over_told d line s fails said new x
+
+  takes_told : (d : Doubted) (line : ScriptLine) (s : ℕ) (fails : Fails) (said : Said) (new : Doubted) → TakesOr T d line s fails said new → TakesOr U d line s fails said new
+  takes_told d (GroupImport site) s fails said new (inl x) = inl (came_told d (GroupImport site) s fails said new x)
+  takes_told d (GroupImport site) s fails said new (inr x) = inr (found_told d (GroupImport site) s fails said new x)
+  takes_told d (Recover site) s fails said new (inl x) = inl (came_told d (Recover site) s fails said new x)
+  takes_told d (Recover site) s fails said new (inr x) = inr (found_told d (Recover site) s fails said new x)
+  takes_told d other s fails said new x = shows_or_told (is_inside (d.world.nodes s) other) d other s fails said new x
+
+  below_told : (d : Doubted) (line : ScriptLine) (s : ℕ) (fails : Fails) (said : Said) (new : Doubted) → BelowEnds T d line s fails said new → BelowEnds U d line s fails said new
+  below_told d line s fails said new x = record { missed = x.missed; ends = by x.ends }
+    where
+      by : GroupEnds T (missed_in x.missed d s) line s fails said new ⊎ CutBelow (missed_in x.missed d s) line s fails said new → GroupEnds U (missed_in x.missed d s) line s fails said new ⊎ CutBelow (missed_in x.missed d s) line s fails said new
+      by (inl ends) = inl (group_told f (missed_in x.missed d s) line s fails said new ends)
+      by (inr cut) = inr cut
+
+  place_told : (below : Bool) (d : Doubted) (line : ScriptLine) (s : ℕ) (fails : Fails) (said : Said) (new : Doubted) → OverRvgBy below T d line s fails said new → OverRvgBy below U d line s fails said new
+  place_told true d line s fails said new x = below_told d line s fails said new x
+  place_told false d line s fails said new x = takes_told d line s fails said new x
+
+  -- ---- one on links, and any
+
+  links_over_told : (d : Doubted) (line : ScriptLine) (fails : Fails) (said : Said) (new : Doubted) → LinksOver T d line fails said new → LinksOver U d line fails said new
+  links_over_told d line fails said new x = record {
+    borne = x.borne;
+    ending = x.ending;
+    split = x.split;
+    bears = x.bears;
+    middle = x.middle;
+    ends = links_told all d line x.ending said x.middle x.ends;
+    next = x.next;
+    notes = x.notes;
+    left = x.left;
+    works = x.works;
+    calls = x.calls;
+  }
+    where
+      all : AllKnown U d.world line → AllKnown T d.world line
+      all known = (f known.0, known.1)
+
+  beside_told : (d : Doubted) (line : ScriptLine) (fails : Fails) (said : Said) (new : Doubted) → WorksBeside T d line fails said new → WorksBeside U d line fails said new
+  beside_told d line fails said new (AsBefore works found) = AsBefore (works_told (is_for_group d.world line) d line fails said new works) found
+  beside_told d line fails said new (Gained x) = Gained (came_told d line (group_place d.world line) fails said new x)
+  beside_told d line fails said new (FoundOne x) = FoundOne (found_told d line (group_place d.world line) fails said new x)
+
+  above_told : (links above : Bool) (d : Doubted) (line : ScriptLine) (fails : Fails) (said : Said) (new : Doubted) → WorksAbove links above T d line fails said new → WorksAbove links above U d line fails said new
+  above_told true above d line fails said new x = links_over_told d line fails said new x
+  above_told false true d line fails said new x = place_told (is_below (d.world.nodes (rvg_place d.world line)) line) d line (rvg_place d.world line) fails said new x
+  above_told false false d line fails said new x = beside_told d line fails said new x
+
+  full_told : (d : Doubted) (line : ScriptLine) (fails : Fails) (said : Said) (new : Doubted) → WorksFull T d line fails said new → WorksFull U d line fails said new
+  full_told d (Rvg site srl maps volumes) fails said new x = makes_told d (Rvg site srl maps volumes) (site_number d.world site) fails said new x
+  full_told d other fails said new x = above_told (links_rvg d.world other) (is_for_rvg d.world other) d other fails said new x
+
+  pub step_told : (why : Option No) (d : Doubted) (line : ScriptLine) (fails : Fails) (said : Said) (new : Doubted) → FullBy why T d line fails said new → FullBy why U d line fails said new
+  step_told (Some why) d line fails said new x = x
+  step_told None d line fails said new x = full_told d line fails said new x
+
+  -- ---- want of memory
+
+  stops_told : (d : Doubted) (line : ScriptLine) (new : Doubted) → StopsShort T d line new → StopsShort U d line new
+  stops_told d line new (StopsInPart part) = StopsInPart part
+  stops_told d line new (StopsDown fell) = StopsDown fell
+  stops_told d line new (StopsRead read) = StopsRead read
+  stops_told d line new (StopsBetween never p s middle is moves left) = StopsBetween (λ u. never (f u)) p s middle is moves left
+
+  part_told : (d : Doubted) (line : ScriptLine) (s : ℕ) (new : Doubted) → RvgShort T d line s new → RvgShort U d line s new
+  part_told d line s new (ShortGroup kept taken lost next over brings notes left) = ShortGroup kept taken lost next over brings notes left
+  part_told d line s new (ShortLog kept taken fails middle found next from rest of brings back rests is left) =
+      ShortLog kept taken fails middle found next from rest of brings (back_told f s (d.world.nodes s) fails (note_at (d.world.nodes s)) middle back) rests is left
+  part_told d line s new (ShortMade site srl maps volumes fails next is of notes left) = ShortMade site srl maps volumes fails next is of (no_rvg_told _ s fails _ (note_at (d.world.nodes s)) next notes) left
+
+  pub short_told : (d : Doubted) (line : ScriptLine) (new : Doubted) → ShortFull T d line new → ShortFull U d line new
+  short_told d line new (inl stops) = inl (stops_told d line new stops)
+  short_told d line new (inr part) = inr (part_told d line (short_place d.world line) new part)
