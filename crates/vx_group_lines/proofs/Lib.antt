@@ -32,6 +32,7 @@ pub mod ImportWhys
 pub mod GroupImports
 pub mod GroupVolume
 pub mod VolumeLine
+pub mod OnData
 pub mod Raising
 pub mod Resuming
 pub mod Recovering
