@@ -1,7 +1,7 @@
 -- What a line that no test refuses is answered: one that makes a replicated volume group, one on links of a site that has one over a group of disks, one at such a site,
 -- one that works on a group of disks, or another.
 use Rattle.std.proofs.Common.{◌≡◌, ◌∙◌, ℕ, Bool, true, false, List, [], inl, sym, subst, refl, ap}
-use Rattle.std.specs.Prelude.{Option, None, Result, Ok, Err, not}
+use Rattle.std.specs.Prelude.{◌&&◌, ◌||◌, Option, None, Result, Ok, Err, not}
 use Rattle.vx_history.specs.Doubts.{Doubted}
 use Rattle.vx_model.specs.declared.errors.OutOfMemory.{OutOfMemory}
 use Rattle.vx_model.specs.declared.no.No.{No}
@@ -25,6 +25,7 @@ use Rattle.vx_yard.specs.Working.{IsFree}
 use Rattle.vx_yard.specs.Yards.{IsTold, count_of, in_files}
 use Rattle.vx_yard.specs.declared.yard.Yard.{Yard}
 use Rattle.vx_order.specs.declared.facts.VolumeKind.{VolumeKind}
+use Rattle.vx_order.specs.declared.facts.VolumeKind.TheVariants.{Data, Map, Plain, Srl}
 use Rattle.vx_order.specs.Calls.{is_data}
 
 -- ---- a line that makes no replicated volume group

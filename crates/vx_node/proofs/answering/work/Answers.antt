@@ -16,6 +16,7 @@ use Rattle.vx_yard.specs.OfSites.{AsAsked, HasCalled, OfSite, ReadsBy}
 use Rattle.vx_events.proofs.RefusedCalls.{read_may, show_may, write_may}
 use Rattle.vx_diskset.specs.Asked.{LeavesAlone, SameFailing}
 use Rattle.vx_diskset.proofs.KeepsFailing.{alone_same, failing_same}
+use Rattle.vx_node.proofs.LinkKinds.{links_bring_none, links_make_none, links_no_group, links_no_rvg}
 use Rattle.vx_node.proofs.Works.{works_whole, above_plain, apart_off, kept_above, works_between, works_either}
 use Rattle.vx_node.specs.Works.{WorksIs}
 use Rattle.vx_node.proofs.answering.work.Goals as goal
@@ -289,7 +290,7 @@ work_link-requires-clause-free g c = λ κs lives. c.requires.free
 
 pub returns-in-Set-clause-leads : goal.returns-in-Set-clause-leads
 returns-in-Set-clause-leads g c = λ d stands apart carries good.
-    works_between d c.args.words.now c.args.yard.now c.work_link.new.yard (links_none c.args.words.now c.work_link.requires.kind) (links_no_rvg d.world c.args.words.now c.work_link.requires.kind) c.work_link.result
+    works_between d c.args.words.now c.args.yard.now c.work_link.new.yard (links_make_none c.args.words.now c.work_link.requires.kind) (links_no_rvg d.world c.args.words.now c.work_link.requires.kind) c.work_link.result
     (links_no_group d.world c.args.words.now c.work_link.requires.kind) (λ next brings. absurd (links_bring_none c.args.words.now c.work_link.requires.kind brings))
     (λ off. c.work_link.ensures.leads d stands off carries) (λ links. c.work_link.ensures.above d stands links carries)
 
