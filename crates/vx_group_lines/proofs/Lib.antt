@@ -47,3 +47,6 @@ pub mod MapComing
 pub mod Numbered
 pub mod Going
 pub mod Plains
+pub mod BelowAt
+pub mod BelowMissed
+pub mod BelowUp

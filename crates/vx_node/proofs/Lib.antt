@@ -11,3 +11,4 @@ pub mod StepWent
 pub mod WentOn
 pub mod WentThen
 pub mod Works
+pub mod LinkKinds

@@ -1,7 +1,7 @@
 -- What a line that no test refuses is answered: one that makes a replicated volume group, one on links of a site that has one over a group of disks, one at such a site,
 -- one that works on a group of disks, or another.
-use Rattle.std.proofs.Common.{◌≡◌, ◌∙◌, ℕ, Bool, true, false, List, [], inl, sym, subst}
-use Rattle.std.specs.Prelude.{Option, None, Result, Ok, Err}
+use Rattle.std.proofs.Common.{◌≡◌, ◌∙◌, ℕ, Bool, true, false, List, [], inl, sym, subst, refl, ap}
+use Rattle.std.specs.Prelude.{◌&&◌, ◌||◌, Option, None, Result, Ok, Err, not}
 use Rattle.vx_history.specs.Doubts.{Doubted}
 use Rattle.vx_model.specs.declared.errors.OutOfMemory.{OutOfMemory}
 use Rattle.vx_model.specs.declared.no.No.{No}
@@ -10,7 +10,7 @@ use Rattle.vx_script.specs.declared.line.ScriptLine.{ScriptLine}
 use Rattle.vx_script.specs.declared.line.ScriptLine.TheVariants.{Rvg}
 use Rattle.vx_events.specs.Fails.{Fails}
 use Rattle.vx_events.specs.RvgLinks.{LinksOver, links_rvg}
-use Rattle.vx_events.specs.RvgOver.{OverRvg}
+use Rattle.vx_events.specs.RvgOver.{OverRvg, is_plain_kind}
 use Rattle.vx_events.specs.RvgSteps.{AsBefore, FoundPlain, FullBy, MakesNoRvg, WorksAbove, WorksBeside, WorksFull, is_for_rvg, rvg_place}
 use Rattle.vx_events.specs.StepsOver.{WorksOver, group_place, is_for_group, refused_over}
 use Rattle.vx_events.specs.declared.said.Said.{Said}
@@ -24,6 +24,9 @@ use Rattle.vx_yard.specs.Standing.{AnswersIs, LeadsIs, LeadsOrStops, LeadsOverOr
 use Rattle.vx_yard.specs.Working.{IsFree}
 use Rattle.vx_yard.specs.Yards.{IsTold, count_of, in_files}
 use Rattle.vx_yard.specs.declared.yard.Yard.{Yard}
+use Rattle.vx_order.specs.declared.facts.VolumeKind.{VolumeKind}
+use Rattle.vx_order.specs.declared.facts.VolumeKind.TheVariants.{Data, Map, Plain, Srl}
+use Rattle.vx_order.specs.Calls.{is_data}
 
 -- ---- a line that makes no replicated volume group
 
@@ -120,6 +123,24 @@ module _ {R : Type 0} {g : Ghosts R} where
   }
   works_linked d line old new none links (Err e) stops = stops
 
+  -- a line of one site, with one or not
+  pub works_either : (d : Doubted) (line : ScriptLine) (old new : Yard R g) → MakesNoRvg line → links_rvg d.world line ≡ false → (r : Result Said OutOfMemory) → is_for_group d.world line ≡ false → ((next : Doubted) → FoundPlain line (group_place d.world line) next)
+      → (is_for_rvg d.world line ≡ false → LeadsOrStops d line old new r) → (is_for_rvg d.world line ≡ true → LeadsAboveIs d line old new r) → WorksIs d line old new r
+  works_either d line old new none links r plain found leads above = by (is_for_rvg d.world line) refl
+    where
+      by : (b : Bool) → is_for_rvg d.world line ≡ b → WorksIs d line old new r
+      by true over = works_above d line old new none links over r (above over)
+      by false off = works_plain d line old new none links off r plain found (leads off)
+
+  -- a line of links, of a site with one or not
+  pub works_between : (d : Doubted) (line : ScriptLine) (old new : Yard R g) → MakesNoRvg line → is_for_rvg d.world line ≡ false → (r : Result Said OutOfMemory) → is_for_group d.world line ≡ false → ((next : Doubted) → FoundPlain line (group_place d.world line) next)
+      → (links_rvg d.world line ≡ false → LeadsIs d line old new r) → (links_rvg d.world line ≡ true → LeadsLinkedIs d line old new r) → WorksIs d line old new r
+  works_between d line old new none off r plain found leads linked = by (links_rvg d.world line) refl
+    where
+      by : (b : Bool) → links_rvg d.world line ≡ b → WorksIs d line old new r
+      by true links = works_linked d line old new none links r (linked links)
+      by false links = works_whole d line old new none links off r plain found (leads links)
+
   -- one that makes one
   pub works_rvg : (d : Doubted) (site srl maps : List ℕ) (volumes : List (List ℕ)) (old new : Yard R g) (r : Result Said OutOfMemory) → LeadsRvgIs d site srl maps volumes old new r → WorksIs d (Rvg site srl maps volumes) old new r
   works_rvg d site srl maps volumes old new (Ok said) leads = record { next = leads.next; fails = leads.fails; works = leads.makes; stands = leads.stands; carries = leads.carries; rose = leads.rose }
@@ -158,3 +179,23 @@ module _ {R : Type 0} {g : Ghosts R} where
         rose = work.rose;
       }
   works_answer d line old new (Err e) stands carries free stops = stops
+
+-- ---- a volume of a line that does not go to the group of its site
+
+-- it is a data volume, where the site has a replicated volume group over its group
+pub kept_above : (a b : Bool) (k : VolumeKind) → (a || (b && not (is_data k))) ≡ false → b ≡ true → k ≡ Data
+kept_above true b k off is = absurd (let clash : true ≡ false = off in cc)
+kept_above false true Data off is = refl
+kept_above false true Srl off is = absurd (let clash : true ≡ false = off in cc)
+kept_above false true Map off is = absurd (let clash : true ≡ false = off in cc)
+kept_above false true Plain off is = absurd (let clash : true ≡ false = off in cc)
+kept_above false false k off is = absurd (let clash : false ≡ true = is in cc)
+
+-- and no plain one
+pub above_plain : (a b : Bool) (k : VolumeKind) → (a || (b && not (is_data k))) ≡ false → b ≡ true → is_plain_kind k ≡ false
+above_plain a b k off is = ap (λ (x : VolumeKind). is_plain_kind x) (kept_above a b k off is)
+
+-- and the site is over no group without one
+pub apart_off : (a b : Bool) → (a || b) ≡ false → a ≡ false
+apart_off true b off = absurd (let clash : true ≡ false = off in cc)
+apart_off false b off = refl

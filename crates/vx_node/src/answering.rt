@@ -3,7 +3,9 @@ ghost use Rattle.std.specs.Prelude.{◌≡◌, IfOk, IsOk, IsSome, false, true};
 ghost use Rattle.vx_history.specs.Doubts.{Doubted};
 ghost use Rattle.vx_events.specs.Parts.{goes_in_parts};
 ghost use Rattle.vx_events.specs.StepsOver.{is_for_group};
-ghost use Rattle.vx_group_lines.specs.Plain.{is_group_line};
+ghost use Rattle.vx_events.specs.RvgLinks.{links_rvg};
+ghost use Rattle.vx_events.specs.RvgSteps.{is_for_rvg};
+ghost use Rattle.vx_group_lines.specs.Plain.{goes_to_group, is_group_line};
 ghost use Rattle.vx_node.specs.Works.{WorksIs};
 ghost use Rattle.vx_yard.specs.Carries.{Carries};
 ghost use Rattle.vx_yard.specs.OfSites.{AsAsked, AsSettled, HasCalled};
@@ -52,9 +54,9 @@ fn work<R: Rack>(yard: &mut Yard<R>, alloc: Global, words: &ScriptLine) -> Resul
     requires other { is_group_line words.now ≡ false }
     requires kept { IsYardKept yard.old }
     requires free { IsFree yard.old words.now }
-    ensures leads { (d : Doubted) → StandsFor d yard.old → is_for_group d.world words.now ≡ false → Carries d yard.old → GoodFor d yard.old → WorksIs d words.now yard.old yard.new result }
-    ensures asked { (d : Doubted) → StandsFor d yard.old → is_for_group d.world words.now ≡ false → AsAsked d.world words.now yard.old yard.new }
-    ensures called { (d : Doubted) → StandsFor d yard.old → is_for_group d.world words.now ≡ false → Carries d yard.old → GoodFor d yard.old → IfOk result (λ said. HasCalled d.world words.now said yard.old yard.new) }
+    ensures leads { (d : Doubted) → StandsFor d yard.old → goes_to_group d.world words.now ≡ false → Carries d yard.old → GoodFor d yard.old → WorksIs d words.now yard.old yard.new result }
+    ensures asked { (d : Doubted) → StandsFor d yard.old → goes_to_group d.world words.now ≡ false → is_for_rvg d.world words.now ≡ false → links_rvg d.world words.now ≡ false → AsAsked d.world words.now yard.old yard.new }
+    ensures called { (d : Doubted) → StandsFor d yard.old → goes_to_group d.world words.now ≡ false → is_for_rvg d.world words.now ≡ false → links_rvg d.world words.now ≡ false → Carries d yard.old → GoodFor d yard.old → IfOk result (λ said. HasCalled d.world words.now said yard.old yard.new) }
     // Memory is short for no line that takes none.
     ensures whole { takes_memory words.now ≡ false → IsOk result }
     ensures told { IsTold yard.new → IsTold yard.old }
@@ -132,9 +134,9 @@ fn perform<R: Rack>(
     requires kept { IsYardKept yard.old }
     requires free { IsFree yard.old words.now }
     ensures leads { (d : Doubted) → StandsFor d yard.old → Carries d yard.old → GoodFor d yard.old → WorksIs d words.now yard.old yard.new result }
-    ensures asked { (d : Doubted) → StandsFor d yard.old → AsAsked d.world words.now yard.old yard.new }
+    ensures asked { (d : Doubted) → StandsFor d yard.old → is_for_rvg d.world words.now ≡ false → links_rvg d.world words.now ≡ false → AsAsked d.world words.now yard.old yard.new }
     ensures settled { (d : Doubted) → StandsFor d yard.old → Carries d yard.old → GoodFor d yard.old → AsSettled words.now yard.old yard.new }
-    ensures called { (d : Doubted) → StandsFor d yard.old → Carries d yard.old → GoodFor d yard.old → IfOk result (λ said. HasCalled d.world words.now said yard.old yard.new) }
+    ensures called { (d : Doubted) → StandsFor d yard.old → is_for_rvg d.world words.now ≡ false → links_rvg d.world words.now ≡ false → Carries d yard.old → GoodFor d yard.old → IfOk result (λ said. HasCalled d.world words.now said yard.old yard.new) }
     // Memory is short for no line that takes none.
     ensures whole { takes_memory words.now ≡ false → IsOk result }
     ensures told { IsTold yard.new → IsTold yard.old }
@@ -174,9 +176,9 @@ pub(crate) fn answer<R: Rack>(
     requires built { is_built words.now ≡ true }
     requires kept { IsYardKept yard.old }
     ensures leads { (d : Doubted) → StandsFor d yard.old → Carries d yard.old → GoodFor d yard.old → AnswersIs d words.now yard.old yard.new result }
-    ensures asked { (d : Doubted) → StandsFor d yard.old → IsFree yard.old words.now → AsAsked d.world words.now yard.old yard.new }
+    ensures asked { (d : Doubted) → StandsFor d yard.old → IsFree yard.old words.now → is_for_rvg d.world words.now ≡ false → links_rvg d.world words.now ≡ false → AsAsked d.world words.now yard.old yard.new }
     ensures settled { (d : Doubted) → StandsFor d yard.old → Carries d yard.old → GoodFor d yard.old → IsFree yard.old words.now → AsSettled words.now yard.old yard.new }
-    ensures called { (d : Doubted) → StandsFor d yard.old → Carries d yard.old → GoodFor d yard.old → IsFree yard.old words.now → IfOk result (λ said. HasCalled d.world words.now said yard.old yard.new) }
+    ensures called { (d : Doubted) → StandsFor d yard.old → is_for_rvg d.world words.now ≡ false → links_rvg d.world words.now ≡ false → Carries d yard.old → GoodFor d yard.old → IsFree yard.old words.now → IfOk result (λ said. HasCalled d.world words.now said yard.old yard.new) }
     // A line that is refused leaves all disks as they are.
     ensures still { IsSome (refused_in yard.old words.now) → yard.new.disk_sets ≡ yard.old.disk_sets }
     // Nor for a refusal.

@@ -1,12 +1,12 @@
 -- The work of a line that no test refuses.
 use Rattle.std.proofs.Common.{◌≡◌, Bool, false, subst, sym, refl}
 use Rattle.std.proofs.lemmas.Result.{err_from_is_err_and}
-use Rattle.vx_link_lines.proofs.AnswerFor.{if_ok, memory_taken}
+use Rattle.vx_link_lines.proofs.AnswerFor.{if_ok, memory_taken, leads_whole}
 use Rattle.vx_yard.proofs.NamedSite.{unbegun_by, unbegun_site}
 use Rattle.std.specs.Prelude.{IfOk, Ok, Result}
 use Rattle.vx_model.specs.declared.errors.OutOfMemory.{OutOfMemory}
 use Rattle.vx_events.specs.declared.said.Said.{Said}
-use Rattle.vx_yard.specs.Standing.{Leads, LeadsIs}
+use Rattle.vx_yard.specs.Standing.{LeadsIs}
 use Rattle.vx_yard.specs.Working.{IsFree}
 use Rattle.vx_yard.specs.Yards.{in_files}
 use Rattle.vx_events.proofs.Refused.{site_may}
@@ -16,9 +16,13 @@ use Rattle.vx_yard.specs.OfSites.{AsAsked, HasCalled, OfSite, ReadsBy}
 use Rattle.vx_events.proofs.RefusedCalls.{read_may, show_may, write_may}
 use Rattle.vx_diskset.specs.Asked.{LeavesAlone, SameFailing}
 use Rattle.vx_diskset.proofs.KeepsFailing.{alone_same, failing_same}
-use Rattle.vx_node.proofs.Works.{works_whole}
+use Rattle.vx_node.proofs.LinkKinds.{links_bring_none, links_make_none, links_no_group, links_no_rvg}
+use Rattle.vx_node.proofs.Works.{works_whole, above_plain, apart_off, kept_above, works_between, works_either}
 use Rattle.vx_node.specs.Works.{WorksIs}
 use Rattle.vx_node.proofs.answering.work.Goals as goal
+use Rattle.vx_group_lines.specs.Plain.{goes_to_group}
+use Rattle.vx_events.specs.RvgOver.{kind_named}
+use Rattle.vx_events.specs.RvgSteps.{over_rvg_at}
 
 pub make_site-requires-clause-free : goal.make_site-requires-clause-free
 make_site-requires-clause-free g c = λ κs lives. subst (λ line. IsFree c.args.yard.now line) c.in-Site.is c.requires.free
@@ -86,48 +90,62 @@ returns-in-Raw-clause-asked g c = λ d stands apart. subst (λ line. AsAsked d.w
 
 pub returns-in-Disk-clause-leads : goal.returns-in-Disk-clause-leads
 returns-in-Disk-clause-leads g c = λ d stands apart carries good.
-    works_whole d c.args.words.now c.args.yard.now c.set_disk.new.yard (Ok c.set_disk.result) apart
-    (subst (λ line. Leads d line c.set_disk.result c.args.yard.now c.set_disk.new.yard) (sym c.in-Disk.is) (c.set_disk.ensures.leads d stands (subst (λ line. is_for_group d.world line ≡ false) c.in-Disk.is apart)))
+    let goes = subst (λ line. goes_to_group d.world line ≡ false) c.in-Disk.is apart in
+    subst (λ line. WorksIs d line c.args.yard.now c.set_disk.new.yard (Ok c.set_disk.result)) (sym c.in-Disk.is)
+    (works_either d _ c.args.yard.now c.set_disk.new.yard tt refl (Ok c.set_disk.result) goes (λ next brings. absurd brings) (λ off. c.set_disk.ensures.leads d stands goes off) (λ over. c.set_disk.ensures.above d stands over))
 
 pub returns-in-Disk-clause-asked : goal.returns-in-Disk-clause-asked
 returns-in-Disk-clause-asked g c = λ d stands apart. subst (λ line. AsAsked d.world line c.args.yard.now c.set_disk.new.yard) (sym c.in-Disk.is) (c.set_disk.ensures.asked d stands (subst (λ line. is_for_group d.world line ≡ false) c.in-Disk.is apart))
 
 pub returns-in-Crash-clause-leads : goal.returns-in-Crash-clause-leads
 returns-in-Crash-clause-leads g c = λ d stands apart carries good.
-    works_whole d c.args.words.now c.args.yard.now c.crash_line.new.yard (Ok c.crash_line.result) apart
-    (subst (λ line. Leads d line c.crash_line.result c.args.yard.now c.crash_line.new.yard) (sym c.in-Crash.is) (c.crash_line.ensures.leads d stands (subst (λ line. is_for_group d.world line ≡ false) c.in-Crash.is apart)))
+    let goes = subst (λ line. goes_to_group d.world line ≡ false) c.in-Crash.is apart in
+    subst (λ line. WorksIs d line c.args.yard.now c.crash_line.new.yard (Ok c.crash_line.result)) (sym c.in-Crash.is)
+    (works_either d _ c.args.yard.now c.crash_line.new.yard tt refl (Ok c.crash_line.result) goes (λ next brings. absurd brings) (λ off. c.crash_line.ensures.leads d stands goes) (λ over. c.crash_line.ensures.above d stands over))
 
 pub returns-in-Crash-clause-asked : goal.returns-in-Crash-clause-asked
 returns-in-Crash-clause-asked g c = λ d stands apart. subst (λ line. AsAsked d.world line c.args.yard.now c.crash_line.new.yard) (sym c.in-Crash.is) (c.crash_line.ensures.asked d stands (subst (λ line. is_for_group d.world line ≡ false) c.in-Crash.is apart))
 
 pub returns-in-Fuse-clause-leads : goal.returns-in-Fuse-clause-leads
 returns-in-Fuse-clause-leads g c = λ d stands apart carries good.
-    works_whole d c.args.words.now c.args.yard.now c.fuse_line.new.yard (Ok c.fuse_line.result) apart
-    (subst (λ line. Leads d line c.fuse_line.result c.args.yard.now c.fuse_line.new.yard) (sym c.in-Fuse.is) (c.fuse_line.ensures.leads d stands (subst (λ line. is_for_group d.world line ≡ false) c.in-Fuse.is apart)))
+    let goes = subst (λ line. goes_to_group d.world line ≡ false) c.in-Fuse.is apart in
+    subst (λ line. WorksIs d line c.args.yard.now c.fuse_line.new.yard (Ok c.fuse_line.result)) (sym c.in-Fuse.is)
+    (works_either d _ c.args.yard.now c.fuse_line.new.yard tt refl (Ok c.fuse_line.result) goes (λ next brings. absurd brings) (λ off. c.fuse_line.ensures.leads d stands goes off) (λ over. c.fuse_line.ensures.above d stands over))
 
 pub returns-in-Fuse-clause-asked : goal.returns-in-Fuse-clause-asked
 returns-in-Fuse-clause-asked g c = λ d stands apart. subst (λ line. AsAsked d.world line c.args.yard.now c.fuse_line.new.yard) (sym c.in-Fuse.is) (c.fuse_line.ensures.asked d stands (subst (λ line. is_for_group d.world line ≡ false) c.in-Fuse.is apart))
 
 pub returns-in_ok-room-in-Read-clause-leads : goal.returns-in_ok-room-in-Read-clause-leads
 returns-in_ok-room-in-Read-clause-leads g c = λ d stands apart carries good.
-    works_whole d c.args.words.now c.args.yard.now c.read_line.new.yard (Ok c.read_line.result) apart
-    (subst (λ line. Leads d line c.read_line.result c.args.yard.now c.read_line.new.yard) (sym c.in-Read.is) (c.read_line.ensures.leads d stands (subst (λ line. is_for_group d.world line ≡ false) c.in-Read.is apart)))
+    let goes = subst (λ line. goes_to_group d.world line ≡ false) c.in-Read.is apart in
+    let site = c.in-Read.site.now in
+    let volume = c.in-Read.volume.now in
+    let plain = apart_off (over_group_at d.world site) _ goes in
+    subst (λ line. WorksIs d line c.args.yard.now c.read_line.new.yard (Ok c.read_line.result)) (sym c.in-Read.is)
+    (works_either d _ c.args.yard.now c.read_line.new.yard tt refl (Ok c.read_line.result) plain (λ next brings. absurd brings) (λ off. c.read_line.ensures.leads d stands plain off)
+    (λ over. c.read_line.ensures.above d stands over (kept_above (over_group_at d.world site) (over_rvg_at d.world site) (kind_named (d.world.nodes (site_number d.world site)) volume) goes over)))
 
 pub returns-in_ok-room-in-Read-clause-asked : goal.returns-in_ok-room-in-Read-clause-asked
 returns-in_ok-room-in-Read-clause-asked g c = λ d stands apart. subst (λ line. AsAsked d.world line c.args.yard.now c.read_line.new.yard) (sym c.in-Read.is) (c.read_line.ensures.asked d stands (subst (λ line. is_for_group d.world line ≡ false) c.in-Read.is apart))
 
 pub returns-in_ok-room-in-Show-clause-leads : goal.returns-in_ok-room-in-Show-clause-leads
 returns-in_ok-room-in-Show-clause-leads g c = λ d stands apart carries good.
-    works_whole d c.args.words.now c.args.yard.now c.show_line.new.yard (Ok c.show_line.result) apart
-    (subst (λ line. Leads d line c.show_line.result c.args.yard.now c.show_line.new.yard) (sym c.in-Show.is) (c.show_line.ensures.leads d stands (subst (λ line. is_for_group d.world line ≡ false) c.in-Show.is apart)))
+    let goes = subst (λ line. goes_to_group d.world line ≡ false) c.in-Show.is apart in
+    let site = c.in-Show.site.now in
+    let volume = c.in-Show.volume.now in
+    let plain = apart_off (over_group_at d.world site) _ goes in
+    subst (λ line. WorksIs d line c.args.yard.now c.show_line.new.yard (Ok c.show_line.result)) (sym c.in-Show.is)
+    (works_either d _ c.args.yard.now c.show_line.new.yard tt refl (Ok c.show_line.result) plain (λ next brings. absurd brings) (λ off. c.show_line.ensures.leads d stands plain off)
+    (λ over. c.show_line.ensures.above d stands over (kept_above (over_group_at d.world site) (over_rvg_at d.world site) (kind_named (d.world.nodes (site_number d.world site)) volume) goes over)))
 
 pub returns-in_ok-room-in-Show-clause-asked : goal.returns-in_ok-room-in-Show-clause-asked
 returns-in_ok-room-in-Show-clause-asked g c = λ d stands apart. subst (λ line. AsAsked d.world line c.args.yard.now c.show_line.new.yard) (sym c.in-Show.is) (c.show_line.ensures.asked d stands (subst (λ line. is_for_group d.world line ≡ false) c.in-Show.is apart))
 
 pub returns-in-Apply-clause-leads : goal.returns-in-Apply-clause-leads
 returns-in-Apply-clause-leads g c = λ d stands apart carries good.
-    works_whole d c.args.words.now c.args.yard.now c.apply_line.new.yard c.apply_line.result apart
-    (subst (λ line. LeadsIs d line c.args.yard.now c.apply_line.new.yard c.apply_line.result) (sym c.in-Apply.is) (c.apply_line.ensures.leads d stands carries))
+    subst (λ line. WorksIs d line c.args.yard.now c.apply_line.new.yard c.apply_line.result) (sym c.in-Apply.is)
+    (works_either d _ c.args.yard.now c.apply_line.new.yard tt refl c.apply_line.result refl (λ next brings. absurd brings)
+    (λ off. leads_whole d _ c.args.yard.now c.apply_line.new.yard c.apply_line.result (c.apply_line.ensures.leads d stands off carries)) (λ over. c.apply_line.ensures.above d stands over carries))
 
 pub returns-in-Apply-clause-asked : goal.returns-in-Apply-clause-asked
 returns-in-Apply-clause-asked g c = λ d stands apart. subst (λ line. AsAsked d.world line c.args.yard.now c.apply_line.new.yard) (sym c.in-Apply.is) (c.apply_line.ensures.asked d stands)
@@ -137,8 +155,10 @@ returns-in-Apply-clause-called g c = λ d stands apart carries good. subst (λ l
 
 pub returns-in-Status-clause-leads : goal.returns-in-Status-clause-leads
 returns-in-Status-clause-leads g c = λ d stands apart carries good.
-    works_whole d c.args.words.now c.args.yard.now c.args.yard.now c.status_line.result apart
-    (subst (λ line. LeadsIs d line c.args.yard.now c.args.yard.now c.status_line.result) (sym c.in-Status.is) (c.status_line.ensures.leads d stands (subst (λ line. is_for_group d.world line ≡ false) c.in-Status.is apart)))
+    let goes = subst (λ line. goes_to_group d.world line ≡ false) c.in-Status.is apart in
+    subst (λ line. WorksIs d line c.args.yard.now c.args.yard.now c.status_line.result) (sym c.in-Status.is)
+    (works_either d _ c.args.yard.now c.args.yard.now tt refl c.status_line.result goes (λ next brings. absurd brings)
+    (λ off. leads_whole d _ c.args.yard.now c.args.yard.now c.status_line.result (c.status_line.ensures.leads d stands goes off)) (λ over. c.status_line.ensures.above d stands over))
 
 pub returns-in-Status-clause-asked : goal.returns-in-Status-clause-asked
 returns-in-Status-clause-asked g c = λ d stands apart. subst (λ line. AsAsked d.world line c.args.yard.now c.args.yard.now) (sym c.in-Status.is) refl
@@ -155,8 +175,13 @@ returns-in-Recover-clause-called g c = λ d stands apart carries good. if_ok (λ
 
 pub returns-in_ok-bytes-in-Write-clause-leads : goal.returns-in_ok-bytes-in-Write-clause-leads
 returns-in_ok-bytes-in-Write-clause-leads g c = λ d stands apart carries good.
-    works_whole d c.args.words.now c.args.yard.now c.write_line.new.yard (Ok c.write_line.result) apart
-    (subst (λ line. Leads d line c.write_line.result c.args.yard.now c.write_line.new.yard) (sym c.in-Write.is) (c.write_line.ensures.leads d stands (subst (λ line. is_for_group d.world line ≡ false) c.in-Write.is apart)))
+    let goes = subst (λ line. goes_to_group d.world line ≡ false) c.in-Write.is apart in
+    let site = c.in-Write.site.now in
+    let volume = c.in-Write.volume.now in
+    let plain = apart_off (over_group_at d.world site) _ goes in
+    subst (λ line. WorksIs d line c.args.yard.now c.write_line.new.yard (Ok c.write_line.result)) (sym c.in-Write.is)
+    (works_either d _ c.args.yard.now c.write_line.new.yard tt refl (Ok c.write_line.result) plain (λ next brings. absurd brings) (λ off. c.write_line.ensures.leads d stands plain off)
+    (λ over. c.write_line.ensures.above d stands over (above_plain (over_group_at d.world site) (over_rvg_at d.world site) (kind_named (d.world.nodes (site_number d.world site)) volume) goes over)))
 
 pub returns-in_ok-bytes-in-Write-clause-asked : goal.returns-in_ok-bytes-in-Write-clause-asked
 returns-in_ok-bytes-in-Write-clause-asked g c = λ d stands apart. subst (λ line. AsAsked d.world line c.args.yard.now c.write_line.new.yard) (sym c.in-Write.is) (c.write_line.ensures.asked d stands (subst (λ line. is_for_group d.world line ≡ false) c.in-Write.is apart))
@@ -184,8 +209,13 @@ returns-in_err-bytes-in-Write-clause-called g c = λ d stands apart carries good
 
 pub returns-in-Put-clause-leads : goal.returns-in-Put-clause-leads
 returns-in-Put-clause-leads g c = λ d stands apart carries good.
-    works_whole d c.args.words.now c.args.yard.now c.put_line.new.yard (Ok c.put_line.result) apart
-    (subst (λ line. Leads d line c.put_line.result c.args.yard.now c.put_line.new.yard) (sym c.in-Put.is) (c.put_line.ensures.leads d stands (subst (λ line. is_for_group d.world line ≡ false) c.in-Put.is apart)))
+    let goes = subst (λ line. goes_to_group d.world line ≡ false) c.in-Put.is apart in
+    let site = c.in-Put.site.now in
+    let volume = c.in-Put.volume.now in
+    let plain = apart_off (over_group_at d.world site) _ goes in
+    subst (λ line. WorksIs d line c.args.yard.now c.put_line.new.yard (Ok c.put_line.result)) (sym c.in-Put.is)
+    (works_either d _ c.args.yard.now c.put_line.new.yard tt refl (Ok c.put_line.result) plain (λ next brings. absurd brings) (λ off. c.put_line.ensures.leads d stands plain off)
+    (λ over. c.put_line.ensures.above d stands over (above_plain (over_group_at d.world site) (over_rvg_at d.world site) (kind_named (d.world.nodes (site_number d.world site)) volume) goes over)))
 
 pub returns-in-Put-clause-asked : goal.returns-in-Put-clause-asked
 returns-in-Put-clause-asked g c = λ d stands apart. subst (λ line. AsAsked d.world line c.args.yard.now c.put_line.new.yard) (sym c.in-Put.is) (c.put_line.ensures.asked d stands (subst (λ line. is_for_group d.world line ≡ false) c.in-Put.is apart))
@@ -260,8 +290,9 @@ work_link-requires-clause-free g c = λ κs lives. c.requires.free
 
 pub returns-in-Set-clause-leads : goal.returns-in-Set-clause-leads
 returns-in-Set-clause-leads g c = λ d stands apart carries good.
-    works_whole d c.args.words.now c.args.yard.now c.work_link.new.yard c.work_link.result apart
-    (c.work_link.ensures.leads d stands carries)
+    works_between d c.args.words.now c.args.yard.now c.work_link.new.yard (links_make_none c.args.words.now c.work_link.requires.kind) (links_no_rvg d.world c.args.words.now c.work_link.requires.kind) c.work_link.result
+    (links_no_group d.world c.args.words.now c.work_link.requires.kind) (λ next brings. absurd (links_bring_none c.args.words.now c.work_link.requires.kind brings))
+    (λ off. c.work_link.ensures.leads d stands off carries) (λ links. c.work_link.ensures.above d stands links carries)
 
 pub returns-in-Set-clause-asked : goal.returns-in-Set-clause-asked
 returns-in-Set-clause-asked g c = λ d stands apart. c.work_link.ensures.asked d stands
@@ -274,8 +305,9 @@ deliver_line-requires-clause-free g c = λ κs lives. subst (λ line. IsFree c.a
 
 pub returns-in-Deliver-clause-leads : goal.returns-in-Deliver-clause-leads
 returns-in-Deliver-clause-leads g c = λ d stands apart carries good.
-    works_whole d c.args.words.now c.args.yard.now c.deliver_line.new.yard c.deliver_line.result apart
-    (subst (λ line. LeadsIs d line c.args.yard.now c.deliver_line.new.yard c.deliver_line.result) (sym c.in-Deliver.is) (c.deliver_line.ensures.leads d stands carries good))
+    subst (λ line. WorksIs d line c.args.yard.now c.deliver_line.new.yard c.deliver_line.result) (sym c.in-Deliver.is)
+    (works_between d _ c.args.yard.now c.deliver_line.new.yard tt refl c.deliver_line.result refl (λ next brings. absurd brings)
+    (λ off. c.deliver_line.ensures.leads d stands off carries good) (λ links. c.deliver_line.ensures.above d stands links carries good))
 
 pub returns-in-Deliver-clause-asked : goal.returns-in-Deliver-clause-asked
 returns-in-Deliver-clause-asked g c = λ d stands apart. subst (λ line. AsAsked d.world line c.args.yard.now c.deliver_line.new.yard) (sym c.in-Deliver.is) (c.deliver_line.ensures.asked d stands)
