@@ -50,3 +50,4 @@ pub mod Plains
 pub mod BelowAt
 pub mod BelowMissed
 pub mod BelowUp
+pub mod BelowOff

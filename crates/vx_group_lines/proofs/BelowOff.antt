@@ -1,0 +1,243 @@
+-- What calls on the group below a replicated volume group lead the yard of a site to whose fuse ran out in them.
+use Rattle.std.proofs.Common.{◌≡◌, ◌∙◌, ◌⊎◌, ◌≤◌, ℕ, Bool, false, List, [], ◌∷◌, map, length, ap, sym, subst, refl, arith, inl, inr, true}
+use Rattle.std.specs.Prelude.{Option, Some, None, if◌then◌else◌, slice_set}
+use Rattle.vx_model.specs.declared.site.SiteState.TheVariants.{Up as IsUp, Down as IsDown}
+use Rattle.vx_model.specs.declared.units.Units.{Units}
+use Rattle.vx_disk.specs.declared.shelf.Shelf.{Ghosts}
+use Rattle.vx_effects.proofs.Leaving.{fit_note, fit_worked}
+use Rattle.vx_effects.proofs.Rises.{note_effect}
+use Rattle.vx_effects.specs.Facts.{down_fact}
+use Rattle.vx_history.specs.Doubts.{Doubted}
+use Rattle.vx_history.specs.Groups.{GroupNode}
+use Rattle.vx_history.specs.Steps.{burned, crashed, worked_on}
+use Rattle.vx_history.specs.Stops.{IsFused}
+use Rattle.vx_history.specs.World.{Fuse, Node, NoFuse}
+use Rattle.vx_history.specs.declared.event.Event.TheVariants.{Crash as CrashAt}
+use Rattle.vx_script.specs.declared.line.ScriptLine.{ScriptLine}
+use Rattle.vx_grouped.specs.GroupSites.{DownNoted, idle_below, idle_disks, with_note}
+use Rattle.vx_grouped.specs.SetFuses.{HasFuse}
+use Rattle.vx_grouped.specs.declared.group_site.GroupSite.{GroupSite}
+use Rattle.vx_grouped.specs.declared.group_site.GroupSite.TheVariants.{Up as SiteUp, Deported as SiteAway, Down as SiteDown, Marked, Gone as SiteGone}
+use Rattle.vx_diskset.proofs.Fallen.{running_sure}
+use Rattle.vx_diskset.proofs.GroupStands.{IsLikeGroup, down_like}
+use Rattle.vx_diskset.proofs.OverLikes.{over_like}
+use Rattle.vx_diskset.specs.Aboves.{site_in}
+use Rattle.vx_diskset.specs.Asked.{FailsAs, FusedAs, SameFailing}
+use Rattle.vx_diskset.specs.Blames.{IsGroupDisk}
+use Rattle.vx_diskset.specs.DiskSets.{CrashedAt, fell_to}
+use Rattle.vx_diskset.specs.GroupCalls.{cut_in}
+use Rattle.vx_diskset.specs.Holds.{KeptBeside, KeptSite, beside_of, itself, sure_of}
+use Rattle.vx_diskset.specs.Layouts.{units_by, units_of}
+use Rattle.vx_diskset.specs.Noted.{NotedAt, NotedOn, SiteNoted, below_rvg}
+use Rattle.vx_diskset.specs.OverKeeps.{KeepsOver, KeptBy, StaysHere}
+use Rattle.vx_diskset.specs.Stands.{SiteStands}
+use Rattle.vx_diskset.specs.declared.disk_set.DiskSet.{DiskSet}
+use Rattle.vx_diskset.specs.declared.disk_set.DiskSet.TheVariants.{Over}
+use Rattle.vx_diskset.specs.declared.over_set.OverSet.{OverSet}
+use Rattle.vx_events.proofs.Places.{never_some, some_same}
+use Rattle.vx_events.proofs.RvgEvents.{rvg_apart}
+use Rattle.vx_events.specs.Doubts.{IsAs, run_as, with_disks}
+use Rattle.vx_events.specs.Effects.{EffectAt}
+use Rattle.vx_events.specs.Facts.{volume_fact}
+use Rattle.vx_events.specs.Fails.{Fails}
+use Rattle.vx_events.specs.GroupEnds.{AreOf, GroupCuts}
+use Rattle.vx_events.specs.GroupLines.{group_noted, noting}
+use Rattle.vx_events.specs.GroupNotes.{note_at}
+use Rattle.vx_events.specs.LinksFit.{LinksFit}
+use Rattle.vx_events.specs.RvgOver.{CutBelow}
+use Rattle.vx_events.specs.RvgViews.{is_over_rvg, over_table}
+use Rattle.vx_events.specs.declared.said.Said.TheVariants.{Refused}
+use Rattle.vx_model.specs.declared.no.No.TheVariants.{Down as IsOff}
+use Rattle.vx_yard.proofs.ApplySite.{comes_effect, worked_effect}
+use Rattle.vx_yard.proofs.Carrying.{LetsGo, carries_let}
+use Rattle.vx_yard.proofs.CrashSite.{crash_comes, crash_gathering, crash_node, crash_sent, crashed_node, down_up}
+use Rattle.vx_yard.proofs.FuseStays.{fused_none}
+use Rattle.vx_yard.proofs.NoteSite.{comes_then}
+use Rattle.vx_yard.proofs.OneSite.{Changed, Comes, stands_at, told_by}
+use Rattle.vx_yard.proofs.OverGroup.{begins_apart}
+use Rattle.vx_yard.proofs.Rows.{apart_same, facts_is, fact_from}
+use Rattle.vx_yard.specs.Standing.{BeginsFirst, StandsFor, crash_of}
+use Rattle.vx_yard.specs.declared.yard.Yard.{Yard}
+use Rattle.vx_above.proofs.OverComes.{none_still, on_still}
+use Rattle.vx_above.proofs.OverSites.{note_is, over_again}
+use Rattle.vx_group_lines.proofs.BelowAt.{overs_kept}
+use Rattle.vx_group_lines.proofs.BelowUp.{BelowCalled, NotesBelow}
+use Rattle.vx_group_lines.proofs.GroupLeads.{Follows}
+
+-- the world behind the crash, which kept so many writes, with this note
+abbrev pub world_fell : Doubted → ℕ → (count : ℕ) → GroupNode → Doubted
+world_fell d s count k = let e : Doubted = crash_of d s count false in record e { world = worked_on (noting e.world s k) s }
+
+-- a line whose fuse ran out
+pub record IsCut (d : Doubted) (s : ℕ) (line : ScriptLine) : Type 0 where
+  pub left : (count : ℕ) (k : GroupNode) → let last = run_as false d (CrashAt s count ∷ []) in IsAs last (group_noted s line (noting (with_disks false s d.world last.world) s k)) (world_fell d s count k)
+
+-- so many writes are kept of those of the site
+pub record FellSo {R : Type 0} {g : Ghosts R} (beside : KeptBeside) (n : Node) (p : OverSet R g) : Type 0 where
+  pub count : ℕ
+  pub least : n.safe ≤ count
+  pub most : count ≤ length n.log
+  pub stands : SiteStands (sure_of (itself beside n)) (fell_to n n count) (Over p)
+
+-- of a crash nothing but the disks of the group is noted
+fell_like : (n : Node) (k : GroupNode) (m : Node) → m.state ≡ IsDown → m.disks ≡ n.disks → m.blocks ≡ n.blocks → m.group ≡ Some k → m.fuse ≡ NoFuse → IsLikeGroup (crashed (with_note k (below_rvg n)) 0) (below_rvg m)
+fell_like n k m state disks blocks group fuse = record {
+  state = sym state;
+  disks = sym disks;
+  blocks = sym blocks;
+  group = sym group;
+  none = λ none. record { role = refl; volumes = refl; log = refl; safe = refl; running = refl };
+  fuse = λ x has. subst (λ (f : Fuse). HasFuse f x) (sym fuse) has;
+  unfused = λ none. fuse;
+}
+
+module _ {R : Type 0} {g : Ghosts R} where
+  -- the disks crashed
+  kept_off : (beside : KeptBeside) (n m : Node) (note : GroupNode) (p : OverSet R g) (e : GroupSite R g) → DownNoted m note e → (StaysHere e → KeptBy beside n p e) → CrashedAt beside n (Over p)
+  kept_off beside n m note p (SiteUp laid) it by = absurd it
+  kept_off beside n m note p (SiteAway idle) it by = absurd it
+  kept_off beside n m note p (SiteDown idle) it by = by tt
+  kept_off beside n m note p (Marked rack) it by = absurd it
+  kept_off beside n m note p SiteGone it by = absurd it
+
+  fell_itself : (beside : KeptBeside) (n : Node) (p : OverSet R g) (kept : KeptSite) → kept ≡ itself beside n → (count : ℕ) → kept.node.safe ≤ count → count ≤ length kept.node.log → SiteStands (sure_of kept) (fell_to n kept.node count) (Over p) → FellSo beside n p
+  fell_itself beside n p kept own =
+      subst (λ (x : KeptSite). (count : ℕ) → x.node.safe ≤ count → count ≤ length x.node.log → SiteStands (sure_of x) (fell_to n x.node count) (Over p) → FellSo beside n p) (sym own)
+      (λ count least most stands. record { count = count; least = least; most = most; stands = stands })
+
+  -- of a site that runs
+  fell_so : (beside : KeptBeside) (n : Node) (p : OverSet R g) → beside.doubt ≡ None → CrashedAt beside n (Over p) → FellSo beside n p
+  fell_so beside n p sure fell = fell_itself beside n p fell.kept (by fell.is) fell.count fell.least fell.most fell.stands
+    where
+      by : (fell.kept ≡ itself beside n) ⊎ (beside.doubt ≡ Some fell.kept) → fell.kept ≡ itself beside n
+      by (inl own) = own
+      by (inr doubt) = absurd (never_some (sym sure ∙ doubt))
+
+  on_down : (n m : Node) (note : GroupNode) (e : GroupSite R g) → IsLikeGroup n m → DownNoted n note e → NotedOn m note e
+  on_down n m note (SiteUp laid) like it = absurd it
+  on_down n m note (SiteAway idle) like it = absurd it
+  on_down n m note (SiteDown idle) like it = down_like n m like note idle.agreed (idle_below idle).tells (idle_disks idle) it
+  on_down n m note (Marked rack) like it = absurd it
+  on_down n m note SiteGone like it = absurd it
+
+  module _ (d : Doubted) (old new : Yard R g) (s : ℕ) (before after : DiskSet R g) (stands : StandsFor d old) (call : BelowCalled d old new s before after) (up : (d.world.nodes s).state ≡ IsUp) (running : (d.world.nodes s).halted ≡ None)
+      (k : GroupNode) (p : OverSet R g) (is : after ≡ Over p) (noted : DownNoted (crashed (with_note k (below_rvg (d.world.nodes s))) 0) k (site_in p)) (notes : NotesBelow (note_at (d.world.nodes s)) k)
+      (cut : cut_in after ≡ k.cut) (table : over_table (with_note k (d.world.nodes s)) k ≡ over_table (d.world.nodes s) (note_at (d.world.nodes s))) where
+    abbrev n : Node
+    n = d.world.nodes s
+
+    abbrev note : GroupNode
+    note = note_at (d.world.nodes s)
+
+    kept : KeepsOver call.at.set p
+    kept = overs_kept before after call.at.set p call.at.is_set is call.kept
+
+    -- how it crashed
+    pub fell : FellSo (beside_of d s) (d.world.nodes s) p
+    fell =
+        fell_so (beside_of d s) n p (running_sure (beside_of d s) n (Over call.at.set) call.at.stands up running)
+        (kept_off (beside_of d s) n (crashed (with_note k (below_rvg n)) 0) k p (site_in p) noted (kept.each (beside_of d s) n call.at.stands up running))
+
+    abbrev e : Doubted
+    e = crash_of d s fell.count false
+
+    abbrev c : Node
+    c = crashed_node (d.world.nodes s) (d.world.nodes s) fell.count
+
+    abbrev m : Node
+    m = with_note k (crashed_node (d.world.nodes s) (d.world.nodes s) fell.count)
+
+    node : e.world.nodes s ≡ c
+    node = crash_node d s fell.count false n (d.world.links s) refl (λ j. refl) (λ _. refl) call.at.below up fell.least fell.most
+
+    changed_to : Changed old new s before (Over p)
+    changed_to = subst (λ (x : DiskSet R g). Changed old new s before x) is call.changed
+
+    comes_fell : Comes d e s (Over p)
+    comes_fell =
+        crash_comes d s fell.count false n (d.world.links s) refl (λ j. refl) (λ _. refl) call.at.below up fell.least fell.most before (Over p) stands.links
+        (stands.failing s before call.at.below call.changed.there) (subst (λ (x : DiskSet R g). SameFailing before x) is call.failing) fell.stands
+
+    -- ---- with the note
+
+    abbrev begun : Doubted
+    begun = record e { world = noting e.world s k }
+
+    abbrev first : Node
+    first = record (e.world.nodes s) { group = Some k }
+
+    abbrev m_there : Node
+    m_there = with_note k (e.world.nodes s)
+
+    effect : EffectAt s e (world_fell d s fell.count k) m_there (e.world.links s) (e.world.headers s) (e.after s) e.world.packets (e.world.gathering s)
+    effect = worked_effect s e begun first (e.world.links s) (e.world.headers s) (e.after s) e.world.packets (e.world.gathering s) (note_effect e s first)
+
+    fits : LinksFit (world_fell d s fell.count k)
+    fits = fit_worked begun s (fit_note e s first refl refl refl (record { quiet = λ is. is; rests = λ is. is }) comes_fell.links)
+
+    here : m_there ≡ m
+    here = ap (λ (x : Node). with_note k x) node
+
+    there_units : units_of m_there ≡ units_of (e.world.nodes s)
+    there_units = notes.units ∙ sym (ap (λ (x : Option GroupNode). units_by x n.disks) (note_is n call.at.over)) ∙ sym (ap (λ (x : Node). units_of x) node)
+
+    stood : SiteStands (beside_of e s) m_there (Over p)
+    stood = over_like (beside_of e s) (e.world.nodes s) m_there p refl (λ none. never_some (sym none)) there_units (λ x lit. on_still (e.world.nodes s).fuse x lit) (λ none. none_still (e.world.nodes s).fuse none) comes_fell.stands
+
+    fails : FailsAs m_there (Over p)
+    fails = let was = comes_fell.failing in record { told = λ x told u on. was.told x told u on }
+
+    fused : FusedAs m_there (Over p)
+    fused = fused_none m_there (Over p) (ap (λ (x : Node). burned x.fuse) node)
+
+    comes : Comes d (world_fell d s fell.count k) s (Over p)
+    comes =
+        comes_then d e (world_fell d s fell.count k) s (Over p) (Over p) comes_fell
+        (comes_effect e (world_fell d s fell.count k) s m_there e.world.packets (e.world.gathering s) (Over p) effect fits refl refl refl refl refl stood fails fused comes_fell.role)
+
+    node_now : (world_fell d s fell.count k).world.nodes s ≡ m
+    node_now = effect.is.node ∙ here
+
+    still_over : is_over_rvg m ≡ true
+    still_over = over_again n m k call.at.over refl refl
+
+    site_now : SiteNoted m k (Over p)
+    site_now = (
+      on_down (crashed (with_note k (below_rvg n)) 0) (below_rvg m) k (site_in p) (fell_like n k m refl refl refl refl refl) noted,
+      ap (λ (x : DiskSet R g). cut_in x) (sym is) ∙ cut,
+      λ u inside. ap (λ (f : ℕ → Bool). f u) notes.inside ∙ call.at.noted.2 u
+          (subst (λ (us : Units). IsGroupDisk us u) (notes.units ∙ sym (ap (λ (x : Option GroupNode). units_by x n.disks) (note_is n call.at.over))) inside),
+    )
+
+    seen : down_fact (fact_from n (d.world.links s) d.world.sites) ≡ fact_from m ((world_fell d s fell.count k).world.links s) (world_fell d s fell.count k).world.sites
+    seen = facts_is (down_fact (fact_from n (d.world.links s) d.world.sites)) (fact_from m ((world_fell d s fell.count k).world.links s) (world_fell d s fell.count k).world.sites) refl refl refl refl
+        (call.at.over ∙ sym still_over)
+        (ap (λ (b : Bool). if b then over_table n note else map volume_fact n.volumes) call.at.over ∙ sym table ∙ sym (ap (λ (b : Bool). if b then over_table m k else map volume_fact m.volumes) still_over)) refl refl
+
+    -- the yard stands for it, and carries it
+    pub below_fell : new.facts.items ≡ slice_set old.facts.items s (down_fact (fact_from (d.world.nodes s) (d.world.links s) d.world.sites)) → LetsGo old new s → Follows d (world_fell d s fell.count k) old new
+    below_fell facts lets = record {
+      stands = stands_at d (world_fell d s fell.count k) old new s (down_fact (fact_from n (d.world.links s) d.world.sites)) before (Over p) stands call.at.below changed_to comes
+          (λ _. subst (λ (x : Node). BeginsFirst s x) (sym node_now) (begins_apart s (beside_of e s) m (Over p) (subst (λ (x : Node). SiteStands (beside_of e s) x (Over p)) here stood) (rvg_apart m still_over)))
+          (λ _. subst (λ (x : Node). NotedAt x (Over p)) (sym node_now) (λ other there. subst (λ (x : GroupNode). SiteNoted m x (Over p)) (some_same there) site_now))
+          (seen ∙ sym (apart_same m ((world_fell d s fell.count k).world.nodes s) ((world_fell d s fell.count k).world.links s) ((world_fell d s fell.count k).world.links s) (world_fell d s fell.count k).world.sites (world_fell d s fell.count k).world.sites
+          (rvg_apart m still_over) node_now (λ j. refl) refl)) facts;
+      carries = λ carries.
+          carries_let s d (world_fell d s fell.count k) old new lets (omega (arith, call.at.below, stands.disk_sets.few)) comes.changes
+          (effect.sent ∙ crash_sent d s fell.count false n (d.world.links s) refl (λ j. refl) (λ _. refl) call.at.below up fell.least fell.most)
+          (effect.gathering ∙ crash_gathering d s fell.count false n (d.world.links s) refl (λ j. refl) (λ _. refl) call.at.below up fell.least fell.most)
+          (λ is_up. down_up (sym (ap (λ (x : Node). x.state) node_now) ∙ is_up)) (told_by old new s before (Over p) changed_to) carries;
+    }
+
+    -- and so the line ends
+    pub below_cuts : (line : ScriptLine) (fails_of : Fails) → AreOf s fails_of → IsFused n.fuse → GroupCuts s note line fails_of k → IsCut d s line → CutBelow d line s fails_of (Refused IsOff) (world_fell d s fell.count k)
+    below_cuts line fails_of are lit cuts is_line = record {
+      are = are;
+      fused = lit;
+      kept = fell.count;
+      taken = false;
+      next = k;
+      cuts = cuts;
+      says = refl;
+      left = is_line.left fell.count k;
+    }
