@@ -80,7 +80,7 @@ use Rattle.vx_site_lines.proofs.WriteTests.{Writing, WritingAt, the_write}
 use Rattle.vx_yard.proofs.FirstSites.{begins_like, never_bare}
 
 -- the event of the line, by the number of its volume
-write_events : (w : World) (name volume : List ℕ) (start : ℕ) (bytes : List ℕ) (s v : ℕ) → site_number w name ≡ s → volume_number (w.nodes s) volume ≡ v → writing_events w name volume start bytes ≡ WriteAt s v start bytes None ∷ []
+pub write_events : (w : World) (name volume : List ℕ) (start : ℕ) (bytes : List ℕ) (s v : ℕ) → site_number w name ≡ s → volume_number (w.nodes s) volume ≡ v → writing_events w name volume start bytes ≡ WriteAt s v start bytes None ∷ []
 write_events w name volume start bytes s v number place =
     ap (λ (k : ℕ). let es : List Event = WriteAt k (volume_number (w.nodes k) volume) start bytes None ∷ [] in es) number
     ∙ ap (λ (k : ℕ). let es : List Event = WriteAt s k start bytes None ∷ [] in es) place
@@ -122,7 +122,7 @@ line_done told d line name volume start bytes s v fails said new (OfPut is one) 
     })
 
 -- what the tests see of a site whose fuse ran out in a write
-cut_fact : (d : Doubted) (s : ℕ) (x : Write) (count : ℕ) → LinksFit d → IsLetIn d.world s x → (d.world.nodes s).safe ≤ count → count ≤ length ((d.world.nodes s).log ++ x ∷ [])
+pub cut_fact : (d : Doubted) (s : ℕ) (x : Write) (count : ℕ) → LinksFit d → IsLetIn d.world s x → (d.world.nodes s).safe ≤ count → count ≤ length ((d.world.nodes s).log ++ x ∷ [])
     → down_fact (linked_fact d.world s) ≡ linked_fact (cut_for d s x count).world s
 cut_fact d s x count fits can least most =
     let last : Doubted = cut_events d s x count in
@@ -132,7 +132,7 @@ cut_fact d s x count fits can least most =
     sym (ap (λ (m : Node). fact_of m (e.world.links s) e.world.sites) eff.is.node ∙ down_is (half_begun (d.world.nodes s) x) row e.world.sites count (e.world.links s))
 
 -- whether some link has to confirm the write
-waited_as : (d : Doubted) (s : ℕ) → LinksFit d → (d.world.nodes s).state ≡ IsUp → some_below d.world.sites (λ k. is_waited_for k (d.world.links s k)) ≡ awaits_one (linked_fact d.world s)
+pub waited_as : (d : Doubted) (s : ℕ) → LinksFit d → (d.world.nodes s).state ≡ IsUp → some_below d.world.sites (λ k. is_waited_for k (d.world.links s k)) ≡ awaits_one (linked_fact d.world s)
 waited_as d s fits up = awaits_same d.world (listed d fits) s ∙ ap (λ (t : SiteState). list_any awaits (links_by t (links_of_site d.world s))) (sym up)
 
 -- the number that a write of a site is to have, as the code counts it
