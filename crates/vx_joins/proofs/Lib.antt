@@ -4,6 +4,7 @@ pub mod SpellsLinks
 pub mod StoresCalls
 pub mod StoresLink
 pub mod StoresNotes
+pub mod TakesFounded
 pub mod TakesUpdate
 pub mod TookUpdate
 pub mod UpdatesFit

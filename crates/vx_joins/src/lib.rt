@@ -5,6 +5,7 @@ mod hearing;
 mod joining;
 pub mod laws;
 mod receiving;
+mod taking;
 
 pub use hearing::hear;
 pub use joining::join;

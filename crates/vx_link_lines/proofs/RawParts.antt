@@ -7,13 +7,11 @@ use Rattle.vx_disk.specs.declared.shelf.Shelf.{Ghosts}
 use Rattle.vx_diskset.specs.Asked.{IsRawSet}
 use Rattle.vx_diskset.specs.Holds.{beside_of}
 use Rattle.vx_diskset.specs.declared.disk_set.DiskSet.{DiskSet}
-use Rattle.vx_diskset.specs.declared.disk_set.DiskSet.TheVariants.{Bare, Spoiled, Up, Receives, Down, OfGroup, Over, Gone}
 use Rattle.vx_events.specs.Facts.{seat_of}
 use Rattle.vx_events.specs.GroupLines.{is_over_group}
 use Rattle.vx_events.specs.RvgLinks.{rvg_target}
 use Rattle.vx_events.specs.RvgSteps.{over_rvg_at}
 use Rattle.vx_events.specs.RvgViews.{is_over_rvg}
-use Rattle.vx_joins.specs.Deliveries.{TakesRaw}
 use Rattle.vx_link_lines.specs.Headed.{NotesAt, noted_by}
 use Rattle.vx_yard.proofs.NamedSite.{place_at}
 use Rattle.vx_yard.proofs.OverGroup.{none_noted, raw_set}
@@ -67,14 +65,3 @@ module _ {R : Type 0} {g : Ghosts R} where
   pub none_seat : (d : Doubted) (y : Yard R g) (name : List ℕ) (s : ℕ) → StandsFor d y → seat_of y.facts.items name ≡ Some s → is_over_group (d.world.nodes s) ≡ false
       → over_rvg_at d.world name ≡ false → (d.world.nodes s).group ≡ None
   none_seat d y name s stands seat apart off = none_noted (d.world.nodes s) apart (named_off d y name s stands seat off)
-
-  -- such disks take updates as those of a raw set do
-  pub takes_raw : (e : DiskSet R g) → IsRawSet e → TakesRaw e
-  takes_raw (Bare rack) raw = tt
-  takes_raw (Spoiled rack) raw = tt
-  takes_raw (Up rvg) raw = tt
-  takes_raw (Receives s) raw = tt
-  takes_raw (Down rack) raw = tt
-  takes_raw (OfGroup s) raw = tt
-  takes_raw (Over s) raw = absurd raw
-  takes_raw Gone raw = tt

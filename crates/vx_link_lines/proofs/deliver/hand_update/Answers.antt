@@ -24,7 +24,6 @@ use Rattle.vx_events.specs.declared.said.Said.TheVariants.{Ignored, Refused, Tak
 use Rattle.vx_events.specs.RvgViews.{is_over_rvg}
 use Rattle.vx_yard.specs.OfSites.{TouchesNone}
 use Rattle.vx_link_lines.proofs.DeliverCalls.{no_answer, waits_alone}
-use Rattle.vx_link_lines.proofs.RawParts.{raw_there, takes_raw}
 use Rattle.vx_yard.proofs.OfSites.{all_of_site, all_still, site_still}
 use Rattle.vx_yard.proofs.Lists.{get-set_same, get_at, length-set, set_same}
 use Rattle.vx_link_lines.proofs.deliver.hand_update.Goals as goal
@@ -86,12 +85,11 @@ returns-in-Taken-clause-leads g c = λ d p k x stands off carries good at to bel
     let same_before = some_same (sym (get_at old.disk_sets.items t c.index.result.now c.requires.disk_set c.index.ensures) ∙ there) in
     let here = stands.disk_sets.sites t before below there in
     let role = stands.roles.each t before below there in
-    let takes = takes_raw before (raw_there d old t before stands below there off) in
     let opens = room_receives (beside_of d t) (d.world.nodes t) c.index.result.now c.receives.result c.receives.ensures c.if-not-receives.false (subst (λ e. SiteStands (beside_of d t) (d.world.nodes t) e) (sym same_before) here) in
     let fed = carries.feeders t c.index_mut-2.result.now (get_at old.feeders.items t c.index_mut-2.result.now c.requires.feeder c.index_mut-2.ensures.value) opens.0 opens.1 in
     let told = told_before old.disk_sets.items t before after there c.deliver_update.ensures.later in
     let up = subst (λ (i : ℕ). (d.world.nodes i).state ≡ Up) (sym to) opens.0 in
-    let took = c.in_ok-said.ensures.took d p k x at to message carries.flight here role takes fed in
+    let took = c.in_ok-said.ensures.took d p k x at to message carries.flight here role fed in
     let last = c.received-last.result in
     let seen = c.index_mut-in-Taken.result.now in
     let shown = fact_at d old t seen stands below (receives_apart (beside_of d t) (d.world.nodes t) before here opens.1) (get_at old.facts.items t seen c.requires.site c.index_mut-in-Taken.ensures.value) in
@@ -108,7 +106,7 @@ returns-in-Taken-clause-leads g c = λ d p k x stands off carries good at to bel
       exact = λ tells.
           let world = world_good d (good (told tells)) in
           subst (λ r. DeliveredTo (delivered d.world c.args.number (packet_at d.world.packets c.args.number)) (beside_of d t) t after feeder a flight r) c.in-Taken.is
-          (c.in_ok-said.ensures.delivered d p k x at to message (are_one d.world world) carries.flight here role takes fed
+          (c.in_ok-said.ensures.delivered d p k x at to message (are_one d.world world) carries.flight here role fed
           (carries.assemblies (told tells) t was (get_at old.assemblies.items t was c.requires.place c.index_mut-3.ensures.value))
           (subst (λ (i : ℕ). p.line ≡ (d.world.nodes i).line → WriteFits (d.world.nodes i) x) to (update_fits d.world c.args.number p k x world at message up)));
       receives = opens.1;
@@ -139,12 +137,11 @@ returns-in_default g c = record {
       let same_before = some_same (sym (get_at old.disk_sets.items t c.index.result.now c.requires.disk_set c.index.ensures) ∙ there) in
       let here = stands.disk_sets.sites t before below there in
       let role = stands.roles.each t before below there in
-      let takes = takes_raw before (raw_there d old t before stands below there off) in
       let opens = room_receives (beside_of d t) (d.world.nodes t) c.index.result.now c.receives.result c.receives.ensures c.if-not-receives.false (subst (λ e. SiteStands (beside_of d t) (d.world.nodes t) e) (sym same_before) here) in
       let fed = carries.feeders t c.index_mut-2.result.now (get_at old.feeders.items t c.index_mut-2.result.now c.requires.feeder c.index_mut-2.ensures.value) opens.0 opens.1 in
       let told = told_before old.disk_sets.items t before after there c.deliver_update.ensures.later in
       let up = subst (λ (i : ℕ). (d.world.nodes i).state ≡ Up) (sym to) opens.0 in
-      let took = c.in_ok-said.ensures.took d p k x at to message carries.flight here role takes fed in
+      let took = c.in_ok-said.ensures.took d p k x at to message carries.flight here role fed in
       let ignored = took_ignored d.world c.args.number p k (beside_of d t) after feeder was a old.flight flight c.in_ok-said.said took c.in_default.not-Taken in
       behind_ignored d c.args.number p k x old _ before after feeder was a stands at message c.deliver_update.ensures.still t to
       (record {
@@ -157,7 +154,7 @@ returns-in_default g c = record {
         exact = λ tells.
             let world = world_good d (good (told tells)) in
             subst (λ r. DeliveredTo (delivered d.world c.args.number (packet_at d.world.packets c.args.number)) (beside_of d t) t after feeder a flight r) ignored
-            (c.in_ok-said.ensures.delivered d p k x at to message (are_one d.world world) carries.flight here role takes fed
+            (c.in_ok-said.ensures.delivered d p k x at to message (are_one d.world world) carries.flight here role fed
             (carries.assemblies (told tells) t was (get_at old.assemblies.items t was c.requires.place c.index_mut-3.ensures.value))
             (subst (λ (i : ℕ). p.line ≡ (d.world.nodes i).line → WriteFits (d.world.nodes i) x) to (update_fits d.world c.args.number p k x world at message up)));
         receives = opens.1;
