@@ -1,8 +1,6 @@
 pub mod Fresh
 pub mod CompleteLemmas
 pub mod EndsLemmas
-pub mod GroupTold
-pub mod LineTold
 pub mod RvgTold
 pub mod LastLemmas
 pub mod ReaderLemmas

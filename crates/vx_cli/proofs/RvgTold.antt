@@ -1,5 +1,5 @@
 -- What a line came to at sites with replicated volume groups over groups of disks where contents are told it came to where even more is told.
-use Rattle.std.proofs.Common.{ℕ, Bool, true, false, inl, inr}
+use Rattle.std.proofs.Common.{◌⊎◌, ℕ, Bool, true, false, inl, inr}
 use Rattle.std.specs.Prelude.{Option, Some, None}
 use Rattle.vx_history.specs.Doubts.{Doubted}
 use Rattle.vx_history.specs.Groups.{GroupNode}
@@ -15,27 +15,21 @@ use Rattle.vx_events.specs.GroupNotes.{note_at}
 use Rattle.vx_events.specs.Lines.{is_of_links}
 use Rattle.vx_events.specs.Parts.{StopsBetween, StopsDown, StopsInPart, StopsRead, StopsShort}
 use Rattle.vx_events.specs.RvgBack.{GroupCutOff, GroupHeld, GroupUnfound, KeptLost, LogCut, LogFails, LogLacks, FindsNoRvg, FindsPlain, FindsRvg, RvgBack, RvgFinds, RvgUp, SaysUp}
-use Rattle.vx_events.specs.RvgLinks.{AllKnown, LinksOver, links_rvg}
+use Rattle.vx_events.specs.Brights.{AllKnown, told_for}
+use Rattle.vx_events.specs.RvgLinks.{LinksOver, links_rvg}
 use Rattle.vx_events.specs.RvgMakes.{MakesRvg, RvgCut, RvgDone, RvgFails, RvgLacks}
 use Rattle.vx_events.specs.RvgNotes.{NotesLacking, NotesNarrowed, NotesNoRvg, NotesRvg}
 use Rattle.vx_events.specs.RvgOver.{BelowEnds, EndsOrShows, EndsOver, OverRvgBy, TakesOr, is_below, is_inside, missed_in, CutBelow}
 use Rattle.vx_events.specs.RvgParts.{RvgShort, ShortFull, ShortGroup, ShortLog, ShortMade, short_place}
 use Rattle.vx_events.specs.RvgSteps.{AsBefore, FoundOne, FullBy, Gained, WorksAbove, WorksBeside, WorksFull, is_for_rvg, rvg_place}
-use Rattle.vx_events.specs.StepsOver.{WorksOver, group_place, is_for_group}
+use Rattle.vx_events.specs.StepsOver.{group_place, is_for_group}
 use Rattle.vx_events.specs.declared.said.Said.{Said}
-use Rattle.vx_cli.proofs.GroupTold.{back_told, finds_told, group_told, known_told, nothing_told, shows_told}
-use Rattle.vx_cli.proofs.LineTold.{counts_told, ends_told, kind_told, links_told}
+use Rattle.vx_events.proofs.GroupTold.{back_told, group_told, known_told, nothing_told, shows_told}
+use Rattle.vx_events.proofs.LineTold.{ends_told, links_told}
+use Rattle.vx_events.proofs.Tolds.{for_more, works_told}
 use Rattle.vx_events.specs.GroupEnds.{GroupEnds}
 
 module _ {T U : Type 0} (f : U → T) where
-  -- ---- a line at sites over groups without one, or over none
-
-  works_told : (group : Bool) (d : Doubted) (line : ScriptLine) (fails : Fails) (said : Said) (new : Doubted) → WorksOver group T d line fails said new → WorksOver group U d line fails said new
-  works_told true d line fails said new x = group_told f d line (group_place d.world line) fails said new x
-  works_told false d line fails said new (inl x) =
-      inl (record { ends = kind_told (is_of_links line) d line fails said new x.ends; counts = counts_told d.world line said x.counts; works = x.works; calls = x.calls })
-  works_told false d line fails said new (inr x) = inr (finds_told f d line (group_place d.world line) fails said new x)
-
   -- ---- a line that makes one
 
   narrowed_told : (units : Units) (note new : GroupNode) → NotesNarrowed T units note new → NotesNarrowed U units note new
@@ -143,11 +137,12 @@ module _ {T U : Type 0} (f : U → T) where
     calls = x.calls;
   }
     where
-      all : AllKnown U d.world line → AllKnown T d.world line
+      all : AllKnown U d → AllKnown T d
       all known = (f known.0, known.1)
 
   beside_told : (d : Doubted) (line : ScriptLine) (fails : Fails) (said : Said) (new : Doubted) → WorksBeside T d line fails said new → WorksBeside U d line fails said new
-  beside_told d line fails said new (AsBefore works found) = AsBefore (works_told (is_for_group d.world line) d line fails said new works) found
+  beside_told d line fails said new (AsBefore works found) =
+      AsBefore (works_told (λ (u : told_for U d line). for_more f d (is_of_links line) u) (is_for_group d.world line) d line fails said new works) found
   beside_told d line fails said new (Gained x) = Gained (came_told d line (group_place d.world line) fails said new x)
   beside_told d line fails said new (FoundOne x) = FoundOne (found_told d line (group_place d.world line) fails said new x)
 

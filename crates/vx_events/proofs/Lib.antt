@@ -5,6 +5,8 @@ pub mod Calm
 pub mod DataNamed
 pub mod DataPlaces
 pub mod GroupStopping
+pub mod GroupTold
+pub mod LineTold
 pub mod RvgStopping
 pub mod RvgEnding
 pub mod RvgMissed
@@ -43,4 +45,5 @@ pub mod Steps
 pub mod Stopping
 pub mod StoppingCuts
 pub mod Testing
+pub mod Tolds
 pub mod Values

@@ -31,7 +31,8 @@ use Rattle.vx_events.specs.GroupLines.{group_events, group_noted, noting}
 use Rattle.vx_events.specs.GroupNotes.{IsKnown, note_at}
 use Rattle.vx_events.specs.Lists.{Choice, events_of, recovery_of, crash_count}
 use Rattle.vx_events.specs.RvgBack.{FindsNoRvg, FindsPlain, FindsRvg, GetsRvg, GroupCutOff, GroupHeld, GroupUnfound, HadRvg, IsLeftBack, KeptLost, IsLeftBut, LogCut, LogFails, LogLacks, RestsWithRvg, RvgBack, RvgFinds, RvgUp, fall_first, fuse_left, rest_again}
-use Rattle.vx_events.specs.RvgLinks.{AllKnown, LinksOver, noting_each, noted_there}
+use Rattle.vx_events.specs.Brights.{AllKnown}
+use Rattle.vx_events.specs.RvgLinks.{LinksOver, noting_each, noted_there}
 use Rattle.vx_events.specs.RvgMakes.{RvgStops, noting_in}
 use Rattle.vx_events.specs.RvgNotes.{volume_events}
 use Rattle.vx_events.specs.RvgOver.{CutBelow, EndsOrShows, EndsOver, OpensFor, OverRvg, OverRvgBy, ShowFails, ShowsAny, TakesOr, is_below, is_inside, missed_in, noting_over, fuse_behind}
@@ -315,10 +316,10 @@ each_like line w next v = record {
   gathering = λ i. refl;
 }
 
-pub links_over_stop : (told : Type 0) (d : Doubted) (line : ScriptLine) (fails : Fails) (said : Said) (new : Doubted) → AllKnown told d.world line
+pub links_over_stop : (told : Type 0) (d : Doubted) (line : ScriptLine) (fails : Fails) (said : Said) (new : Doubted) → AllKnown told d
     → LinksOver told d line fails said new → RvgStops d new
 links_over_stop told d line fails said new known h =
-    let stops = link_stops (AllKnown told d.world line) known d line h.ending said h.middle h.ends in
+    let stops = link_stops (AllKnown told d) known d line h.ending said h.middle h.ends in
     record {
       before = d;
       like = same_doubted d;

@@ -1,3 +1,4 @@
+pub mod Brights
 pub mod Doubts
 pub mod Durables
 pub mod Effects

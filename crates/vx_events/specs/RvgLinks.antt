@@ -8,6 +8,7 @@ use Rattle.vx_history.specs.Groups.{GroupNode}
 use Rattle.vx_history.specs.World.{Fuse, Node, Packet, World}
 use Rattle.vx_script.specs.declared.line.ScriptLine.{ScriptLine}
 use Rattle.vx_script.specs.declared.line.ScriptLine.TheVariants.{Deliver, Link, Pump, Set, Settle}
+use Rattle.vx_events.specs.Brights.{AllKnown}
 use Rattle.vx_events.specs.Doubts.{IsAs}
 use Rattle.vx_events.specs.Facts.{site_number}
 use Rattle.vx_events.specs.Fails.{Fails}
@@ -68,10 +69,6 @@ noted_there w line i note m = record m { group = Some note; fuse = fuse_there (w
 abbrev pub noting_each : ScriptLine → World → (ℕ → GroupNode) → World → World
 noting_each line w next v = record v { nodes = λ i. if is_over_rvg (w.nodes i) then noted_there w line i (next i) (v.nodes i) else v.nodes i }
 
--- what the disks of the sites over groups hold is known
-abbrev pub AllKnown : Type 0 → World → ScriptLine → Type 0
-AllKnown told w line = told × ((i : ℕ) → works_at w line i ≡ true → (note_at (w.nodes i)).dark ≡ false)
-
 -- ---- ends
 
 -- of a raw set the disk of the log works, where the line is done
@@ -104,7 +101,7 @@ pub record LinksOver (told : Type 0) (d : Doubted) (line : ScriptLine) (fails : 
   pub split : fails ≡ borne ++ ending
   pub bears : AreBorneThere d.world line borne
   pub middle : Doubted
-  pub ends : LinkEnds (AllKnown told d.world line) d line ending said middle
+  pub ends : LinkEnds (AllKnown told d) d line ending said middle
   pub next : ℕ → GroupNode
   pub notes : (i : ℕ) → is_over_rvg (d.world.nodes i) ≡ true → NotesThere (works_at d.world line i) (FuseRanOut (d.world.nodes i) said) i fails (note_at (d.world.nodes i)) (next i)
   pub left : IsAs middle (noting_each line d.world next middle.world) new

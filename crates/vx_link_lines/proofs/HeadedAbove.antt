@@ -22,7 +22,8 @@ use Rattle.vx_diskset.specs.declared.disk_set.DiskSet.TheVariants.{Over}
 use Rattle.vx_diskset.specs.declared.over_set.OverSet.{OverSet}
 use Rattle.vx_events.proofs.Places.{some_same}
 use Rattle.vx_events.specs.LinkEnds.{LinkEnds}
-use Rattle.vx_events.specs.RvgLinks.{AllKnown, NeedsLogs, NeedsPasses, works_at}
+use Rattle.vx_events.specs.Brights.{AllKnown}
+use Rattle.vx_events.specs.RvgLinks.{NeedsLogs, NeedsPasses, works_at}
 use Rattle.vx_events.specs.RvgOver.{burnt_over}
 use Rattle.vx_events.specs.RvgViews.{is_over_rvg}
 use Rattle.vx_events.specs.StepsOver.{facts_over}
@@ -61,7 +62,7 @@ module _ {R : Type 0} {g : Ghosts R} (d : Doubted) (e : Event) (s : ℕ) (m : No
   start = noted_by (note_one s) d
 
   abbrev known : Type 0
-  known = AllKnown (IsTold new) d.world line
+  known = AllKnown (IsTold new) d
 
   -- by what the site comes to from the world with its fuse noted
   reached : (to : Doubted) (k : Node) (p : OverSet R g) → Moves start to s k old new (Over p) → Reaches d to s k (Over p)

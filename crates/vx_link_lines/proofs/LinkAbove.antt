@@ -21,7 +21,8 @@ use Rattle.vx_events.specs.GroupEnds.{AreOf}
 use Rattle.vx_events.specs.GroupNotes.{note_at}
 use Rattle.vx_events.specs.LinkEnds.{LinkEnds}
 use Rattle.vx_events.specs.Parts.{StopsInPart}
-use Rattle.vx_events.specs.RvgLinks.{AllKnown, AreBorneThere, LinksOver, NeedsLogs, NeedsPasses, NotesThere, fuse_there, noted_there, noting_each, works_at}
+use Rattle.vx_events.specs.Brights.{AllKnown}
+use Rattle.vx_events.specs.RvgLinks.{AreBorneThere, LinksOver, NeedsLogs, NeedsPasses, NotesThere, fuse_there, noted_there, noting_each, works_at}
 use Rattle.vx_events.specs.RvgViews.{is_over_rvg}
 use Rattle.vx_events.specs.RvgWorks.{FuseRanOut, NotesWork}
 use Rattle.vx_events.specs.declared.said.Said.{Said}
@@ -114,7 +115,7 @@ module _ (line : ScriptLine) (d : Doubted) (s : ℕ) (over : is_over_rvg (d.worl
           (cases_eq i s)
 
       -- some failed calls of the site were borne, and by the others the line ended
-      pub links_over : (borne ending : Fails) → fails ≡ borne ++ ending → AreOf s borne → LinkEnds (AllKnown told d.world line) d line ending said middle → NeedsLogs d.world line said → NeedsPasses d.world line said
+      pub links_over : (borne ending : Fails) → fails ≡ borne ++ ending → AreOf s borne → LinkEnds (AllKnown told d) d line ending said middle → NeedsLogs d.world line said → NeedsPasses d.world line said
           → LinksOver told d line fails said over_world
       links_over borne ending split of ends logs passes = record {
         borne = borne;
@@ -151,7 +152,7 @@ module _ (line : ScriptLine) (d : Doubted) (s : ℕ) (over : is_over_rvg (d.worl
       ap (λ (k : Node). record middle { world = with_node middle.world s k }) (subst (λ (k : Node). noted_there d.world line s kept k ≡ k) (sym node) worked_there)
       ∙ ap (λ (f : ℕ → Node). record middle { world = record middle.world { nodes = f } }) (fun_ext (λ i. updated_self middle.world.nodes s i))
 
-  pub links_still : (told : Type 0) (said : Said) → NotesWork (FuseRanOut (d.world.nodes s) said) s [] (note_at (d.world.nodes s)) (note_at (d.world.nodes s)) → LinkEnds (AllKnown told d.world line) d line [] said middle
+  pub links_still : (told : Type 0) (said : Said) → NotesWork (FuseRanOut (d.world.nodes s) said) s [] (note_at (d.world.nodes s)) (note_at (d.world.nodes s)) → LinkEnds (AllKnown told d) d line [] said middle
       → NeedsLogs d.world line said → NeedsPasses d.world line said → LinksOver told d line [] said middle
   links_still told said worked ends logs passes =
       subst (λ (x : Doubted). LinksOver told d line [] said x) world_same (links_over line d s over works others middle same kept told [] said worked [] [] refl tt ends logs passes)

@@ -30,7 +30,9 @@ use Rattle.vx_events.specs.LinkEnds.{AppliesCut, AppliesPart, AreLeft, LinkEnds,
 use Rattle.vx_events.specs.Lists.{events_of}
 use Rattle.vx_events.specs.LinkLists.{link_events}
 use Rattle.vx_events.specs.RvgBack.{GetsRvg, GroupCutOff, GroupHeld, GroupUnfound, HadRvg, IsLeftBack, KeptLost, LogCut, LogFails, LogLacks, RestsWithRvg, RvgBack, RvgUp}
-use Rattle.vx_events.specs.RvgLinks.{AllKnown, LinksOver, NotesThere, links_rvg, noting_each, works_at, noted_there}
+use Rattle.vx_events.specs.Brights.{AllBright, AllKnown, IsBright, told_for}
+use Rattle.vx_events.proofs.Tolds.{told_now}
+use Rattle.vx_events.specs.RvgLinks.{LinksOver, NotesThere, links_rvg, noting_each, works_at, noted_there}
 use Rattle.vx_events.specs.RvgMakes.{IsLeftRvg, MakesRvg, RvgCut, RvgDone, RvgFails, RvgLacks, noting_in, units_at}
 use Rattle.vx_events.specs.RvgNotes.{volume_events}
 use Rattle.vx_events.specs.RvgOver.{CutBelow, EndsOrShows, OverRvg, OverRvgBy, ShowFails, ShowsAny, TakesOr, is_below, is_inside, missed_in, noting_over, fuse_behind}
@@ -40,7 +42,7 @@ use Rattle.vx_events.specs.RvgWorks.{FuseRanOut}
 use Rattle.vx_events.specs.StepsOver.{WorksOver, group_place, is_for_group, refused_over}
 use Rattle.vx_events.specs.declared.said.Said.{Said}
 use Rattle.vx_events.specs.declared.said.Said.TheVariants.{Refused}
-use Rattle.vx_settling.specs.Brights.{AllBright, IsBright, IsHeldDown}
+use Rattle.vx_settling.specs.Brights.{IsHeldDown}
 use Rattle.vx_settling.proofs.Brights.{as_bright, crashed_bright, disks_bright, group_noted_bright, halved_bright, link_noted_bright, noted_bright, noting_bright, run_bright, runs_bright, worked_bright, node_bright}
 use Rattle.vx_history.specs.Steps.{worked_on}
 
@@ -248,7 +250,7 @@ module _ (told : Type 0) (tells : told) (d : Doubted) (b : AllBright d) (fails :
 
   each_bright : (line : ScriptLine) → LinksOver told d line fails said new → AllBright new
   each_bright line h =
-      let middle : AllBright h.middle = links_bright (AllKnown told d.world line) (tells, λ i _. b.sites i) d line h.ending said h.middle b h.ends in
+      let middle : AllBright h.middle = links_bright (AllKnown told d) (tells, b) d line h.ending said h.middle b h.ends in
       as_bright h.middle (noting_each line d.world h.next h.middle.world) new h.left
       (λ i. by_test IsBright (is_over_rvg (d.world.nodes i)) (noted_there d.world line i (h.next i) (h.middle.world.nodes i)) (h.middle.world.nodes i)
       (λ over. there_bright (works_at d.world line i) (FuseRanOut (d.world.nodes i) said) i fails (note_at (d.world.nodes i)) (h.next i) (b.sites i) (h.notes i over)) (λ _. middle.sites i)) middle
@@ -259,12 +261,15 @@ module _ (told : Type 0) (tells : told) (d : Doubted) (b : AllBright d) (fails :
       → WorksBeside told d line fails said new → AllBright new
   beside_bright line held agree (AsBefore works found) = by_group (is_for_group d.world line) works
     where
-      by_group : (group : Bool) → WorksOver group told d line fails said new → AllBright new
+      now : told_for told d line
+      now = told_now told tells d b (is_of_links line)
+
+      by_group : (group : Bool) → WorksOver group (told_for told d line) d line fails said new → AllBright new
       by_group true ends =
           let s : ℕ = group_place d.world line in
-          group_bright d b fails said new told line s held (group_known told tells d line s fails said new ends (b.sites s) (dim line s agree held)) ends
-      by_group false (inl step) = by_kind told tells (is_of_links line) d line fails said new b step.ends
-      by_group false (inr kept) = absurd (kept.untold tells)
+          group_bright d b fails said new (told_for told d line) line s held (group_known (told_for told d line) now d line s fails said new ends (b.sites s) (dim line s agree held)) ends
+      by_group false (inl step) = by_kind (told_for told d line) now (is_of_links line) d line fails said new b step.ends
+      by_group false (inr kept) = absurd (kept.untold now)
   beside_bright line held agree (Gained back) =
       let s : ℕ = group_place d.world line in
       rises_bright line s held (back_known_too told tells d s (b.sites s) fails said new line (dim line s agree held) back) back

@@ -33,7 +33,7 @@ use Rattle.vx_events.specs.GroupLines.{group_noted, noting}
 use Rattle.vx_events.specs.GroupNotes.{no_note}
 use Rattle.vx_events.specs.LinkEnds.{link_noted, target_noted}
 use Rattle.vx_events.specs.RvgBack.{fuse_left}
-use Rattle.vx_settling.specs.Brights.{AllBright, IsBright}
+use Rattle.vx_events.specs.Brights.{AllBright, IsBright}
 
 abbrev pub BrightAll : World → Type 0
 BrightAll w = (i : ℕ) → IsBright (w.nodes i)

@@ -24,7 +24,8 @@ use Rattle.vx_events.specs.GroupNotes.{note_at}
 use Rattle.vx_events.specs.GroupViews.{config_of}
 use Rattle.vx_events.specs.RvgBack.{FindsNoRvg, FindsPlain, FindsRvg, IsLeftBack, RvgFinds}
 use Rattle.vx_events.specs.RvgFits.{FitsNoted, FitsRvg, HasUnits, NoteKeepsRvg}
-use Rattle.vx_events.specs.RvgLinks.{AllKnown, LinksOver}
+use Rattle.vx_events.specs.Brights.{AllKnown}
+use Rattle.vx_events.specs.RvgLinks.{LinksOver}
 use Rattle.vx_events.specs.RvgMakes.{RvgStops}
 use Rattle.vx_events.specs.RvgOver.{OpensFor, OverRvg}
 use Rattle.vx_events.specs.RvgViews.{is_over_rvg}
@@ -118,7 +119,7 @@ module _ (told : Type 0) (tells : told) (d : Doubted) (good : GoodDoubted d) (al
       by (inl stops) (inr finds) = finds_fits s made over fits still finds
       by (inr finds) keeps = finds_fits s made over fits still finds
 
-  pub links_fit : AllKnown told d.world line → LinksOver told d line fails said new → (i : ℕ) → IsMade (d.world.nodes i) → is_over_rvg (d.world.nodes i) ≡ true
+  pub links_fit : AllKnown told d → LinksOver told d line fails said new → (i : ℕ) → IsMade (d.world.nodes i) → is_over_rvg (d.world.nodes i) ≡ true
       → FitsNoted (d.world.nodes i) → FitsNoted (new.world.nodes i)
   links_fit known ends i made over fits =
       stopped_fits i made over (links_over_stop told d line fails said new known ends) (links_stay told d line fails said new ends i over) fits

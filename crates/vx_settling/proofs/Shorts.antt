@@ -24,7 +24,7 @@ use Rattle.vx_events.specs.RvgMakes.{RvgStops}
 use Rattle.vx_events.specs.RvgParts.{RvgShort, ShortGroup, ShortLog, ShortMade}
 use Rattle.vx_events.specs.RvgViews.{is_over_rvg}
 use Rattle.vx_events.specs.declared.said.Said.TheVariants.{Done}
-use Rattle.vx_settling.specs.Brights.{AllBright, IsBright}
+use Rattle.vx_events.specs.Brights.{AllBright, IsBright}
 use Rattle.vx_settling.proofs.BrightLines.{from_bright, made_bright, next_bright}
 use Rattle.vx_settling.proofs.Brights.{as_bright, disks_bright, group_noted_bright, lost_bright, noting_bright, run_bright}
 use Rattle.vx_settling.proofs.RvgRooms.{has_data, stops_room}

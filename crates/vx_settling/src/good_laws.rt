@@ -9,19 +9,20 @@ ghost use Rattle.vx_events.specs.GroupEnds.{BringsUp};
 ghost use Rattle.vx_events.specs.GroupNotes.{note_at};
 ghost use Rattle.vx_events.specs.RvgBack.{RvgBack, RvgFinds};
 ghost use Rattle.vx_events.specs.RvgFits.{FitsNoted};
-ghost use Rattle.vx_events.specs.RvgLinks.{AllKnown, LinksOver};
+ghost use Rattle.vx_events.specs.Brights.{AllBright, AllKnown};
+ghost use Rattle.vx_events.specs.RvgLinks.{LinksOver};
 ghost use Rattle.vx_events.specs.RvgOver.{OpensFor, OverRvg};
 ghost use Rattle.vx_events.specs.RvgSteps.{AgreeFor, StepFull};
 ghost use Rattle.vx_events.specs.RvgViews.{is_over_rvg};
 ghost use Rattle.vx_events.specs.StepsOver.{group_place};
 ghost use Rattle.vx_events.specs.declared.said.Said.{Said};
-ghost use Rattle.vx_settling.specs.Brights.{AllBright, IsHeldDown};
+ghost use Rattle.vx_settling.specs.Brights.{IsHeldDown};
 ghost use Rattle.vx_settling.specs.Gains.{MayGain};
 
 /// However a line ends over groups of disks, with replicated volume groups or without, where it is known what they hold, and imports agree of a group that it brings
 /// up, or it is known behind it too what its disks hold: a good world stays good, whichever of the sites that are in doubt are as they may be on their disks.
 pub fn full_lines_stay_good()
-    ensures { (files : Bool) (d : Doubted) (line : ScriptLine) (fails : Fails) (said : Said) (new : Doubted) → GoodDoubted d → AgreeFor d.world line new.world
+    ensures { (files : Bool) (d : Doubted) (line : ScriptLine) (fails : Fails) (said : Said) (new : Doubted) → GoodDoubted d → AgreeFor d line new.world
         → StepFull (Unit {0}) files d line fails said new → GoodDoubted new }
 {}
 
@@ -38,13 +39,13 @@ pub fn full_lines_stay_known()
 /// found on disks that may not agree, and behind one of links. So has a site without one of which a recovery or an import finds that it has one, also where its log did not
 /// come up, and where nothing was known of the disks.
 pub fn rvgs_stay_fit()
-    ensures rooms { (files : Bool) (d : Doubted) (line : ScriptLine) (fails : Fails) (said : Said) (new : Doubted) → GoodDoubted d → DoubtsAlike d → AgreeFor d.world line new.world
+    ensures rooms { (files : Bool) (d : Doubted) (line : ScriptLine) (fails : Fails) (said : Said) (new : Doubted) → GoodDoubted d → DoubtsAlike d → AgreeFor d line new.world
         → StepFull (Unit {0}) files d line fails said new → RoomStays d new }
     ensures over { (d : Doubted) (line : ScriptLine) (s : ℕ) (fails : Fails) (said : Said) (new : Doubted) → GoodDoubted d → DoubtsAlike d → IsMade (d.world.nodes s)
         → is_over_rvg (d.world.nodes s) ≡ true → OpensFor d.world line → (note_at (d.world.nodes s)).dark ≡ false
         → OverRvg (Unit {0}) d line s fails said new → FitsNoted (d.world.nodes s)
         → is_over_rvg (new.world.nodes s) ≡ true → FitsNoted (new.world.nodes s) }
-    ensures links { (d : Doubted) (line : ScriptLine) (fails : Fails) (said : Said) (new : Doubted) → GoodDoubted d → DoubtsAlike d → AllKnown (Unit {0}) d.world line
+    ensures links { (d : Doubted) (line : ScriptLine) (fails : Fails) (said : Said) (new : Doubted) → GoodDoubted d → DoubtsAlike d → AllKnown (Unit {0}) d
         → LinksOver (Unit {0}) d line fails said new → (i : ℕ) → IsMade (d.world.nodes i) → is_over_rvg (d.world.nodes i) ≡ true → FitsNoted (d.world.nodes i)
         → FitsNoted (new.world.nodes i) }
     ensures gained { (d : Doubted) (line : ScriptLine) (s : ℕ) (fails : Fails) (said : Said) (new : Doubted) → MayGain d.world.sites line s (d.world.nodes s)

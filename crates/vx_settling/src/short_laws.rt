@@ -9,7 +9,7 @@ ghost use Rattle.vx_events.specs.GroupNotes.{note_at};
 ghost use Rattle.vx_events.specs.RvgFits.{FitsNoted};
 ghost use Rattle.vx_events.specs.RvgParts.{RvgShort};
 ghost use Rattle.vx_events.specs.RvgViews.{is_over_rvg};
-ghost use Rattle.vx_settling.specs.Brights.{AllBright};
+ghost use Rattle.vx_events.specs.Brights.{AllBright};
 ghost use Rattle.vx_settling.specs.Gains.{MayGain};
 
 /// What want of memory leaves of a recovery or an import where a group of disks has a replicated volume group, or of a line that makes one: a good world stays good, each
