@@ -45,8 +45,9 @@ fn lacks(core: &RvgCore, link: &Link) -> bool
 {
     // Numbers are above 0.
     let _ring = core.ring();
-    if goes_by_log(&link.mode) && link.attached {
-        return core.low() - 1 > link.stored;
+    let low = core.low();
+    if goes_by_log(&link.mode) && link.attached && low - 1 > link.stored {
+        return true;
     }
     false
 }

@@ -1,6 +1,7 @@
 // What a site sends on a link, out of its log.
-ghost use Rattle.std.specs.Prelude.{◌≡◌, ◌≤◌, ◌+◌, ◌&&◌, ℕ, List, None, IfErr, OnErr, OnOk, Some, IsTrue, slice_get, true};
+ghost use Rattle.std.specs.Prelude.{◌≡◌, ◌≤◌, ◌+◌, ◌&&◌, ℕ, List, None, IfErr, OnErr, OnOk, Some, IsTrue, slice_get, false, true};
 ghost use Rattle.vx_courier.specs.UnderWay.{FlightStands};
+ghost use Rattle.vx_events.specs.GroupLines.{is_over_group};
 ghost use Rattle.vx_model.specs.declared.site.SiteState.TheVariants.{Up as UpState};
 ghost use Rattle.vx_model.specs.Sites.{is_origin};
 ghost use Rattle.vx_history.specs.Admission.{is_live_link};
@@ -99,10 +100,10 @@ impl<R: Rack> DiskSet<R> {
         site: u32,
         flight: &mut N,
     ) -> Result<(), Stop>
-        ensures pumped { (d : Doubted) (k : ℕ) → SiteStands (beside_of d site) (d.world.nodes site) self.old → is_origin (d.world.nodes site).role ≡ true → (d.world.nodes site).state ≡ UpState → (d.world.nodes site).halted ≡ None → IsToldAt self.old
+        ensures pumped { (d : Doubted) (k : ℕ) → SiteStands (beside_of d site) (d.world.nodes site) self.old → is_origin (d.world.nodes site).role ≡ true → (d.world.nodes site).state ≡ UpState → is_over_group (d.world.nodes site) ≡ false → (d.world.nodes site).halted ≡ None → IsToldAt self.old
             → slice_get (header_links d.world site) k ≡ Some (kept_link link.old.site (d.world.links site link.old.site)) → link.old ≡ plain_link link.old.site (d.world.links site link.old.site) → FlightStands d.world.packets (N.flying flight.old)
             → PumpedIs d.world site link.old.site link.new (N.flying flight.new) (faults_at self.old) (faults_at self.new) result }
-        ensures stops { (beside : KeptBeside) (n : Node) → SiteStands beside n self.old → is_origin n.role ≡ true → n.state ≡ UpState → n.halted ≡ None → IfErr result (PumpStop n (pump_asks link.old n.safe) (faults_at self.old) (faults_at self.new)) }
+        ensures stops { (beside : KeptBeside) (n : Node) → SiteStands beside n self.old → is_origin n.role ≡ true → n.state ≡ UpState → is_over_group n ≡ false → n.halted ≡ None → IfErr result (PumpStop n (pump_asks link.old n.safe) (faults_at self.old) (faults_at self.new)) }
         ensures stands { (beside : KeptBeside) (n : Node) → SiteStands beside n self.old → SiteStands beside n self.new }
         ensures more { (beside : KeptBeside) (n : Node) → SiteStands beside n self.old
             → OnOk result (SendsBy (pump_asks link.old n.safe) (way_from site link.old.site n.line) (N.flying flight.old) (N.flying flight.new)) }

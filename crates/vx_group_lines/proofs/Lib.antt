@@ -51,3 +51,4 @@ pub mod BelowAt
 pub mod BelowMissed
 pub mod BelowUp
 pub mod BelowOff
+pub mod BelowDone

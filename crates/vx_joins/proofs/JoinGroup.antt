@@ -36,6 +36,7 @@ use Rattle.vx_diskset.specs.Layouts.{LiesOn}
 use Rattle.vx_diskset.specs.Needs.{TakesAs}
 use Rattle.vx_diskset.specs.Stands.{IsHeldAt, IsReceiverAt, IsUpAt}
 use Rattle.vx_diskset.proofs.BesideLemmas.{never_besides, site_sure}
+use Rattle.vx_diskset.proofs.Blamed.{disks_are}
 use Rattle.vx_diskset.proofs.Laying.{lies_moved}
 use Rattle.vx_diskset.proofs.LastWrites.{stands_with}
 use Rattle.vx_diskset.proofs.LogDisks.{log_disk}
@@ -250,7 +251,7 @@ module _ {beside : KeptBeside} (a : Node) (p : ℕ) (n : Node) (c c' : Core) (m 
     by_fault d (Device disk) units log blames fails = (
       join_halted disk (fails.0.units ∙ units) (fails.0.ring ∙ ap (λ (l : Log). l.ring) log) (fails.0.header ∙ ap (λ (l : Log). l.header) log) (fails.0.held ∙ ap (λ (l : Log). l.held) log) fails.0.halted_is,
       fails.1,
-      log_disk n c m disk up.units place rack blames,
+      log_disk n c m disk up.units place (λ none. disks_are m rack) blames,
     )
     by_fault d IsOff units log blames fails = absurd (never_both new.down fails.1 still)
     by_fault d (Limit what most) units log blames fails = absurd fails

@@ -74,7 +74,7 @@ returns-in-Ok-clause-leads g c = λ d stands off carries.
     ⊎_elim
     (λ tells.
     let moved = moved_named d old p q s c.link_named.result.link c.pump.new.link c.pump.new.flight asks
-    (c.in-Ok.ensures.pumped d asks.place stood asks.origin asks.up asks.running ((was tells).each s before at) asks.kept asks.link_is carries.flight) in
+    (c.in-Ok.ensures.pumped d asks.place stood asks.origin asks.up asks.seat.apart asks.running ((was tells).each s before at) asks.kept asks.link_is carries.flight) in
     pump_brings d old _ s before after stands carries asks.seat.below (record { there = at; later = c.in-Ok.ensures.later; disk_sets = refl; racks = refl }) (c.in-Ok.ensures.still (raw_site (beside_of d s) (d.world.nodes s) before none stood)) c.in-Ok.ensures.stands c.in-Ok.ensures.role none
     (record { assemblies = refl; feeders = refl }) was p q c.keep_pumped.new.sites (c.keep_pumped.ensures.world d.world c.pump.new.flight (c.deref_mut.ensures.value ∙ stands.facts) moved.link moved.flight) items)
     (λ untold.
@@ -101,10 +101,10 @@ returns-in-Err-clause-leads g c = λ d stands off carries.
     let none = none_seat d old p s stands c.site_of-here.ensures.seat asks.seat.apart off in
     let was = told_before es s before after at c.in-Err.ensures.later in
     pump_stops d old _ s before after stands carries asks.seat.below (record { there = at; later = c.in-Err.ensures.later; disk_sets = refl; racks = refl }) (c.in-Err.ensures.still (raw_site (beside_of d s) (d.world.nodes s) before none stood)) c.in-Err.ensures.stands c.in-Err.ensures.role none
-    (record { assemblies = refl; feeders = refl }) was p q c.pump.new.flight c.in-Err.stop c.stopped.result (subst (λ (a : Action). PumpStop (d.world.nodes s) a (faults_at before) (faults_at after) c.in-Err.stop) (asked_named d old p q s c.link_named.result.link asks) (c.in-Err.ensures.stops (beside_of d s) (d.world.nodes s) stood asks.origin asks.up asks.running))
+    (record { assemblies = refl; feeders = refl }) was p q c.pump.new.flight c.in-Err.stop c.stopped.result (subst (λ (a : Action). PumpStop (d.world.nodes s) a (faults_at before) (faults_at after) c.in-Err.stop) (asked_named d old p q s c.link_named.result.link asks) (c.in-Err.ensures.stops (beside_of d s) (d.world.nodes s) stood asks.origin asks.up asks.seat.apart asks.running))
     (λ why same other tells.
     pump_told d.world s c.link_named.result.link.site c.pump.new.link c.pump.new.flight (faults_at before) (faults_at after) c.in-Err.stop
-    (c.in-Err.ensures.pumped d asks.place stood asks.origin asks.up asks.running ((was tells).each s before at) asks.kept asks.link_is carries.flight) why same other)
+    (c.in-Err.ensures.pumped d asks.place stood asks.origin asks.up asks.seat.apart asks.running ((was tells).each s before at) asks.kept asks.link_is carries.flight) why same other)
     c.stopped.ensures asks.seat.number refl refl c.in-Err.ensures.unsent
 
 pub returns-in-Ok-clause-asked : goal.returns-in-Ok-clause-asked
@@ -169,4 +169,4 @@ returns-in-Err-clause-called g c = λ d stands off.
     let stood = stands.disk_sets.sites s before asks.seat.below at in
     let none = none_seat d old p s stands c.site_of-here.ensures.seat asks.seat.apart off in
     pump_stopped s old _ before after at refl (c.in-Err.ensures.still (raw_site (beside_of d s) (d.world.nodes s) before none stood)) (d.world.nodes s) (pump_asks c.link_named.result.link (d.world.nodes s).safe) (faults_at before) (faults_at after) (site_number d.world p) c.in-Err.stop c.stopped.result asks.seat.number
-    (c.in-Err.ensures.stops (beside_of d s) (d.world.nodes s) stood asks.origin asks.up asks.running) c.stopped.ensures
+    (c.in-Err.ensures.stops (beside_of d s) (d.world.nodes s) stood asks.origin asks.up asks.seat.apart asks.running) c.stopped.ensures

@@ -14,7 +14,7 @@ use Rattle.vx_diskset.proofs.disk_set.DiskSet.pump.Goals as goal
 use Rattle.vx_diskset.proofs.RawSets.{up_there}
 
 pub returns-in-Up-clause-stops : goal.returns-in-Up-clause-stops
-returns-in-Up-clause-stops g c = λ beside n stands origin state none.
+returns-in-Up-clause-stops g c = λ beside n stands origin state apart none.
     let is_rack = (g.met.R.Rack g.world.𝓛 g.world.𝓜 g.world.𝓡 ((λ s x. x), (λ x. x), (λ x. x), λ x. x)).rack in
     subst (λ e. IfErr c.pump_group.result (PumpStop n (pump_asks c.args.link.now n.safe) (faults_at e) (faults_at (Up c.pump_group.new.rvg)))) (sym c.in-Up.is)
     (c.pump_group.ensures.stops beside n (up_there beside n c.args.self.now c.in-Up.rvg c.in-Up.is stands).1 none (λ raw. disks_are (g.R.Shelf.meaning c.in-Up.rvg.shelf) (is_rack c.in-Up.rvg.shelf)))
@@ -23,13 +23,13 @@ pub returns-in-Up-clause-notes : goal.returns-in-Up-clause-notes
 returns-in-Up-clause-notes g c = notes_raw c.args.self.now _ (subst (λ e. IsRawSet e) (sym c.in-Up.is) tt)
 
 pub returns-in-Over-clause-pumped : goal.returns-in-Over-clause-pumped
-returns-in-Over-clause-pumped g c = λ d k stands origin up none told there is flight.
+returns-in-Over-clause-pumped g c = λ d k stands origin up apart none told there is flight.
     let site = c.args.site in
     subst (λ e. PumpedIs d.world site c.args.link.now.site c.pump.new.link (g.N.Net.flying c.pump.new.flight) (faults_at e) (faults_at (Over c.pump.new.self)) c.pump.result) (sym c.in-Over.is)
     (c.pump.ensures.pumped d k (subst (λ e. SiteStands (beside_of d site) (d.world.nodes site) e) c.in-Over.is stands) origin up none (subst (λ e. IsToldAt e) c.in-Over.is told) there is flight)
 
 pub returns-in-Over-clause-stops : goal.returns-in-Over-clause-stops
-returns-in-Over-clause-stops g c = λ beside n stands origin up none.
+returns-in-Over-clause-stops g c = λ beside n stands origin up apart none.
     subst (λ e. IfErr c.pump.result (PumpStop n (pump_asks c.args.link.now n.safe) (faults_at e) (faults_at (Over c.pump.new.self)))) (sym c.in-Over.is)
     (c.pump.ensures.stops beside n (subst (λ e. SiteStands beside n e) c.in-Over.is stands) origin up none)
 

@@ -25,3 +25,27 @@ returns-then-lacks-clause-works g c = founded_none c.args.self.core c.args.self.
 
 pub send_asked-requires-clause-held : goal.send_asked-requires-clause-held
 send_asked-requires-clause-held g c = c.lacks.ensures.held c.if-lacks.false
+
+pub returns-clause-stops : goal.returns-clause-stops
+returns-clause-stops g c = c.send_asked.ensures.stops
+
+pub returns-clause-stands : goal.returns-clause-stands
+returns-clause-stands g c = c.send_asked.ensures.stands
+
+pub returns-clause-more : goal.returns-clause-more
+returns-clause-more g c = c.send_asked.ensures.more
+
+pub returns-clause-rule : goal.returns-clause-rule
+returns-clause-rule g c = c.send_asked.ensures.rule
+
+pub returns-clause-link : goal.returns-clause-link
+returns-clause-link g c = c.send_asked.ensures.link
+
+pub returns-clause-unsent : goal.returns-clause-unsent
+returns-clause-unsent g c = c.send_asked.ensures.unsent
+
+pub returns-clause-down : goal.returns-clause-down
+returns-clause-down g c = c.send_asked.ensures.down
+
+pub returns-clause-works : goal.returns-clause-works
+returns-clause-works g c = c.send_asked.ensures.works
