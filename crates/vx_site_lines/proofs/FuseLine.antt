@@ -1,5 +1,5 @@
 -- What a line leaves that sets the fuse of a site.
-use Rattle.std.proofs.Common.{◌≡◌, ◌∙◌, ℕ, true, false, List, [], ap, sym, subst, refl, Some}
+use Rattle.std.proofs.Common.{◌≡◌, ◌∙◌, ◌<◌, ℕ, true, false, List, [], ap, sym, subst, refl, Some}
 use Rattle.vx_history.specs.Steps.{fused}
 use Rattle.vx_history.specs.World.{Node, FuseSet}
 use Rattle.vx_model.specs.declared.site.SiteState.TheVariants.{Up as IsUp}

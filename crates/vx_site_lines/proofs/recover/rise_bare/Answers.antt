@@ -1,5 +1,5 @@
 -- A bare site whose disks may be a raw set starts what an earlier run left on them, and else is refused.
-use Rattle.std.proofs.Common.{◌∙◌, ◌-◌, ap, refl, rules, subst, sym}
+use Rattle.std.proofs.Common.{◌≡◌, ◌∙◌, ◌-◌, ap, refl, rules, subst, sym}
 use Rattle.std.specs.Prelude.{map}
 use Rattle.std.proofs.lemmas.Result.{err_from_is_err_and}
 use Rattle.vx_history.specs.Steps.{raw_volumes}
