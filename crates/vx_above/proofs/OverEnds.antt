@@ -59,7 +59,7 @@ use Rattle.vx_above.proofs.Tables.{table_again}
 
 module _ {R : Type 0} {g : Ghosts R} where
   -- what a rack tells is told of its disks, where it is known what they hold
-  lit_on : (k : Node) (note : GroupNode) (e : GroupSite R g) → NotedOn k note e → note.dark ≡ false → IsTrue (site_below e).tells → IsTrue (site_disks e).tells
+  pub lit_on : (k : Node) (note : GroupNode) (e : GroupSite R g) → NotedOn k note e → note.dark ≡ false → IsTrue (site_below e).tells → IsTrue (site_disks e).tells
   lit_on k note (GroupUp laid) it known told = it.lit known told
   lit_on k note (GroupAway idle) it known told = it.lit known told
   lit_on k note (GroupDown idle) it known told = it.lit known told

@@ -104,3 +104,18 @@ module _ {R : Type 0} {g : Ghosts R} where
 
   pub overs_kept : (before after : DiskSet R g) (set next : OverSet R g) → before ≡ Over set → after ≡ Over next → OversKept before after → KeepsOver set next
   overs_kept before after set next was is it = subst (λ (x : DiskSet R g). OversKept (Over set) x) is (subst (λ (x : DiskSet R g). OversKept x after) was it)
+
+  over_each : (P Q : GroupSite R g → Type 0) → ((x : GroupSite R g) → P x → Q x) → (e : DiskSet R g) → AtOver P e → AtOver Q e
+  over_each P Q f (Bare rack) it = absurd it
+  over_each P Q f (Spoiled rack) it = absurd it
+  over_each P Q f (RaisedSet rvg) it = absurd it
+  over_each P Q f (Receives s) it = absurd it
+  over_each P Q f (DownSet rack) it = absurd it
+  over_each P Q f (OfGroup s) it = absurd it
+  over_each P Q f (Over s) it = f (site_in s) it
+  over_each P Q f GoneSet it = absurd it
+
+  pub over_map : (P Q : GroupSite R g → GroupSite R g → Type 0) → ((o e : GroupSite R g) → P o e → Q o e) → (before after : DiskSet R g) (set : OverSet R g) → before ≡ Over set → OnSites P before after → OnSites Q before after
+  over_map P Q f before after set is it =
+      subst (λ (x : DiskSet R g). OnSites Q x after) (sym is)
+      (over_each (P (site_in set)) (Q (site_in set)) (λ e. f (site_in set) e) after (subst (λ (x : DiskSet R g). OnSites P x after) is it))

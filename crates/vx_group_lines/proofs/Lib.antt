@@ -52,3 +52,5 @@ pub mod BelowMissed
 pub mod BelowUp
 pub mod BelowOff
 pub mod BelowDone
+pub mod BelowDetach
+pub mod BelowAttach

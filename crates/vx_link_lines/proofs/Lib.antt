@@ -28,6 +28,7 @@ pub mod NotedWorked
 pub mod NotedYard
 pub mod OverGroups
 pub mod PartLine
+pub mod PumpAbove
 pub mod PumpCalls
 pub mod PumpLine
 pub mod RawParts

@@ -22,9 +22,10 @@ use Rattle.vx_yard.proofs.ChangeSite.{told_before}
 use Rattle.vx_link_lines.proofs.Deaf.{all_told}
 use Rattle.vx_yard.proofs.Lists.{get_at}
 use Rattle.vx_yard.proofs.NamedSite.{asks_at}
-use Rattle.vx_yard.proofs.RawSites.{raw_site}
+use Rattle.vx_yard.proofs.RawSites.{raw_site, raw_told}
 use Rattle.vx_link_lines.proofs.PumpLine.{asked_named, moved_named, pump_brings, pump_finds, pump_stops, pump_told, pumped_named, pumping, sent_named}
-use Rattle.vx_link_lines.proofs.RawParts.{none_seat}
+use Rattle.vx_link_lines.proofs.PumpAbove.{known_or, pump_brings_above, pump_finds_above, pump_stops_above, told_above}
+use Rattle.vx_link_lines.proofs.RawParts.{named_over, none_seat}
 use Rattle.vx_link_lines.proofs.pump.pump_line.Goals as goal
 
 pub site_of-here-requires-clause-named : goal.site_of-here-requires-clause-named
@@ -74,7 +75,7 @@ returns-in-Ok-clause-leads g c = λ d stands off carries.
     ⊎_elim
     (λ tells.
     let moved = moved_named d old p q s c.link_named.result.link c.pump.new.link c.pump.new.flight asks
-    (c.in-Ok.ensures.pumped d asks.place stood asks.origin asks.up asks.seat.apart asks.running ((was tells).each s before at) asks.kept asks.link_is carries.flight) in
+    (c.in-Ok.ensures.pumped d asks.place stood asks.origin asks.up asks.seat.apart asks.running (raw_told before (raw_site (beside_of d s) (d.world.nodes s) before none stood) ((was tells).each s before at)) asks.kept asks.link_is carries.flight) in
     pump_brings d old _ s before after stands carries asks.seat.below (record { there = at; later = c.in-Ok.ensures.later; disk_sets = refl; racks = refl }) (c.in-Ok.ensures.still (raw_site (beside_of d s) (d.world.nodes s) before none stood)) c.in-Ok.ensures.stands c.in-Ok.ensures.role none
     (record { assemblies = refl; feeders = refl }) was p q c.keep_pumped.new.sites (c.keep_pumped.ensures.world d.world c.pump.new.flight (c.deref_mut.ensures.value ∙ stands.facts) moved.link moved.flight) items)
     (λ untold.
@@ -104,8 +105,62 @@ returns-in-Err-clause-leads g c = λ d stands off carries.
     (record { assemblies = refl; feeders = refl }) was p q c.pump.new.flight c.in-Err.stop c.stopped.result (subst (λ (a : Action). PumpStop (d.world.nodes s) a (faults_at before) (faults_at after) c.in-Err.stop) (asked_named d old p q s c.link_named.result.link asks) (c.in-Err.ensures.stops (beside_of d s) (d.world.nodes s) stood asks.origin asks.up asks.seat.apart asks.running))
     (λ why same other tells.
     pump_told d.world s c.link_named.result.link.site c.pump.new.link c.pump.new.flight (faults_at before) (faults_at after) c.in-Err.stop
-    (c.in-Err.ensures.pumped d asks.place stood asks.origin asks.up asks.seat.apart asks.running ((was tells).each s before at) asks.kept asks.link_is carries.flight) why same other)
+    (c.in-Err.ensures.pumped d asks.place stood asks.origin asks.up asks.seat.apart asks.running (raw_told before (raw_site (beside_of d s) (d.world.nodes s) before none stood) ((was tells).each s before at)) asks.kept asks.link_is carries.flight) why same other)
     c.stopped.ensures asks.seat.number refl refl c.in-Err.ensures.unsent
+
+pub returns-in-Ok-clause-above : goal.returns-in-Ok-clause-above
+returns-in-Ok-clause-above g c = λ d stands over carries.
+    let old = c.args.yard.now in
+    let es = old.disk_sets.items in
+    let s = c.site_of-here.result in
+    let p = c.args.first.now in
+    let q = c.args.second.now in
+    let before = c.index_mut.result.now in
+    let after = c.pump.new.self in
+    let at = get_at es s before c.site_of-here.ensures.disk_set c.index_mut.ensures.value in
+    let there = found old.facts.items p q (pump_tested old.facts.items p q (in_files old, c.requires.free)) in
+    let asks = pumping d old p q s c.deref.result.now c.link_named.result stands c.requires.free c.site_of-here.ensures.seat c.deref.ensures.value c.link_named.ensures.link
+    (subst (λ fs. FoundLink fs p q) (sym c.deref.ensures.value) there) in
+    let stood = stands.disk_sets.sites s before asks.seat.below at in
+    let rvg = named_over d old p s stands c.site_of-here.ensures.seat over in
+    let was = told_before es s before after at c.in-Ok.ensures.later in
+    let items = with_items_is old.facts c.keep_pumped.new.sites (c.keep_pumped.auto.sites ∙ c.deref_mut.ensures.len) in
+    ⊎_elim
+    (λ known.
+    let moved = moved_named d old p q s c.link_named.result.link c.pump.new.link c.pump.new.flight asks
+    (c.in-Ok.ensures.pumped d asks.place stood asks.origin asks.up asks.seat.apart asks.running (told_above d old _ p q s asks.seat.number stands asks.seat.below rvg asks.up (record { assemblies = refl; feeders = refl }) was before at known) asks.kept asks.link_is carries.flight) in
+    pump_brings_above d old _ p q s asks.seat.number stands asks.seat.below rvg asks.up (record { assemblies = refl; feeders = refl }) was before after (record { there = at; later = c.in-Ok.ensures.later; disk_sets = refl; racks = refl }) c.in-Ok.ensures.role
+    c.in-Ok.ensures.notes c.in-Ok.ensures.stands c.keep_pumped.new.sites (c.keep_pumped.ensures.world d.world c.pump.new.flight (c.deref_mut.ensures.value ∙ stands.facts) moved.link moved.flight) items)
+    (λ untold.
+    pump_finds_above d old _ p q s asks.seat.number stands asks.seat.below rvg asks.up (record { assemblies = refl; feeders = refl }) was before after (record { there = at; later = c.in-Ok.ensures.later; disk_sets = refl; racks = refl }) c.in-Ok.ensures.role
+    c.in-Ok.ensures.notes c.in-Ok.ensures.stands c.keep_pumped.new.sites untold
+    (sent_named d old p q s c.link_named.result.link old.flight c.pump.new.flight asks (c.in-Ok.ensures.more (beside_of d s) (d.world.nodes s) stood))
+    (c.keep_pumped.ensures.facts d.world (c.deref_mut.ensures.value ∙ stands.facts) (pumped_named d old p q s c.link_named.result.link c.pump.new.link asks (c.in-Ok.ensures.rule (beside_of d s) (d.world.nodes s) stood))) items)
+    (known_or d old _ p q s asks.seat.number stands asks.seat.below rvg asks.up (record { assemblies = refl; feeders = refl }) was (all_told (slice_set es s after)))
+
+pub returns-in-Err-clause-above : goal.returns-in-Err-clause-above
+returns-in-Err-clause-above g c = λ d stands over carries.
+    let old = c.args.yard.now in
+    let es = old.disk_sets.items in
+    let s = c.site_of-here.result in
+    let p = c.args.first.now in
+    let q = c.args.second.now in
+    let before = c.index_mut.result.now in
+    let after = c.pump.new.self in
+    let at = get_at es s before c.site_of-here.ensures.disk_set c.index_mut.ensures.value in
+    let there = found old.facts.items p q (pump_tested old.facts.items p q (in_files old, c.requires.free)) in
+    let asks = pumping d old p q s c.deref.result.now c.link_named.result stands c.requires.free c.site_of-here.ensures.seat c.deref.ensures.value c.link_named.ensures.link
+    (subst (λ fs. FoundLink fs p q) (sym c.deref.ensures.value) there) in
+    let stood = stands.disk_sets.sites s before asks.seat.below at in
+    let rvg = named_over d old p s stands c.site_of-here.ensures.seat over in
+    let was = told_before es s before after at c.in-Err.ensures.later in
+    pump_stops_above d old _ p q s asks.seat.number stands asks.seat.below rvg asks.up (record { assemblies = refl; feeders = refl }) was before after (record { there = at; later = c.in-Err.ensures.later; disk_sets = refl; racks = refl }) c.in-Err.ensures.role
+    c.in-Err.ensures.notes c.in-Err.ensures.stands c.pump.new.flight c.in-Err.stop c.stopped.result
+    (subst (λ (a : Action). PumpStop (d.world.nodes s) a (faults_at before) (faults_at after) c.in-Err.stop) (asked_named d old p q s c.link_named.result.link asks) (c.in-Err.ensures.stops (beside_of d s) (d.world.nodes s) stood asks.origin asks.up asks.seat.apart asks.running))
+    (λ why same other known.
+    pump_told d.world s c.link_named.result.link.site c.pump.new.link c.pump.new.flight (faults_at before) (faults_at after) c.in-Err.stop
+    (c.in-Err.ensures.pumped d asks.place stood asks.origin asks.up asks.seat.apart asks.running (told_above d old _ p q s asks.seat.number stands asks.seat.below rvg asks.up (record { assemblies = refl; feeders = refl }) was before at known) asks.kept asks.link_is carries.flight) why same other)
+    c.stopped.ensures refl refl c.in-Err.ensures.unsent
 
 pub returns-in-Ok-clause-asked : goal.returns-in-Ok-clause-asked
 returns-in-Ok-clause-asked g c = λ d stands off.
