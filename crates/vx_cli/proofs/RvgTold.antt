@@ -137,12 +137,12 @@ module _ {T U : Type 0} (f : U → T) where
     calls = x.calls;
   }
     where
-      all : AllKnown U d → AllKnown T d
+      all : AllKnown U d.world → AllKnown T d.world
       all known = (f known.0, known.1)
 
   beside_told : (d : Doubted) (line : ScriptLine) (fails : Fails) (said : Said) (new : Doubted) → WorksBeside T d line fails said new → WorksBeside U d line fails said new
   beside_told d line fails said new (AsBefore works found) =
-      AsBefore (works_told (λ (u : told_for U d line). for_more f d (is_of_links line) u) (is_for_group d.world line) d line fails said new works) found
+      AsBefore (works_told (λ (u : told_for U d.world line). for_more f d.world (is_of_links line) u) (is_for_group d.world line) d line fails said new works) found
   beside_told d line fails said new (Gained x) = Gained (came_told d line (group_place d.world line) fails said new x)
   beside_told d line fails said new (FoundOne x) = FoundOne (found_told d line (group_place d.world line) fails said new x)
 

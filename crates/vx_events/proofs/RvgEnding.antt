@@ -316,10 +316,10 @@ each_like line w next v = record {
   gathering = λ i. refl;
 }
 
-pub links_over_stop : (told : Type 0) (d : Doubted) (line : ScriptLine) (fails : Fails) (said : Said) (new : Doubted) → AllKnown told d
+pub links_over_stop : (told : Type 0) (d : Doubted) (line : ScriptLine) (fails : Fails) (said : Said) (new : Doubted) → AllKnown told d.world
     → LinksOver told d line fails said new → RvgStops d new
 links_over_stop told d line fails said new known h =
-    let stops = link_stops (AllKnown told d) known d line h.ending said h.middle h.ends in
+    let stops = link_stops (AllKnown told d.world) known d line h.ending said h.middle h.ends in
     record {
       before = d;
       like = same_doubted d;

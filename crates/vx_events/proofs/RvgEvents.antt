@@ -34,11 +34,11 @@ use Rattle.vx_events.specs.declared.said.Said.{Said}
 use Rattle.vx_events.proofs.Tolds.{told_now}
 
 -- imports agree of the site of a line that brings a group up, or it is known what its disks hold
-agrees_at : (d : Doubted) (line : ScriptLine) (v : World) → AgreeFor d line v → BringsUp line
-    → AgreesOr (note_at (d.world.nodes (rvg_place d.world line))) (note_at (v.nodes (rvg_place d.world line)))
-agrees_at d (GroupImport site) v all brings = all.agree tt
-agrees_at d (Recover site) v all brings = all.agree tt
-agrees_at d other v all brings = absurd brings
+agrees_at : (w : World) (line : ScriptLine) (v : World) → AgreeFor w line v → BringsUp line
+    → AgreesOr (note_at (w.nodes (rvg_place w line))) (note_at (v.nodes (rvg_place w line)))
+agrees_at w (GroupImport site) v all brings = all.agree tt
+agrees_at w (Recover site) v all brings = all.agree tt
+agrees_at w other v all brings = absurd brings
 
 -- a site with a replicated volume group is over no group without one
 apart_of : (group : Bool) (none : Bool) → (group && not none) ≡ true → (group && none) ≡ false
@@ -93,29 +93,29 @@ module _ (told : Type 0) (is_told : told) (files : Bool) (d : Doubted) (fails : 
   before_stops false line is free (inr kept) = absurd (kept.untold is_told)
 
 module _ (told : Type 0) (is_told : told) (files : Bool) (d : Doubted) (fails : Fails) (said : Said) (new : Doubted) where
-  beside_stops : (line : ScriptLine) → AgreeFor d line new.world → refused_over d.world files line ≡ None → WorksBeside told d line fails said new → RvgStops d new
+  beside_stops : (line : ScriptLine) → AgreeFor d.world line new.world → refused_over d.world files line ≡ None → WorksBeside told d line fails said new → RvgStops d new
   beside_stops line all free (AsBefore works found) =
-      before_stops (told_for told d line) (told_now told is_told d all.known (is_of_links line)) files d fails said new (is_for_group d.world line) line refl free works
+      before_stops (told_for told d.world line) (told_now told is_told d.world all.known (is_of_links line)) files d fails said new (is_for_group d.world line) line refl free works
   beside_stops line all free (Gained back) = back_stops told d line (group_place d.world line) fails said new back
   beside_stops line all free (FoundOne finds) =
       let s : ℕ = group_place d.world line in
-      finds_stops told is_told d s (all.known.sites s) fails said new line (all.agree (brings_found told d line s fails said new finds)) finds
+      finds_stops told is_told d s (all.known s) fails said new line (all.agree (brings_found told d line s fails said new finds)) finds
 
-  above_stops : (links above : Bool) (line : ScriptLine) → AgreeFor d line new.world → is_for_rvg d.world line ≡ above → refused_over d.world files line ≡ None
+  above_stops : (links above : Bool) (line : ScriptLine) → AgreeFor d.world line new.world → is_for_rvg d.world line ≡ above → refused_over d.world files line ≡ None
       → WorksAbove links above told d line fails said new → RvgStops d new
   above_stops true above line all is free ends = links_over_stop told d line fails said new (is_told, all.known) ends
   above_stops false true line all is free ends =
       let s : ℕ = rvg_place d.world line in
-      over_rvg_stops told is_told d s (all.known.sites s) fails said new line (agrees_at d line new.world all) (opens_above told is_told files d fails said new line is free) ends
+      over_rvg_stops told is_told d s (all.known s) fails said new line (agrees_at d.world line new.world all) (opens_above told is_told files d fails said new line is free) ends
   above_stops false false line all is free ends = beside_stops line all free ends
 
-  full_stops : (line : ScriptLine) → AgreeFor d line new.world → refused_over d.world files line ≡ None → WorksFull told d line fails said new → RvgStops d new
+  full_stops : (line : ScriptLine) → AgreeFor d.world line new.world → refused_over d.world files line ≡ None → WorksFull told d line fails said new → RvgStops d new
   full_stops (Rvg site srl maps volumes) all free ends = rvg_stops told d (Rvg site srl maps volumes) (site_number d.world site) fails said new ends
   full_stops other all free ends = above_stops (links_rvg d.world other) (is_for_rvg d.world other) other all refl free ends
 
-  by_refusal : (line : ScriptLine) (o : Option No) → AgreeFor d line new.world → refused_over d.world files line ≡ o → FullBy o told d line fails said new → RvgStops d new
+  by_refusal : (line : ScriptLine) (o : Option No) → AgreeFor d.world line new.world → refused_over d.world files line ≡ o → FullBy o told d line fails said new → RvgStops d new
   by_refusal line (Some why) all is step = refused_stops told is_told files d fails said new why step
   by_refusal line None all is step = full_stops line all is step
 
-  pub step_stops : (line : ScriptLine) → AgreeFor d line new.world → StepFull told files d line fails said new → RvgStops d new
+  pub step_stops : (line : ScriptLine) → AgreeFor d.world line new.world → StepFull told files d line fails said new → RvgStops d new
   step_stops line all step = by_refusal line (refused_over d.world files line) all refl step

@@ -13,7 +13,7 @@ use Rattle.vx_events.specs.Fails.{Fails}
 use Rattle.vx_events.specs.GroupEnds.{BringsUp}
 use Rattle.vx_events.specs.RvgBack.{FindsNoRvg, FindsPlain, FindsRvg, GroupCutOff, GroupHeld, GroupUnfound, KeptLost, LogCut, LogFails, LogLacks, RvgBack, RvgFinds, RvgUp}
 use Rattle.vx_events.specs.RvgLinks.{links_rvg, rvg_target}
-use Rattle.vx_events.specs.Brights.{AllBright, told_for}
+use Rattle.vx_events.specs.Brights.{SitesBright, told_for}
 use Rattle.vx_events.specs.Lines.{is_of_links}
 use Rattle.vx_events.proofs.Tolds.{told_less, told_now, works_told}
 use Rattle.vx_events.specs.RvgSteps.{AsBefore, FoundOne, FoundPlain, FullBy, Gained, HasNoRvgs, MakesNoRvg, StepFull, WorksAbove, WorksBeside, WorksFull, is_for_rvg}
@@ -94,15 +94,15 @@ module _ (told : Type 0) (files : Bool) (d : Doubted) (none : HasNoRvgs d.world)
       → FullBy o told d line fails said new
   over_by line makes found (Some why) step = step
   over_by line makes found None step =
-      beside_full line makes (AsBefore (works_told (λ (t : told_for told d line). told_less told d (is_of_links line) t) (is_for_group d.world line) d line fails said new step) found)
+      beside_full line makes (AsBefore (works_told (λ (t : told_for told d.world line). told_less told d.world (is_of_links line) t) (is_for_group d.world line) d line fails said new step) found)
 
-  plain_by : (line : ScriptLine) → AllBright d → MakesNoRvg line → (BringsUp line → ⊥) → (o : Option No) → FullBy o told d line fails said new
+  plain_by : (line : ScriptLine) → SitesBright d.world → MakesNoRvg line → (BringsUp line → ⊥) → (o : Option No) → FullBy o told d line fails said new
       → OverBy o (is_for_group d.world line) told d line fails said new
   plain_by line known makes quiet (Some why) step = step
   plain_by line known makes quiet None step = before (full_beside line makes step)
     where
       before : WorksBeside told d line fails said new → WorksOver (is_for_group d.world line) told d line fails said new
-      before (AsBefore works found) = works_told (λ (t : told). told_now told t d known (is_of_links line)) (is_for_group d.world line) d line fails said new works
+      before (AsBefore works found) = works_told (λ (t : told). told_now told t d.world known (is_of_links line)) (is_for_group d.world line) d line fails said new works
       before (Gained back) = absurd (quiet (brings_back told d line (group_place d.world line) fails said new back))
       before (FoundOne finds) = absurd (quiet (brings_found told d line (group_place d.world line) fails said new finds))
 
@@ -110,5 +110,5 @@ module _ (told : Type 0) (files : Bool) (d : Doubted) (none : HasNoRvgs d.world)
       → StepFull told files d line fails said new
   full_over line makes found step = over_by line makes found (refused_over d.world files line) step
 
-  pub over_full : (line : ScriptLine) → AllBright d → MakesNoRvg line → (BringsUp line → ⊥) → StepFull told files d line fails said new → StepOver told files d line fails said new
+  pub over_full : (line : ScriptLine) → SitesBright d.world → MakesNoRvg line → (BringsUp line → ⊥) → StepFull told files d line fails said new → StepOver told files d line fails said new
   over_full line known makes quiet step = plain_by line known makes quiet (refused_over d.world files line) step

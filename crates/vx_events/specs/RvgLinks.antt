@@ -101,7 +101,7 @@ pub record LinksOver (told : Type 0) (d : Doubted) (line : ScriptLine) (fails : 
   pub split : fails ≡ borne ++ ending
   pub bears : AreBorneThere d.world line borne
   pub middle : Doubted
-  pub ends : LinkEnds (AllKnown told d) d line ending said middle
+  pub ends : LinkEnds (AllKnown told d.world) d line ending said middle
   pub next : ℕ → GroupNode
   pub notes : (i : ℕ) → is_over_rvg (d.world.nodes i) ≡ true → NotesThere (works_at d.world line i) (FuseRanOut (d.world.nodes i) said) i fails (note_at (d.world.nodes i)) (next i)
   pub left : IsAs middle (noting_each line d.world next middle.world) new

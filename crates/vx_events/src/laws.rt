@@ -25,7 +25,7 @@ ghost use Rattle.vx_events.specs.RvgFits.{FitsNoted, FitsSome, MayGetRvg, NoteKe
 ghost use Rattle.vx_events.specs.RvgBack.{RvgBack};
 ghost use Rattle.vx_events.specs.RvgWorks.{AgreesOr, FuseRanOut, NoneFailed, NoteAgrees};
 ghost use Rattle.vx_events.specs.declared.said.Said.TheVariants.{Done as SaysDone};
-ghost use Rattle.vx_events.specs.Brights.{AllBright, AllKnown};
+ghost use Rattle.vx_events.specs.Brights.{AllKnown, SitesBright};
 ghost use Rattle.vx_events.specs.RvgLinks.{LinksOver};
 ghost use Rattle.vx_events.specs.RvgMakes.{MakesRvg, RvgStops};
 ghost use Rattle.vx_events.specs.RvgOver.{OpensFor, OverRvg};
@@ -130,7 +130,7 @@ pub fn lines_over_rvgs_are_events()
     ensures over { (d : Doubted) (line : ScriptLine) (s : ℕ) (fails : Fails) (said : Said) (new : Doubted) → OpensFor d.world line
         → (note_at (d.world.nodes s)).dark ≡ false → (BringsUp line → AgreesOr (note_at (d.world.nodes s)) (note_at (new.world.nodes s))) → OverRvg (Unit {0}) d line s fails said new
         → RvgStops d new }
-    ensures links { (d : Doubted) (line : ScriptLine) (fails : Fails) (said : Said) (new : Doubted) → AllKnown (Unit {0}) d
+    ensures links { (d : Doubted) (line : ScriptLine) (fails : Fails) (said : Said) (new : Doubted) → AllKnown (Unit {0}) d.world
         → LinksOver (Unit {0}) d line fails said new → RvgStops d new }
 {}
 
@@ -179,7 +179,7 @@ pub fn steps_over_groups()
 /// world do, where it is known what the disks of groups hold, and imports agree of a group that the line brings up, or it is known behind the line too what its disks
 /// hold.
 pub fn full_lines_are_events()
-    ensures { (files : Bool) (d : Doubted) (line : ScriptLine) (fails : Fails) (said : Said) (new : Doubted) → AgreeFor d line new.world
+    ensures { (files : Bool) (d : Doubted) (line : ScriptLine) (fails : Fails) (said : Said) (new : Doubted) → AgreeFor d.world line new.world
         → StepFull (Unit {0}) files d line fails said new → RvgStops d new }
 {}
 
@@ -188,7 +188,7 @@ pub fn full_lines_are_events()
 pub fn steps_over_rvgs()
     ensures full { (tells files : Bool) (d : Doubted) (line : ScriptLine) (fails : Fails) (said : Said) (new : Doubted) → HasNoRvgs d.world → MakesNoRvg line
         → FoundPlain line (group_place d.world line) new → StepOver (IsTrue tells) files d line fails said new → StepFull (IsTrue tells) files d line fails said new }
-    ensures over { (tells files : Bool) (d : Doubted) (line : ScriptLine) (fails : Fails) (said : Said) (new : Doubted) → AllBright d → HasNoRvgs d.world → MakesNoRvg line
+    ensures over { (tells files : Bool) (d : Doubted) (line : ScriptLine) (fails : Fails) (said : Said) (new : Doubted) → SitesBright d.world → HasNoRvgs d.world → MakesNoRvg line
         → (BringsUp line → ⊥) → StepFull (IsTrue tells) files d line fails said new → StepOver (IsTrue tells) files d line fails said new }
 {}
 

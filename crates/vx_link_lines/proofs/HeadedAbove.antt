@@ -62,7 +62,7 @@ module _ {R : Type 0} {g : Ghosts R} (d : Doubted) (e : Event) (s : ℕ) (m : No
   start = noted_by (note_one s) d
 
   abbrev known : Type 0
-  known = AllKnown (IsTold new) d
+  known = AllKnown (IsTold new) d.world
 
   -- by what the site comes to from the world with its fuse noted
   reached : (to : Doubted) (k : Node) (p : OverSet R g) → Moves start to s k old new (Over p) → Reaches d to s k (Over p)

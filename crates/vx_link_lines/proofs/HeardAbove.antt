@@ -98,7 +98,7 @@ module _ {R : Type 0} {g : Ghosts R} (d : Doubted) (number : ℕ) (p : Packet) (
   -- what a call leads a yard to, by what the site comes to
   abbrev StillAt : (old new : Yard R g) → Said → DiskSet R g → DiskSet R g → Type 0
   StillAt old new said before after =
-      Changed old new s before after → NotesOn before after → Moves start to s (worked n) old new after → LinkEnds (AllKnown (IsTold new) d) d line [] said to → LeadsLinked d line said old new
+      Changed old new s before after → NotesOn before after → Moves start to s (worked n) old new after → LinkEnds (AllKnown (IsTold new) d.world) d line [] said to → LeadsLinked d line said old new
 
   still_over : (old new : Yard R g) (said : Said) (o p : OverSet R g) → StandsFor d old → s < d.world.sites → is_over_rvg (d.world.nodes s) ≡ true → n.state ≡ IsUp → StillAt old new said (Over o) (Over p)
   still_over old new said o e stands below over up changed notes moves ends =
@@ -130,7 +130,7 @@ module _ {R : Type 0} {g : Ghosts R} (d : Doubted) (number : ℕ) (p : Packet) (
         fails = [];
         works = links_still line d s over (works_target d number p at) (works_apart d number p at) to
             (λ i apart. (unheard_changes d number p y e at stands below there is).nodes i apart ∙ updated_other d.world.nodes s i (worked n) apart) (unheard_node d number p y e at stands below there is) (IsTold y) Ignored
-            (works_still s [] (FuseRanOut n Ignored) (note_at n) config.0 config.1) (unheard_ends d number p y e at stands below there is (AllKnown (IsTold y) d)) tt tt;
+            (works_still s [] (FuseRanOut n Ignored) (note_at n) config.0 config.1) (unheard_ends d number p y e at stands below there is (AllKnown (IsTold y) d.world)) tt tt;
         stands = unheard_stands d number p y e at stands below there is;
         carries = λ carries. unheard_carries d number p y e at stands below there is (carries_noted d y s carries);
         rose = rose_none (count_of y) (count_of y) (λ k u. omega arith);
@@ -156,8 +156,8 @@ module _ {R : Type 0} {g : Ghosts R} (d : Doubted) (number : ℕ) (p : Packet) (
     role = heard_role d number p at answers old new before after stands below changed keeps opens alone
 
     module _ (a : Assembled) (said : EventSaid) (h : Heard d number p at answers old new before after stands below changed keeps opens alone a said) where
-      ends : LinkEnds (AllKnown (IsTold new) d) d line [] (reply_of said) to
-      ends = heard_ends d number p at answers old new before after stands below changed keeps opens alone a said h (AllKnown (IsTold new) d)
+      ends : LinkEnds (AllKnown (IsTold new) d.world) d line [] (reply_of said) to
+      ends = heard_ends d number p at answers old new before after stands below changed keeps opens alone a said h (AllKnown (IsTold new) d.world)
 
       -- a header was written
       wrote : ltb (d.world.links s p.source).stored (o.world.links s p.source).stored ≡ true → StoresAt (beside_of d s) n true ls after → LeadsLinked d line (reply_of said) old new

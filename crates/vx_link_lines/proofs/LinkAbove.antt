@@ -115,7 +115,7 @@ module _ (line : ScriptLine) (d : Doubted) (s : ℕ) (over : is_over_rvg (d.worl
           (cases_eq i s)
 
       -- some failed calls of the site were borne, and by the others the line ended
-      pub links_over : (borne ending : Fails) → fails ≡ borne ++ ending → AreOf s borne → LinkEnds (AllKnown told d) d line ending said middle → NeedsLogs d.world line said → NeedsPasses d.world line said
+      pub links_over : (borne ending : Fails) → fails ≡ borne ++ ending → AreOf s borne → LinkEnds (AllKnown told d.world) d line ending said middle → NeedsLogs d.world line said → NeedsPasses d.world line said
           → LinksOver told d line fails said over_world
       links_over borne ending split of ends logs passes = record {
         borne = borne;
@@ -152,7 +152,7 @@ module _ (line : ScriptLine) (d : Doubted) (s : ℕ) (over : is_over_rvg (d.worl
       ap (λ (k : Node). record middle { world = with_node middle.world s k }) (subst (λ (k : Node). noted_there d.world line s kept k ≡ k) (sym node) worked_there)
       ∙ ap (λ (f : ℕ → Node). record middle { world = record middle.world { nodes = f } }) (fun_ext (λ i. updated_self middle.world.nodes s i))
 
-  pub links_still : (told : Type 0) (said : Said) → NotesWork (FuseRanOut (d.world.nodes s) said) s [] (note_at (d.world.nodes s)) (note_at (d.world.nodes s)) → LinkEnds (AllKnown told d) d line [] said middle
+  pub links_still : (told : Type 0) (said : Said) → NotesWork (FuseRanOut (d.world.nodes s) said) s [] (note_at (d.world.nodes s)) (note_at (d.world.nodes s)) → LinkEnds (AllKnown told d.world) d line [] said middle
       → NeedsLogs d.world line said → NeedsPasses d.world line said → LinksOver told d line [] said middle
   links_still told said worked ends logs passes =
       subst (λ (x : Doubted). LinksOver told d line [] said x) world_same (links_over line d s over works others middle same kept told [] said worked [] [] refl tt ends logs passes)

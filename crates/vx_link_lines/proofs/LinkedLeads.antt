@@ -68,8 +68,8 @@ module _ {R : Type 0} {g : Ghosts R} (d : Doubted) (old new : Yard R g) (s : ℕ
   next = call_note d old new s o p call
 
   -- of the site it is known what its disks hold
-  pub told_linked : m.state ≡ IsUp → AllKnown (IsTold new) d → IsToldAt (Over p)
-  told_linked up known = told_up d old new s o p call middle m reach stays up (known.0, known.1.sites s)
+  pub told_linked : m.state ≡ IsUp → AllKnown (IsTold new) d.world → IsToldAt (Over p)
+  told_linked up known = told_up d old new s o p call middle m reach stays up (known.0, known.1 s)
 
   was_over : is_over_rvg m ≡ true
   was_over = over_again n m note call.over (stays.group ∙ note_is n call.over) stays.volumes
@@ -116,7 +116,7 @@ module _ {R : Type 0} {g : Ghosts R} (d : Doubted) (old new : Yard R g) (s : ℕ
     carries_note : Carries d old → Carries left new
     carries_note carries = carries_over middle s m next fuse new reach.here (carried carries)
 
-    leads_linked : (said : Said) (borne ending fails : Fails) → fails ≡ borne ++ ending → AreOf s borne → LinkEnds (AllKnown (IsTold new) d) d line ending said middle → NotesWork (FuseRanOut n said) s fails note next
+    leads_linked : (said : Said) (borne ending fails : Fails) → fails ≡ borne ++ ending → AreOf s borne → LinkEnds (AllKnown (IsTold new) d.world) d line ending said middle → NotesWork (FuseRanOut n said) s fails note next
         → NeedsLogs d.world line said → NeedsPasses d.world line said → Comes d left s (Over p) → NotedAt (left.world.nodes s) (Over p) → RoseAll fails (count_of old) (count_of new) → LeadsLinked d line said old new
     leads_linked said borne ending fails split bears ends worked logs passes comes noted rose = record {
       next = left;
@@ -140,27 +140,27 @@ module _ {R : Type 0} {g : Ghosts R} (d : Doubted) (old new : Yard R g) (s : ℕ
       abbrev extra : ℕ
       extra = up_extra d old new s o p call agrees
 
-      up_leads : (borne ending fails : Fails) → fails ≡ borne ++ ending → AreOf s borne → LinkEnds (AllKnown (IsTold new) d) d line ending said middle → NotesWork (FuseRanOut n said) s fails note next
+      up_leads : (borne ending fails : Fails) → fails ≡ borne ++ ending → AreOf s borne → LinkEnds (AllKnown (IsTold new) d.world) d line ending said middle → NotesWork (FuseRanOut n said) s fails note next
           → RoseAll fails (count_of old) (count_of new) → LeadsLinked d line said old new
       up_leads borne ending fails split bears ends worked rose =
           leads_linked (burned n.fuse) burnt said borne ending fails split bears ends worked logs passes
           (comes_up d old new s o p call middle m reach stays up on off) (noted_up d old new s o p call middle m reach stays up) rose
 
       -- no call ended the line
-      pub linked_done : LinkEnds (AllKnown (IsTold new) d) d line [] said middle → LeadsLinked d line said old new
+      pub linked_done : LinkEnds (AllKnown (IsTold new) d.world) d line [] said middle → LeadsLinked d line said old new
       linked_done ends =
           let fails : Fails = done_calls d old new s o p call extra in
           up_leads fails [] fails (sym (append-nil fails)) (done_are d old new s o p call extra) ends (done_up d old new s o p call agrees (FuseRanOut n said)) (done_rose d old new s o p call extra)
 
       -- one on this disk did
-      pub linked_halts : (disk : ℕ) → Rose ((site_disks (site_in o)).disk_faults disk) ((site_disks (site_in p)).disk_faults disk) → LinkEnds (AllKnown (IsTold new) d) d line ((s, disk) ∷ []) said middle → LeadsLinked d line said old new
+      pub linked_halts : (disk : ℕ) → Rose ((site_disks (site_in o)).disk_faults disk) ((site_disks (site_in p)).disk_faults disk) → LinkEnds (AllKnown (IsTold new) d.world) d line ((s, disk) ∷ []) said middle → LeadsLinked d line said old new
       linked_halts disk rose ends =
           let borne : Fails = borne_calls d old new s o p call disk rose extra in
           up_leads borne ((s, disk) ∷ []) (borne ++ (s, disk) ∷ []) refl (borne_are d old new s o p call disk rose extra) ends (ended_up d old new s o p call disk rose agrees (FuseRanOut n said))
           (ended_rose d old new s o p call disk rose extra)
 
     -- its fuse ran out
-    pub linked_off : m.state ≡ IsDown → m.fuse ≡ NoFuse → burnt_over n.fuse m.fuse ≡ NoFuse → said ≡ Refused IsOff → LinkEnds (AllKnown (IsTold new) d) d line [] said middle → LeadsLinked d line said old new
+    pub linked_off : m.state ≡ IsDown → m.fuse ≡ NoFuse → burnt_over n.fuse m.fuse ≡ NoFuse → said ≡ Refused IsOff → LinkEnds (AllKnown (IsTold new) d.world) d line [] said middle → LeadsLinked d line said old new
     linked_off down unfused burnt is ends =
         let fails : Fails = done_calls d old new s o p call 0 in
         leads_linked NoFuse burnt said fails [] fails (sym (append-nil fails)) (done_are d old new s o p call 0) ends

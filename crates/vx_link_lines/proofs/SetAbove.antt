@@ -103,7 +103,7 @@ module _ {R : Type 0} {g : Ghosts R} (d : Doubted) (old : Yard R g) (first secon
       (set_here d old first second sync free_prot s q before stands free seat seat_too at).below over_here Done before after changed notes (role_like n (restated n state) after (ap is_origin h.role) kind)
       (answered_keep CrashedAt (beside_of d s) (worked n) state before after (Ok tt) is) facts
       (kept_carries (note_one s) s (notes_one s) d event state h old new (λ told. told_by old new s before after changed told) load)
-      (set_ends d old first second sync free_prot s q before stands free seat seat_too at (AllKnown (IsTold new) d) prot) (logs Done) (passes Done)
+      (set_ends d old first second sync free_prot s q before stands free seat seat_too at (AllKnown (IsTold new) d.world) prot) (logs Done) (passes Done)
 
   -- it was refused
   pub set_denied : (why : No) (said : Said) (x x' : SiteFacts) → said ≡ Refused why → KeptAt (beside_of d s) (worked n) state before after (Err why) → slice_get old.facts.items s ≡ Some x → x' ≡ noted_facts why x

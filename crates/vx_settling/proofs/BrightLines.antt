@@ -250,7 +250,7 @@ module _ (told : Type 0) (tells : told) (d : Doubted) (b : AllBright d) (fails :
 
   each_bright : (line : ScriptLine) → LinksOver told d line fails said new → AllBright new
   each_bright line h =
-      let middle : AllBright h.middle = links_bright (AllKnown told d) (tells, b) d line h.ending said h.middle b h.ends in
+      let middle : AllBright h.middle = links_bright (AllKnown told d.world) (tells, b.sites) d line h.ending said h.middle b h.ends in
       as_bright h.middle (noting_each line d.world h.next h.middle.world) new h.left
       (λ i. by_test IsBright (is_over_rvg (d.world.nodes i)) (noted_there d.world line i (h.next i) (h.middle.world.nodes i)) (h.middle.world.nodes i)
       (λ over. there_bright (works_at d.world line i) (FuseRanOut (d.world.nodes i) said) i fails (note_at (d.world.nodes i)) (h.next i) (b.sites i) (h.notes i over)) (λ _. middle.sites i)) middle
@@ -261,14 +261,14 @@ module _ (told : Type 0) (tells : told) (d : Doubted) (b : AllBright d) (fails :
       → WorksBeside told d line fails said new → AllBright new
   beside_bright line held agree (AsBefore works found) = by_group (is_for_group d.world line) works
     where
-      now : told_for told d line
-      now = told_now told tells d b (is_of_links line)
+      now : told_for told d.world line
+      now = told_now told tells d.world b.sites (is_of_links line)
 
-      by_group : (group : Bool) → WorksOver group (told_for told d line) d line fails said new → AllBright new
+      by_group : (group : Bool) → WorksOver group (told_for told d.world line) d line fails said new → AllBright new
       by_group true ends =
           let s : ℕ = group_place d.world line in
-          group_bright d b fails said new (told_for told d line) line s held (group_known (told_for told d line) now d line s fails said new ends (b.sites s) (dim line s agree held)) ends
-      by_group false (inl step) = by_kind (told_for told d line) now (is_of_links line) d line fails said new b step.ends
+          group_bright d b fails said new (told_for told d.world line) line s held (group_known (told_for told d.world line) now d line s fails said new ends (b.sites s) (dim line s agree held)) ends
+      by_group false (inl step) = by_kind (told_for told d.world line) now (is_of_links line) d line fails said new b step.ends
       by_group false (inr kept) = absurd (kept.untold now)
   beside_bright line held agree (Gained back) =
       let s : ℕ = group_place d.world line in

@@ -407,7 +407,7 @@ module _ (i : ℕ) (o : Option GroupNode) where
 
       each_notes : (line : ScriptLine) → may_note d.world line i ≡ false → works_at d.world line i ≡ false → LinksOver told d line fails said new → HasNote i o new
       each_notes line off rests h =
-          let middle : HasNote i o h.middle = links_notes (AllKnown told d) line h.ending said h.middle off h.ends in
+          let middle : HasNote i o h.middle = links_notes (AllKnown told d.world) line h.ending said h.middle off h.ends in
           OtherNotes.as_notes i o h.middle (noting_each line d.world h.next h.middle.world) new h.left
           (by_test (λ (m : Node). m.group ≡ o) (is_over_rvg (d.world.nodes i)) (noted_there d.world line i (h.next i) (h.middle.world.nodes i)) (h.middle.world.nodes i)
           (λ over. kept_note (works_at d.world line i) (FuseRanOut (d.world.nodes i) said) (h.next i) rests over (h.notes i over)) (λ _. middle.note)) middle
@@ -417,11 +417,11 @@ module _ (i : ℕ) (o : Option GroupNode) where
       beside_notes : (line : ScriptLine) → may_note d.world line i ≡ false → WorksBeside told d line fails said new → HasNote i o new
       beside_notes line off (AsBefore works found) = by_group (is_for_group d.world line) refl works
         where
-          by_group : (group : Bool) → is_for_group d.world line ≡ group → WorksOver group (told_for told d line) d line fails said new → HasNote i o new
-          by_group true is ends = group_notes d x (told_for told d line) fails said new line (group_place d.world line) (group_apart d.world line i off is) ends
-          by_group false is (inl step) = by_kind (told_for told d line) (is_of_links line) line fails said new off step.ends
+          by_group : (group : Bool) → is_for_group d.world line ≡ group → WorksOver group (told_for told d.world line) d line fails said new → HasNote i o new
+          by_group true is ends = group_notes d x (told_for told d.world line) fails said new line (group_place d.world line) (group_apart d.world line i off is) ends
+          by_group false is (inl step) = by_kind (told_for told d.world line) (is_of_links line) line fails said new off step.ends
           by_group false is (inr kept) =
-              group_notes d x (told_for told d line) fails said new line (group_place d.world line) (brings_apart d.world line i off (subst BringsUp (sym kept.recovers) tt)) kept.ends
+              group_notes d x (told_for told d.world line) fails said new line (group_place d.world line) (brings_apart d.world line i off (subst BringsUp (sym kept.recovers) tt)) kept.ends
       beside_notes line off (Gained back) =
           let s : ℕ = group_place d.world line in
           rises_notes line s (brings_apart d.world line i off (brings_back told d line s fails said new back)) back

@@ -119,7 +119,7 @@ module _ (told : Type 0) (tells : told) (d : Doubted) (good : GoodDoubted d) (al
       by (inl stops) (inr finds) = finds_fits s made over fits still finds
       by (inr finds) keeps = finds_fits s made over fits still finds
 
-  pub links_fit : AllKnown told d → LinksOver told d line fails said new → (i : ℕ) → IsMade (d.world.nodes i) → is_over_rvg (d.world.nodes i) ≡ true
+  pub links_fit : AllKnown told d.world → LinksOver told d line fails said new → (i : ℕ) → IsMade (d.world.nodes i) → is_over_rvg (d.world.nodes i) ≡ true
       → FitsNoted (d.world.nodes i) → FitsNoted (new.world.nodes i)
   links_fit known ends i made over fits =
       stopped_fits i made over (links_over_stop told d line fails said new known ends) (links_stay told d line fails said new ends i over) fits

@@ -22,7 +22,7 @@ ghost use Rattle.vx_settling.specs.Gains.{MayGain};
 /// However a line ends over groups of disks, with replicated volume groups or without, where it is known what they hold, and imports agree of a group that it brings
 /// up, or it is known behind it too what its disks hold: a good world stays good, whichever of the sites that are in doubt are as they may be on their disks.
 pub fn full_lines_stay_good()
-    ensures { (files : Bool) (d : Doubted) (line : ScriptLine) (fails : Fails) (said : Said) (new : Doubted) → GoodDoubted d → AgreeFor d line new.world
+    ensures { (files : Bool) (d : Doubted) (line : ScriptLine) (fails : Fails) (said : Said) (new : Doubted) → GoodDoubted d → AgreeFor d.world line new.world
         → StepFull (Unit {0}) files d line fails said new → GoodDoubted new }
 {}
 
@@ -39,13 +39,13 @@ pub fn full_lines_stay_known()
 /// found on disks that may not agree, and behind one of links. So has a site without one of which a recovery or an import finds that it has one, also where its log did not
 /// come up, and where nothing was known of the disks.
 pub fn rvgs_stay_fit()
-    ensures rooms { (files : Bool) (d : Doubted) (line : ScriptLine) (fails : Fails) (said : Said) (new : Doubted) → GoodDoubted d → DoubtsAlike d → AgreeFor d line new.world
+    ensures rooms { (files : Bool) (d : Doubted) (line : ScriptLine) (fails : Fails) (said : Said) (new : Doubted) → GoodDoubted d → DoubtsAlike d → AgreeFor d.world line new.world
         → StepFull (Unit {0}) files d line fails said new → RoomStays d new }
     ensures over { (d : Doubted) (line : ScriptLine) (s : ℕ) (fails : Fails) (said : Said) (new : Doubted) → GoodDoubted d → DoubtsAlike d → IsMade (d.world.nodes s)
         → is_over_rvg (d.world.nodes s) ≡ true → OpensFor d.world line → (note_at (d.world.nodes s)).dark ≡ false
         → OverRvg (Unit {0}) d line s fails said new → FitsNoted (d.world.nodes s)
         → is_over_rvg (new.world.nodes s) ≡ true → FitsNoted (new.world.nodes s) }
-    ensures links { (d : Doubted) (line : ScriptLine) (fails : Fails) (said : Said) (new : Doubted) → GoodDoubted d → DoubtsAlike d → AllKnown (Unit {0}) d
+    ensures links { (d : Doubted) (line : ScriptLine) (fails : Fails) (said : Said) (new : Doubted) → GoodDoubted d → DoubtsAlike d → AllKnown (Unit {0}) d.world
         → LinksOver (Unit {0}) d line fails said new → (i : ℕ) → IsMade (d.world.nodes i) → is_over_rvg (d.world.nodes i) ≡ true → FitsNoted (d.world.nodes i)
         → FitsNoted (new.world.nodes i) }
     ensures gained { (d : Doubted) (line : ScriptLine) (s : ℕ) (fails : Fails) (said : Said) (new : Doubted) → MayGain d.world.sites line s (d.world.nodes s)

@@ -102,7 +102,7 @@ module _ {R : Type 0} {g : Ghosts R} where
   pub record Leads (d : Doubted) (line : ScriptLine) (said : Said) (old new : Yard R g) : Type 0 where
     pub next : Doubted
     pub fails : Fails
-    pub done : IsDoneLine (told_for (IsTold new) d line) d line fails said next
+    pub done : IsDoneLine (told_for (IsTold new) d.world line) d line fails said next
     pub stands : StandsFor next new
     pub carries : Carries d old → Carries next new
     pub rose : RoseAll fails (count_of old) (count_of new)
