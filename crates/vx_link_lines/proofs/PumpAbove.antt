@@ -47,7 +47,8 @@ use Rattle.vx_events.specs.GroupNotes.{note_at}
 use Rattle.vx_events.specs.LinkEnds.{LinkEnds}
 use Rattle.vx_events.specs.LinkFinds.{FindsOther, IsUnreadable, SendsOther, pumped_with}
 use Rattle.vx_events.specs.LinksFit.{LinksFit}
-use Rattle.vx_events.specs.RvgLinks.{AllKnown, LinksOver, fuse_there, noted_there, works_at}
+use Rattle.vx_events.specs.Brights.{AllKnown}
+use Rattle.vx_events.specs.RvgLinks.{LinksOver, fuse_there, noted_there, works_at}
 use Rattle.vx_events.specs.RvgViews.{is_over_rvg, over_table}
 use Rattle.vx_events.specs.RvgWorks.{FuseRanOut, NotesWork}
 use Rattle.vx_events.specs.StepsOver.{fact_over, facts_over}
@@ -102,27 +103,21 @@ module _ {R : Type 0} {g : Ghosts R} (d : Doubted) (old new : Yard R g) (p q : L
   others i apart = other_number i (site_number d.world p) (λ is. apart (is ∙ number))
 
   -- contents are told, and it is known what the disks of the site hold, or not
-  pub known_or : (IsTold new) ⊎ (IsTold new → ⊥) → AllKnown (IsTold new) d.world (Pump p q) ⊎ (AllKnown (IsTold new) d.world (Pump p q) → ⊥)
+  pub known_or : (IsTold new) ⊎ (IsTold new → ⊥) → (IsTold new × ((note_at (d.world.nodes s)).dark ≡ false)) ⊎ (AllKnown (IsTold new) d → ⊥)
   known_or (inr never) = inr (λ known. never known.0)
   known_or (inl tells) = by note.dark refl
     where
-      by : (b : Bool) → note.dark ≡ b → AllKnown (IsTold new) d.world (Pump p q) ⊎ (AllKnown (IsTold new) d.world (Pump p q) → ⊥)
-      by true dark = inr (λ known. both_ways dark (known.1 s works))
-      by false bright = inl (
-        tells,
-        λ i there. ⊎_elim
-            (λ (at : i ≡ s). subst (λ (j : ℕ). (note_at (d.world.nodes j)).dark ≡ false) (sym at) bright)
-            (λ apart. absurd (both_ways there (others i apart)))
-            (cases_eq i s),
-      )
+      by : (b : Bool) → note.dark ≡ b → (IsTold new × (note.dark ≡ false)) ⊎ (AllKnown (IsTold new) d → ⊥)
+      by true dark = inr (λ known. both_ways dark (known.1.sites s))
+      by false bright = inl (tells, bright)
 
   -- then contents of the disks were told before the pump
-  pub told_above : (before : DiskSet R g) → slice_get old.disk_sets.items s ≡ Some before → AllKnown (IsTold new) d.world (Pump p q) → IsToldAt before
+  pub told_above : (before : DiskSet R g) → slice_get old.disk_sets.items s ≡ Some before → IsTold new × ((note_at (d.world.nodes s)).dark ≡ false) → IsToldAt before
   told_above before there known =
       let was : OverIs before = over_set (beside_of d s) n before (stands.disk_sets.sites s before below there) over in
       let noted = site_noted d old s was.set stands below (there ∙ ap (λ (x : DiskSet R g). Some x) was.is) over in
       subst (λ (x : DiskSet R g). IsToldAt x) (sym was.is)
-      (lit_on (below_rvg n) note (site_in was.set) noted.0 (known.1 s works) (subst (λ (x : DiskSet R g). IsRackTold x) was.is ((told known.0).each s before there)))
+      (lit_on (below_rvg n) note (site_in was.set) noted.0 known.1 (subst (λ (x : DiskSet R g). IsRackTold x) was.is ((told known.0).each s before there)))
 
   module _ (o e : OverSet R g) (changed : Changed old new s (Over o) (Over e)) (notes : NotesOn (Over o) (Over e)) (kind : RoleIs (d.world.nodes s) (Over e)) (on : SiteStands (beside_of d s) (d.world.nodes s) (Over e)) where
     call : OverCall d old mid s o e
@@ -219,7 +214,7 @@ module _ {R : Type 0} {g : Ghosts R} (d : Doubted) (old new : Yard R g) (p q : L
           ∙ ap (λ (b : Bool). noted_node n next (fuse_there b n.fuse n.fuse)) works
           ∙ ap (λ (f : Fuse). noted_node n next f) (lit_still n.fuse)
 
-      pumped_leads : (said : Said) (borne ending fails : Fails) → fails ≡ borne ++ ending → AreOf s borne → LinkEnds (AllKnown (IsTold new) d.world line) d line ending said behind → NotesWork (FuseRanOut n said) s fails note next
+      pumped_leads : (said : Said) (borne ending fails : Fails) → fails ≡ borne ++ ending → AreOf s borne → LinkEnds (AllKnown (IsTold new) d) d line ending said behind → NotesWork (FuseRanOut n said) s fails note next
           → RoseAll fails (count_of old) (count_of new) → LeadsLinked d line said old new
       pumped_leads said borne ending fails split of ends worked rose = record {
         next = left;
@@ -238,13 +233,13 @@ module _ {R : Type 0} {g : Ghosts R} (d : Doubted) (old new : Yard R g) (p q : L
       extra = up_extra d old mid s o e call agrees
 
       -- no call ended it
-      over_pumped : (said : Said) → LinkEnds (AllKnown (IsTold new) d.world line) d line [] said behind → LeadsLinked d line said old new
+      over_pumped : (said : Said) → LinkEnds (AllKnown (IsTold new) d) d line [] said behind → LeadsLinked d line said old new
       over_pumped said ends =
           let fails : Fails = done_calls d old mid s o e call extra in
           pumped_leads said fails [] fails (sym (append-nil fails)) (done_are d old mid s o e call extra) ends (done_up d old mid s o e call agrees (FuseRanOut n said)) (done_rose d old mid s o e call extra)
 
       -- one on this disk did
-      over_unread : (disk : ℕ) → Rose ((site_disks (site_in o)).disk_faults disk) ((site_disks (site_in e)).disk_faults disk) → (said : Said) → LinkEnds (AllKnown (IsTold new) d.world line) d line ((s, disk) ∷ []) said behind
+      over_unread : (disk : ℕ) → Rose ((site_disks (site_in o)).disk_faults disk) ((site_disks (site_in e)).disk_faults disk) → (said : Said) → LinkEnds (AllKnown (IsTold new) d) d line ((s, disk) ∷ []) said behind
           → LeadsLinked d line said old new
       over_unread disk rose said ends =
           let borne : Fails = borne_calls d old mid s o e call disk rose extra in
@@ -275,10 +270,10 @@ module _ {R : Type 0} {g : Ghosts R} (d : Doubted) (old new : Yard R g) (p q : L
         by_over (λ x y. LeadsLinked d line Done old new)
         (λ o e changes moves kind there.
         over_pumped o e changes moves kind there (step d.world (PumpAt a b)).world (pump_leaves d.world a b) (fit_happened d (PumpAt a b) false tt stands.links) sends.0 sends.1 (facts ∙ comes.stands.facts)
-        (λ carries. comes.stands.flight) Done (pump_done (AllKnown (IsTold new) d.world line) d p q comes.said).ends)
+        (λ carries. comes.stands.flight) Done (pump_done (AllKnown (IsTold new) d) d p q comes.said).ends)
 
     -- it was done over disks that tell nothing, or of which it is not known what they hold
-    pub pump_finds_above : (fs : List SiteFacts) → (AllKnown (IsTold new) d.world (Pump p q) → ⊥) → (more : AnySent d.world (site_number d.world p) (site_number d.world q) old.flight new.flight)
+    pub pump_finds_above : (fs : List SiteFacts) → (AllKnown (IsTold new) d → ⊥) → (more : AnySent d.world (site_number d.world p) (site_number d.world q) old.flight new.flight)
         → fs ≡ facts_over (step d.world (PumpAt (site_number d.world p) (site_number d.world q))).world → new.facts.items ≡ fs → LeadsLinked d (Pump p q) Done old new
     pump_finds_above fs untold more comes facts =
         let a : ℕ = site_number d.world p in
@@ -290,18 +285,18 @@ module _ {R : Type 0} {g : Ghosts R} (d : Doubted) (old new : Yard R g) (p q : L
         (λ o e changes moves kind there.
         over_pumped o e changes moves kind there v (record { sites = by.sites; nodes = by.nodes; kept = by.kept; headers = by.headers; gathering = by.gathering })
         (fit_finds d line [] Done (record d { world = v }) finds stands.links) more.packets refl (facts ∙ comes) (λ carries. more.flies d.world.packets carries.flight) Done
-        (pump_other (AllKnown (IsTold new) d.world line) d p q more.packets more.asked untold).ends)
+        (pump_other (AllKnown (IsTold new) d) d p q more.packets more.asked untold).ends)
 
     -- a read of the log failed, or nothing could be read
     pub pump_refused_above : (f : Flying) (why : No) → PumpStop (d.world.nodes s) (link_step d.world (site_number d.world p) (site_number d.world q) PumpLink).action (faults_at before) (faults_at after) (RefusedSo why)
-        → (IsUnreadable why → AllKnown (IsTold new) d.world (Pump p q) → ⊥) → new.facts.items ≡ old.facts.items → new.flight ≡ f → f ≡ old.flight → LeadsLinked d (Pump p q) (Refused why) old new
+        → (IsUnreadable why → AllKnown (IsTold new) d → ⊥) → new.facts.items ≡ old.facts.items → new.flight ≡ f → f ≡ old.flight → LeadsLinked d (Pump p q) (Refused why) old new
     pump_refused_above f (Device disk) stopped untold facts flight still =
         by_over (λ x y. Rose (faults_at x disk) (faults_at y disk) → LeadsLinked d line (Refused (Device disk)) old new)
         (λ o e changes moves kind there rose.
         over_unread o e changes moves kind there d.world unmoved stands.links [] (sym (append-nil d.world.packets)) (facts ∙ stands.facts)
         (λ carries. subst (λ (x : Flying). FlightStands d.world.packets x) (sym (flight ∙ still)) carries.flight) disk rose (Refused (Device disk))
-        (subst (λ (i : ℕ). LinkEnds (AllKnown (IsTold new) d.world line) d line ((i, disk) ∷ []) (Refused (Device disk)) d) number
-        (pump_unread (AllKnown (IsTold new) d.world line) d p q disk stopped.1 (subst (λ (i : ℕ). IsLogDisk (d.world.nodes i) disk) (sym number) stopped.2)).ends)) stopped.0
+        (subst (λ (i : ℕ). LinkEnds (AllKnown (IsTold new) d) d line ((i, disk) ∷ []) (Refused (Device disk)) d) number
+        (pump_unread (AllKnown (IsTold new) d) d p q disk stopped.1 (subst (λ (i : ℕ). IsLogDisk (d.world.nodes i) disk) (sym number) stopped.2)).ends)) stopped.0
       where
         unmoved : LeavesDisks d.world d.world
         unmoved = record { sites = refl; nodes = λ i. refl; kept = λ i. refl; headers = λ i. refl; gathering = λ i. refl }
@@ -310,13 +305,13 @@ module _ {R : Type 0} {g : Ghosts R} (d : Doubted) (old new : Yard R g) (p q : L
         (λ o e changes moves kind there.
         over_pumped o e changes moves kind there d.world unmoved stands.links [] (sym (append-nil d.world.packets)) (facts ∙ stands.facts)
         (λ carries. subst (λ (x : Flying). FlightStands d.world.packets x) (sym (flight ∙ still)) carries.flight) (Refused other)
-        (pump_none (AllKnown (IsTold new) d.world line) d p q other (untold stopped) stopped).ends)
+        (pump_none (AllKnown (IsTold new) d) d p q other (untold stopped) stopped).ends)
       where
         unmoved : LeavesDisks d.world d.world
         unmoved = record { sites = refl; nodes = λ i. refl; kept = λ i. refl; headers = λ i. refl; gathering = λ i. refl }
 
     pub pump_stops_above : (f : Flying) (stop : Stop) (r : Result Said OutOfMemory) → PumpStop (d.world.nodes s) (link_step d.world (site_number d.world p) (site_number d.world q) PumpLink).action (faults_at before) (faults_at after) stop
-        → ((why : No) → stop ≡ RefusedSo why → IsUnreadable why → AllKnown (IsTold new) d.world (Pump p q) → ⊥) → r ≡ reply_to stop → new.facts.items ≡ old.facts.items → new.flight ≡ f → f ≡ old.flight
+        → ((why : No) → stop ≡ RefusedSo why → IsUnreadable why → AllKnown (IsTold new) d → ⊥) → r ≡ reply_to stop → new.facts.items ≡ old.facts.items → new.flight ≡ f → f ≡ old.flight
         → IfOk r (λ said. LeadsLinked d (Pump p q) said old new)
     pump_stops_above f MemoryStop r stopped untold is facts flight still = subst (λ (x : Result Said OutOfMemory). IfOk x (λ said. LeadsLinked d (Pump p q) said old new)) (sym is) tt
     pump_stops_above f (RefusedSo why) r stopped untold is facts flight still =

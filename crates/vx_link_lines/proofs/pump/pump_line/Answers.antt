@@ -159,7 +159,7 @@ returns-in-Err-clause-above g c = λ d stands over carries.
     (subst (λ (a : Action). PumpStop (d.world.nodes s) a (faults_at before) (faults_at after) c.in-Err.stop) (asked_named d old p q s c.link_named.result.link asks) (c.in-Err.ensures.stops (beside_of d s) (d.world.nodes s) stood asks.origin asks.up asks.seat.apart asks.running))
     (λ why same other known.
     pump_told d.world s c.link_named.result.link.site c.pump.new.link c.pump.new.flight (faults_at before) (faults_at after) c.in-Err.stop
-    (c.in-Err.ensures.pumped d asks.place stood asks.origin asks.up asks.seat.apart asks.running (told_above d old _ p q s asks.seat.number stands asks.seat.below rvg asks.up (record { assemblies = refl; feeders = refl }) was before at known) asks.kept asks.link_is carries.flight) why same other)
+    (c.in-Err.ensures.pumped d asks.place stood asks.origin asks.up asks.seat.apart asks.running (told_above d old _ p q s asks.seat.number stands asks.seat.below rvg asks.up (record { assemblies = refl; feeders = refl }) was before at (known.0, known.1.sites s)) asks.kept asks.link_is carries.flight) why same other)
     c.stopped.ensures refl refl c.in-Err.ensures.unsent
 
 pub returns-in-Ok-clause-asked : goal.returns-in-Ok-clause-asked
