@@ -15,3 +15,4 @@ pub mod SiteCalls
 pub mod FuseGoing
 pub mod Quiet
 pub mod StillNoted
+pub mod Works

@@ -365,7 +365,7 @@ apply_log None c count m new c' (Ok number) is = ap (λ (k : Core). k.log) is.1.
 apply_log r c count m new c' (Err why) is = tt
 
 -- the units stay
-fails_units : (c c' : Core) (m new : Meaning) (why : No) → GroupFails c m new c' why → c'.units ≡ c.units
+pub fails_units : (c c' : Core) (m new : Meaning) (why : No) → GroupFails c m new c' why → c'.units ≡ c.units
 fails_units c c' m new (Device disk) is = is.0.units
 fails_units c c' m new Down is = is.0.units
 fails_units c c' m new (Limit what most) is = absurd is

@@ -54,3 +54,4 @@ pub mod BelowOff
 pub mod BelowDone
 pub mod BelowDetach
 pub mod BelowAttach
+pub mod BelowRead

@@ -4,13 +4,11 @@ ghost use Rattle.vx_history.specs.Doubts.{Doubted};
 ghost use Rattle.vx_order.specs.declared.facts.SiteFacts.{SiteFacts};
 ghost use Rattle.vx_events.specs.Facts.{place_of, seat_of};
 ghost use Rattle.vx_events.specs.RvgSteps.{is_for_rvg};
-ghost use Rattle.vx_yard.specs.AboveLines.{LeadsAboveIs, LeadsBesideIs};
-ghost use Rattle.vx_yard.specs.Gaining.{LeadsRvgIs};
-ghost use Rattle.vx_script.specs.declared.line.ScriptLine.TheVariants.{Rvg};
-ghost use Rattle.vx_events.specs.StepsOver.{is_for_group, over_group_at};
+ghost use Rattle.vx_yard.specs.AboveLines.{WorksIs};
+ghost use Rattle.vx_events.specs.StepsOver.{over_group_at};
 ghost use Rattle.vx_group_lines.specs.Plain.{goes_to_group, grouped_at, is_block_kind, is_group_kind, is_group_line, plain_at, starts_with_data};
 ghost use Rattle.vx_yard.specs.OfSites.{AsAsked, HasCalled};
-ghost use Rattle.vx_yard.specs.Standing.{LeadsOverIs, StandsFor};
+ghost use Rattle.vx_yard.specs.Standing.{StandsFor};
 ghost use Rattle.vx_yard.specs.Working.{IsFree, takes_memory};
 ghost use Rattle.vx_yard.specs.Yards.{IsYardKept, IsTold, in_files};
 
@@ -130,10 +128,9 @@ fn work_blocks<R: Rack>(
     requires kept { IsYardKept yard.old }
     requires free { IsFree yard.old words.now }
     requires goes { is_block_kind words.now ≡ true }
-    ensures leads { (d : Doubted) → StandsFor d yard.old → is_for_group d.world words.now ≡ true → LeadsOverIs d words.now yard.old yard.new result }
-    ensures above { (d : Doubted) → StandsFor d yard.old → is_for_rvg d.world words.now ≡ true → goes_to_group d.world words.now ≡ true → LeadsAboveIs d words.now yard.old yard.new result }
-    ensures asked { (d : Doubted) → StandsFor d yard.old → is_for_group d.world words.now ≡ true → AsAsked d.world words.now yard.old yard.new }
-    ensures called { (d : Doubted) → StandsFor d yard.old → is_for_group d.world words.now ≡ true → IfOk result (λ said. HasCalled d.world words.now said yard.old yard.new) }
+    ensures leads { (d : Doubted) → StandsFor d yard.old → goes_to_group d.world words.now ≡ true → WorksIs d words.now yard.old yard.new result }
+    ensures asked { (d : Doubted) → StandsFor d yard.old → goes_to_group d.world words.now ≡ true → is_for_rvg d.world words.now ≡ false → AsAsked d.world words.now yard.old yard.new }
+    ensures called { (d : Doubted) → StandsFor d yard.old → goes_to_group d.world words.now ≡ true → is_for_rvg d.world words.now ≡ false → IfOk result (λ said. HasCalled d.world words.now said yard.old yard.new) }
     ensures whole { takes_memory words.now ≡ false → IsOk result }
     ensures told { IsTold yard.new → IsTold yard.old }
     ensures files { in_files yard.new ≡ in_files yard.old }
@@ -177,11 +174,9 @@ pub fn work_group<R: Rack>(
     requires kept { IsYardKept yard.old }
     requires free { IsFree yard.old words.now }
     requires goes { is_group_kind words.now ≡ true }
-    ensures leads { (d : Doubted) → StandsFor d yard.old → is_for_group d.world words.now ≡ true → LeadsBesideIs d words.now yard.old yard.new result }
-    ensures above { (d : Doubted) → StandsFor d yard.old → is_for_rvg d.world words.now ≡ true → goes_to_group d.world words.now ≡ true → LeadsAboveIs d words.now yard.old yard.new result }
-    ensures rvg { (d : Doubted) (site srl maps : List ℕ) (volumes : List (List ℕ)) → StandsFor d yard.old → words.now ≡ Rvg site srl maps volumes → LeadsRvgIs d site srl maps volumes yard.old yard.new result }
-    ensures asked { (d : Doubted) → StandsFor d yard.old → is_for_group d.world words.now ≡ true → AsAsked d.world words.now yard.old yard.new }
-    ensures called { (d : Doubted) → StandsFor d yard.old → is_for_group d.world words.now ≡ true → IfOk result (λ said. HasCalled d.world words.now said yard.old yard.new) }
+    ensures leads { (d : Doubted) → StandsFor d yard.old → goes_to_group d.world words.now ≡ true → WorksIs d words.now yard.old yard.new result }
+    ensures asked { (d : Doubted) → StandsFor d yard.old → goes_to_group d.world words.now ≡ true → is_for_rvg d.world words.now ≡ false → AsAsked d.world words.now yard.old yard.new }
+    ensures called { (d : Doubted) → StandsFor d yard.old → goes_to_group d.world words.now ≡ true → is_for_rvg d.world words.now ≡ false → IfOk result (λ said. HasCalled d.world words.now said yard.old yard.new) }
     ensures whole { takes_memory words.now ≡ false → IsOk result }
     ensures told { IsTold yard.new → IsTold yard.old }
     ensures files { in_files yard.new ≡ in_files yard.old }

@@ -1,5 +1,6 @@
 pub mod JoinCall
 pub mod JoinGroup
+pub mod JoinOver
 pub mod SpellsLinks
 pub mod StoresCalls
 pub mod StoresLink

@@ -3,7 +3,6 @@ use Rattle.std.proofs.Common.{◌≡◌, ◌∙◌, ◌+◌, List, [], length, t
 use Rattle.std.specs.Prelude.{IfOk, Option, Some, None, Result, Ok, Err, nat_lt, suc, ℕ, if◌then◌else◌}
 use Rattle.vx_history.specs.Doubts.{Doubted}
 use Rattle.vx_history.specs.World.{World}
-use Rattle.vx_model.specs.declared.errors.OutOfMemory.{OutOfMemory}
 use Rattle.vx_model.specs.declared.no.No.{No}
 use Rattle.vx_disk.specs.declared.shelf.Shelf.{Ghosts}
 use Rattle.vx_order.specs.Order.{line_refusal}
@@ -11,8 +10,6 @@ use Rattle.vx_order.specs.Packets.{packet_unknown}
 use Rattle.vx_order.specs.declared.facts.SiteFacts.{SiteFacts}
 use Rattle.vx_script.specs.declared.line.ScriptLine.{ScriptLine}
 use Rattle.vx_script.specs.declared.line.ScriptLine.TheVariants.{Deliver, Settle}
-use Rattle.vx_events.specs.Parts.{StopsInPart}
-use Rattle.vx_events.proofs.Parts.{none_done}
 use Rattle.vx_events.specs.RvgSteps.{FullBy}
 use Rattle.vx_events.specs.StepsOver.{refused_over}
 use Rattle.vx_events.specs.Sent.{sent_between}
@@ -21,7 +18,7 @@ use Rattle.vx_events.specs.declared.said.Said.TheVariants.{Refused}
 use Rattle.vx_yard.specs.Carries.{Carries}
 use Rattle.vx_yard.specs.OfSites.{AsSettled, HasCalled}
 use Rattle.vx_yard.specs.Replies.{text_of}
-use Rattle.vx_yard.specs.Standing.{AnswersFor, LeadsIs, LeadsOrStops, StandsFor, StaysFor, StepsFor, StopsFor}
+use Rattle.vx_yard.specs.Standing.{AnswersFor, StandsFor, StepsFor}
 use Rattle.vx_yard.specs.Working.{IsFree, refused_in, takes_memory}
 use Rattle.vx_yard.specs.Yards.{IsTold, count_of, in_files}
 use Rattle.vx_yard.specs.declared.yard.Yard.{Yard}
@@ -60,15 +57,6 @@ module _ {R : Type 0} {g : Ghosts R} where
   pub other_settled : (line : ScriptLine) (old new : Yard R g) → ((p s : List ℕ) → line ≡ Settle p s → ⊥) → AsSettled line old new
   other_settled (Settle p s) old new not = absurd (not p s refl)
   other_settled other old new not = tt
-
-  -- of a line for which memory was short before it began nothing is done
-  stays_short : (d : Doubted) (line : ScriptLine) (old new : Yard R g) → StaysFor d old new → StopsFor d line old new
-  stays_short d line old new stays = record { next = d; part = StopsInPart (none_done d line); stands = stays.stands; carries = stays.carries; rose = stays.rose }
-
-  -- one that is done whole or not at all
-  pub leads_whole : (d : Doubted) (line : ScriptLine) (old new : Yard R g) (r : Result Said OutOfMemory) → LeadsIs d line old new r → LeadsOrStops d line old new r
-  leads_whole d line old new (Ok said) leads = leads
-  leads_whole d line old new (Err e) stays = stays_short d line old new stays
 
   -- one that is refused changes nothing
   pub refusal_answer : (d : Doubted) (line : ScriptLine) (y : Yard R g) (why : No) → StandsFor d y → Carries d y → refused_in y line ≡ Some why → AnswersFor d line (Refused why) y y

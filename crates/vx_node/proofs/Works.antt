@@ -1,171 +1,23 @@
--- What a line that no test refuses is answered: one that makes a replicated volume group, one on links of a site that has one over a group of disks, one at such a site,
--- one that works on a group of disks, or another.
-use Rattle.std.proofs.Common.{◌≡◌, ◌∙◌, ℕ, Bool, true, false, List, [], inl, sym, subst, refl, ap}
-use Rattle.std.specs.Prelude.{◌&&◌, ◌||◌, Option, None, Result, Ok, Err, not}
+-- What a line that no test refuses is answered.
+use Rattle.std.proofs.Common.{◌≡◌, ◌∙◌, sym, subst}
+use Rattle.std.specs.Prelude.{Option, None, Result, Ok, Err}
 use Rattle.vx_history.specs.Doubts.{Doubted}
 use Rattle.vx_model.specs.declared.errors.OutOfMemory.{OutOfMemory}
 use Rattle.vx_model.specs.declared.no.No.{No}
 use Rattle.vx_disk.specs.declared.shelf.Shelf.{Ghosts}
 use Rattle.vx_script.specs.declared.line.ScriptLine.{ScriptLine}
-use Rattle.vx_script.specs.declared.line.ScriptLine.TheVariants.{Rvg}
-use Rattle.vx_events.specs.Fails.{Fails}
-use Rattle.vx_events.specs.RvgLinks.{LinksOver, links_rvg}
-use Rattle.vx_events.specs.RvgOver.{OverRvg, is_plain_kind}
-use Rattle.vx_events.specs.RvgSteps.{AsBefore, FoundPlain, FullBy, MakesNoRvg, WorksAbove, WorksBeside, WorksFull, is_for_rvg, rvg_place}
-use Rattle.vx_events.specs.StepsOver.{WorksOver, group_place, is_for_group, refused_over}
+use Rattle.vx_events.specs.RvgSteps.{FullBy}
+use Rattle.vx_events.specs.StepsOver.{refused_over}
 use Rattle.vx_events.specs.declared.said.Said.{Said}
-use Rattle.vx_link_lines.proofs.AnswerFor.{leads_whole, tested}
-use Rattle.vx_node.specs.Works.{WorksIs}
-use Rattle.vx_yard.specs.AboveLines.{LeadsAboveIs, LeadsBesideIs, LeadsLinkedIs}
+use Rattle.vx_link_lines.proofs.AnswerFor.{tested}
+use Rattle.vx_yard.specs.AboveLines.{WorksIs}
 use Rattle.vx_yard.specs.Carries.{Carries}
-use Rattle.vx_yard.specs.Gaining.{LeadsRvgIs}
-use Rattle.vx_yard.proofs.RecoverLine.{rose_then}
-use Rattle.vx_yard.specs.Standing.{AnswersIs, LeadsIs, LeadsOrStops, LeadsOverOrStops, StandsFor, StaysFor, StopsAbove, StopsFor}
+use Rattle.vx_yard.specs.Standing.{AnswersIs, StandsFor}
 use Rattle.vx_yard.specs.Working.{IsFree}
-use Rattle.vx_yard.specs.Yards.{IsTold, count_of, in_files}
+use Rattle.vx_yard.specs.Yards.{IsTold, in_files}
 use Rattle.vx_yard.specs.declared.yard.Yard.{Yard}
-use Rattle.vx_order.specs.declared.facts.VolumeKind.{VolumeKind}
-use Rattle.vx_order.specs.declared.facts.VolumeKind.TheVariants.{Data, Map, Plain, Srl}
-use Rattle.vx_order.specs.Calls.{is_data}
-
--- ---- a line that makes no replicated volume group
-
-full_by : (told : Type 0) (d : Doubted) (line : ScriptLine) (fails : Fails) (said : Said) (new : Doubted) → MakesNoRvg line → WorksAbove (links_rvg d.world line) (is_for_rvg d.world line) told d line fails said new → WorksFull told d line fails said new
-full_by told d (Rvg site srl maps volumes) fails said new none works = absurd none
-full_by told d other fails said new none works = works
-
-module _ (told : Type 0) (d : Doubted) (line : ScriptLine) (fails : Fails) (said : Said) (new : Doubted) (none : MakesNoRvg line) where
-  linked_full : links_rvg d.world line ≡ true → LinksOver told d line fails said new → WorksFull told d line fails said new
-  linked_full links works = full_by told d line fails said new none (subst (λ (b : Bool). WorksAbove b (is_for_rvg d.world line) told d line fails said new) (sym links) works)
-
-  above_full : links_rvg d.world line ≡ false → is_for_rvg d.world line ≡ true → OverRvg told d line (rvg_place d.world line) fails said new → WorksFull told d line fails said new
-  above_full links over works =
-      full_by told d line fails said new none
-      (subst (λ (b : Bool). WorksAbove b (is_for_rvg d.world line) told d line fails said new) (sym links)
-      (subst (λ (b : Bool). WorksAbove false b told d line fails said new) (sym over) works))
-
-  beside_full : links_rvg d.world line ≡ false → is_for_rvg d.world line ≡ false → WorksBeside told d line fails said new → WorksFull told d line fails said new
-  beside_full links over works =
-      full_by told d line fails said new none
-      (subst (λ (b : Bool). WorksAbove b (is_for_rvg d.world line) told d line fails said new) (sym links)
-      (subst (λ (b : Bool). WorksAbove false b told d line fails said new) (sym over) works))
 
 module _ {R : Type 0} {g : Ghosts R} where
-  -- what want of memory leaves where no replicated volume group stands over a group
-  pub stops_full : (d : Doubted) (line : ScriptLine) (old new : Yard R g) → StopsFor d line old new → StopsAbove d line old new
-  stops_full d line old new stops = record { next = stops.next; part = inl stops.part; stands = stops.stands; carries = stops.carries; rose = stops.rose }
-
-  -- ---- a line at sites without one
-
-  module _ (d : Doubted) (line : ScriptLine) (old new : Yard R g) (none : MakesNoRvg line) (links : links_rvg d.world line ≡ false) (off : is_for_rvg d.world line ≡ false) where
-    -- one that works on no group
-    pub works_plain : (r : Result Said OutOfMemory) → is_for_group d.world line ≡ false → ((next : Doubted) → FoundPlain line (group_place d.world line) next) → LeadsOrStops d line old new r → WorksIs d line old new r
-    works_plain (Ok said) plain found leads = record {
-      next = leads.next;
-      fails = leads.fails;
-      works = beside_full (IsTold new) d line leads.fails said leads.next none links off
-          (AsBefore (subst (λ (b : Bool). WorksOver b (IsTold new) d line leads.fails said leads.next) (sym plain) (inl leads.done)) (found leads.next));
-      stands = leads.stands;
-      carries = leads.carries;
-      rose = leads.rose;
-    }
-    works_plain (Err e) plain found stops = stops_full d line old new stops
-
-    pub works_whole : (r : Result Said OutOfMemory) → is_for_group d.world line ≡ false → ((next : Doubted) → FoundPlain line (group_place d.world line) next) → LeadsIs d line old new r → WorksIs d line old new r
-    works_whole r plain found leads = works_plain r plain found (leads_whole d line old new r leads)
-
-    -- one that works on a group
-    pub works_over : (r : Result Said OutOfMemory) → is_for_group d.world line ≡ true → ((next : Doubted) → FoundPlain line (group_place d.world line) next) → LeadsOverOrStops d line old new r → WorksIs d line old new r
-    works_over (Ok said) over found leads = record {
-      next = leads.next;
-      fails = leads.fails;
-      works = beside_full (IsTold new) d line leads.fails said leads.next none links off
-          (AsBefore (subst (λ (b : Bool). WorksOver b (IsTold new) d line leads.fails said leads.next) (sym over) leads.done) (found leads.next));
-      stands = leads.stands;
-      carries = leads.carries;
-      rose = leads.rose;
-    }
-    works_over (Err e) over found stops = stops_full d line old new stops
-
-    -- one that may find a replicated volume group
-    pub works_beside : (r : Result Said OutOfMemory) → LeadsBesideIs d line old new r → WorksIs d line old new r
-    works_beside (Ok said) leads = record {
-      next = leads.next;
-      fails = leads.fails;
-      works = beside_full (IsTold new) d line leads.fails said leads.next none links off leads.works;
-      stands = leads.stands;
-      carries = leads.carries;
-      rose = leads.rose;
-    }
-    works_beside (Err e) stops = stops
-
-  -- ---- a line at a site with one, and on links of one
-
-  pub works_above : (d : Doubted) (line : ScriptLine) (old new : Yard R g) → MakesNoRvg line → links_rvg d.world line ≡ false → is_for_rvg d.world line ≡ true → (r : Result Said OutOfMemory) → LeadsAboveIs d line old new r → WorksIs d line old new r
-  works_above d line old new none links over (Ok said) leads = record {
-    next = leads.next;
-    fails = leads.fails;
-    works = above_full (IsTold new) d line leads.fails said leads.next none links over leads.works;
-    stands = leads.stands;
-    carries = leads.carries;
-    rose = leads.rose;
-  }
-  works_above d line old new none links over (Err e) stops = stops
-
-  pub works_linked : (d : Doubted) (line : ScriptLine) (old new : Yard R g) → MakesNoRvg line → links_rvg d.world line ≡ true → (r : Result Said OutOfMemory) → LeadsLinkedIs d line old new r → WorksIs d line old new r
-  works_linked d line old new none links (Ok said) leads = record {
-    next = leads.next;
-    fails = leads.fails;
-    works = linked_full (IsTold new) d line leads.fails said leads.next none links leads.works;
-    stands = leads.stands;
-    carries = leads.carries;
-    rose = leads.rose;
-  }
-  works_linked d line old new none links (Err e) stops = stops
-
-  -- a line of one site, with one or not
-  pub works_either : (d : Doubted) (line : ScriptLine) (old new : Yard R g) → MakesNoRvg line → links_rvg d.world line ≡ false → (r : Result Said OutOfMemory) → is_for_group d.world line ≡ false → ((next : Doubted) → FoundPlain line (group_place d.world line) next)
-      → (is_for_rvg d.world line ≡ false → LeadsOrStops d line old new r) → (is_for_rvg d.world line ≡ true → LeadsAboveIs d line old new r) → WorksIs d line old new r
-  works_either d line old new none links r plain found leads above = by (is_for_rvg d.world line) refl
-    where
-      by : (b : Bool) → is_for_rvg d.world line ≡ b → WorksIs d line old new r
-      by true over = works_above d line old new none links over r (above over)
-      by false off = works_plain d line old new none links off r plain found (leads off)
-
-  -- a line of links, of a site with one or not
-  pub works_between : (d : Doubted) (line : ScriptLine) (old new : Yard R g) → MakesNoRvg line → is_for_rvg d.world line ≡ false → (r : Result Said OutOfMemory) → is_for_group d.world line ≡ false → ((next : Doubted) → FoundPlain line (group_place d.world line) next)
-      → (links_rvg d.world line ≡ false → LeadsIs d line old new r) → (links_rvg d.world line ≡ true → LeadsLinkedIs d line old new r) → WorksIs d line old new r
-  works_between d line old new none off r plain found leads linked = by (links_rvg d.world line) refl
-    where
-      by : (b : Bool) → links_rvg d.world line ≡ b → WorksIs d line old new r
-      by true links = works_linked d line old new none links r (linked links)
-      by false links = works_whole d line old new none links off r plain found (leads links)
-
-  -- one that makes one
-  pub works_rvg : (d : Doubted) (site srl maps : List ℕ) (volumes : List (List ℕ)) (old new : Yard R g) (r : Result Said OutOfMemory) → LeadsRvgIs d site srl maps volumes old new r → WorksIs d (Rvg site srl maps volumes) old new r
-  works_rvg d site srl maps volumes old new (Ok said) leads = record { next = leads.next; fails = leads.fails; works = leads.makes; stands = leads.stands; carries = leads.carries; rose = leads.rose }
-  works_rvg d site srl maps volumes old new (Err e) stops = record { next = stops.next; part = stops.part; stands = stops.stands; carries = stops.carries; rose = stops.rose }
-
-  -- ---- any line
-
-  -- one before which nothing was done
-  pub works_then : (d : Doubted) (line : ScriptLine) (old mid new : Yard R g) (r : Result Said OutOfMemory) → StaysFor d old mid → WorksIs d line mid new r → WorksIs d line old new r
-  works_then d line old mid new (Ok said) stays work = record {
-    next = work.next;
-    fails = work.fails;
-    works = work.works;
-    stands = work.stands;
-    carries = λ was. work.carries (stays.carries was);
-    rose = rose_then work.fails (count_of old) (count_of mid) (count_of new) stays.rose work.rose;
-  }
-  works_then d line old mid new (Err e) stays stops = record {
-    next = stops.next;
-    part = stops.part;
-    stands = stops.stands;
-    carries = λ was. stops.carries (stays.carries was);
-    rose = rose_then [] (count_of old) (count_of mid) (count_of new) stays.rose stops.rose;
-  }
-
   -- one that no test refuses is answered what it worked
   pub works_answer : (d : Doubted) (line : ScriptLine) (old new : Yard R g) (r : Result Said OutOfMemory) → StandsFor d old → Carries d old → IsFree old line → WorksIs d line old new r → AnswersIs d line old new r
   works_answer d line old new (Ok said) stands carries free work =
@@ -179,23 +31,3 @@ module _ {R : Type 0} {g : Ghosts R} where
         rose = work.rose;
       }
   works_answer d line old new (Err e) stands carries free stops = stops
-
--- ---- a volume of a line that does not go to the group of its site
-
--- it is a data volume, where the site has a replicated volume group over its group
-pub kept_above : (a b : Bool) (k : VolumeKind) → (a || (b && not (is_data k))) ≡ false → b ≡ true → k ≡ Data
-kept_above true b k off is = absurd (let clash : true ≡ false = off in cc)
-kept_above false true Data off is = refl
-kept_above false true Srl off is = absurd (let clash : true ≡ false = off in cc)
-kept_above false true Map off is = absurd (let clash : true ≡ false = off in cc)
-kept_above false true Plain off is = absurd (let clash : true ≡ false = off in cc)
-kept_above false false k off is = absurd (let clash : false ≡ true = is in cc)
-
--- and no plain one
-pub above_plain : (a b : Bool) (k : VolumeKind) → (a || (b && not (is_data k))) ≡ false → b ≡ true → is_plain_kind k ≡ false
-above_plain a b k off is = ap (λ (x : VolumeKind). is_plain_kind x) (kept_above a b k off is)
-
--- and the site is over no group without one
-pub apart_off : (a b : Bool) → (a || b) ≡ false → a ≡ false
-apart_off true b off = absurd (let clash : true ≡ false = off in cc)
-apart_off false b off = refl

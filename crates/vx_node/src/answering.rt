@@ -6,7 +6,7 @@ ghost use Rattle.vx_events.specs.StepsOver.{is_for_group};
 ghost use Rattle.vx_events.specs.RvgLinks.{links_rvg};
 ghost use Rattle.vx_events.specs.RvgSteps.{is_for_rvg};
 ghost use Rattle.vx_group_lines.specs.Plain.{goes_to_group, is_group_line};
-ghost use Rattle.vx_node.specs.Works.{WorksIs};
+ghost use Rattle.vx_yard.specs.AboveLines.{WorksIs};
 ghost use Rattle.vx_yard.specs.Carries.{Carries};
 ghost use Rattle.vx_yard.specs.OfSites.{AsAsked, AsSettled, HasCalled};
 ghost use Rattle.vx_script.specs.declared.line.ScriptLine.TheVariants.{Recover};

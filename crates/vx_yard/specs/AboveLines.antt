@@ -7,7 +7,7 @@ use Rattle.vx_script.specs.declared.line.ScriptLine.{ScriptLine}
 use Rattle.vx_events.specs.Fails.{Fails}
 use Rattle.vx_events.specs.RvgLinks.{LinksOver}
 use Rattle.vx_events.specs.RvgOver.{OverRvg}
-use Rattle.vx_events.specs.RvgSteps.{WorksBeside, rvg_place}
+use Rattle.vx_events.specs.RvgSteps.{WorksBeside, WorksFull, rvg_place}
 use Rattle.vx_events.specs.declared.said.Said.{Said}
 use Rattle.vx_yard.specs.Carries.{Carries}
 use Rattle.vx_yard.specs.Standing.{StandsFor, StopsAbove}
@@ -54,3 +54,19 @@ module _ {R : Type 0} {g : Ghosts R} where
   abbrev pub LeadsBesideIs : Doubted → ScriptLine → Yard R g → Yard R g → Result Said OutOfMemory → Type 0
   LeadsBesideIs d line old new (Ok said) = LeadsBeside d line said old new
   LeadsBesideIs d line old new (Err e) = StopsAbove d line old new
+
+  -- ---- any line that no test refuses
+
+  -- The line was done and answered so, and the yard stands for what it made of the world. It carries that, if it did so before.
+  pub record WorksFor (d : Doubted) (line : ScriptLine) (said : Said) (old new : Yard R g) : Type 0 where
+    pub next : Doubted
+    pub fails : Fails
+    pub works : WorksFull (IsTold new) d line fails said next
+    pub stands : StandsFor next new
+    pub carries : Carries d old → Carries next new
+    pub rose : RoseAll fails (count_of old) (count_of new)
+
+  -- the line was done, or memory ran out within it
+  abbrev pub WorksIs : Doubted → ScriptLine → Yard R g → Yard R g → Result Said OutOfMemory → Type 0
+  WorksIs d line old new (Ok said) = WorksFor d line said old new
+  WorksIs d line old new (Err e) = StopsAbove d line old new

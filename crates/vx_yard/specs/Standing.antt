@@ -179,7 +179,7 @@ module _ {R : Type 0} {g : Ghosts R} where
     pub carries : Carries d old → Carries (crash_of d s count taken) new
     pub rose : RoseAll [] (count_of old) (count_of new)
 
-  -- memory ran out within the line, which left this of it, and no call failed
+  -- memory ran out within the line, which left this of it
   pub record StopsAbove (d : Doubted) (line : ScriptLine) (old new : Yard R g) : Type 0 where
     pub next : Doubted
     pub part : ShortFull (IsTold new) d line next

@@ -4,9 +4,9 @@ use Rattle.std.specs.Prelude.{IfOk}
 use Rattle.vx_yard.specs.OfSites.{AsAsked, AsSettled, HasCalled}
 use Rattle.vx_yard.specs.Working.{IsFree}
 use Rattle.vx_link_lines.proofs.AnswerFor.{memory_taken, other_settled}
-use Rattle.vx_node.specs.Works.{WorksIs}
+use Rattle.vx_yard.specs.AboveLines.{WorksIs}
 use Rattle.vx_node.proofs.Built.{goes_whole, not_alone}
-use Rattle.vx_node.proofs.Works.{works_over, works_plain}
+use Rattle.vx_above.proofs.Works.{works_over, works_plain}
 use Rattle.vx_node.proofs.answering.perform.Goals as goal
 
 pub settle_line-requires-clause-free : goal.settle_line-requires-clause-free
@@ -41,18 +41,16 @@ pub returns-in-Settle-clause-whole : goal.returns-in-Settle-clause-whole
 returns-in-Settle-clause-whole g c = λ none. memory_taken c.args.words.now _ c.in-Settle.is refl none
 
 pub returns-then-is_of_group-clause-leads : goal.returns-then-is_of_group-clause-leads
-returns-then-is_of_group-clause-leads g c = λ d stands carries good.
-    let goes = sym (c.is_of_group.ensures.is d stands) ∙ c.if-is_of_group.true in
-    works_over d c.args.words.now c.args.yard.now c.work_group.new.yard c.work_group.result goes (c.work_group.ensures.leads d stands goes)
+returns-then-is_of_group-clause-leads g c = λ d stands carries good. c.work_group.ensures.leads d stands (sym (c.is_of_group.ensures.is d stands) ∙ c.if-is_of_group.true)
 
 pub returns-then-is_of_group-clause-asked : goal.returns-then-is_of_group-clause-asked
-returns-then-is_of_group-clause-asked g c = λ d stands. c.work_group.ensures.asked d stands (sym (c.is_of_group.ensures.is d stands) ∙ c.if-is_of_group.true)
+returns-then-is_of_group-clause-asked g c = λ d stands off links. c.work_group.ensures.asked d stands (sym (c.is_of_group.ensures.is d stands) ∙ c.if-is_of_group.true) off
 
 pub returns-then-is_of_group-clause-settled : goal.returns-then-is_of_group-clause-settled
 returns-then-is_of_group-clause-settled g c = λ d stands carries good. other_settled c.args.words.now c.args.yard.now c.work_group.new.yard (λ p s is. c.in_default.not-Settle p s is)
 
 pub returns-then-is_of_group-clause-called : goal.returns-then-is_of_group-clause-called
-returns-then-is_of_group-clause-called g c = λ d stands carries good. c.work_group.ensures.called d stands (sym (c.is_of_group.ensures.is d stands) ∙ c.if-is_of_group.true)
+returns-then-is_of_group-clause-called g c = λ d stands off links carries good. c.work_group.ensures.called d stands (sym (c.is_of_group.ensures.is d stands) ∙ c.if-is_of_group.true) off
 
 pub returns-then-is_of_group-clause-whole : goal.returns-then-is_of_group-clause-whole
 returns-then-is_of_group-clause-whole g c = λ none. c.work_group.ensures.whole none
@@ -63,13 +61,13 @@ returns-else-is_of_group-clause-leads g c = λ d stands carries good.
     c.work.ensures.leads d stands not carries good
 
 pub returns-else-is_of_group-clause-asked : goal.returns-else-is_of_group-clause-asked
-returns-else-is_of_group-clause-asked g c = λ d stands. c.work.ensures.asked d stands (sym (c.is_of_group.ensures.is d stands) ∙ c.if-is_of_group.false)
+returns-else-is_of_group-clause-asked g c = λ d stands off links. c.work.ensures.asked d stands (sym (c.is_of_group.ensures.is d stands) ∙ c.if-is_of_group.false) off links
 
 pub returns-else-is_of_group-clause-settled : goal.returns-else-is_of_group-clause-settled
 returns-else-is_of_group-clause-settled g c = λ d stands carries good. other_settled c.args.words.now c.args.yard.now c.work.new.yard (λ p s is. c.in_default.not-Settle p s is)
 
 pub returns-else-is_of_group-clause-called : goal.returns-else-is_of_group-clause-called
-returns-else-is_of_group-clause-called g c = λ d stands carries good. c.work.ensures.called d stands (sym (c.is_of_group.ensures.is d stands) ∙ c.if-is_of_group.false) carries good
+returns-else-is_of_group-clause-called g c = λ d stands off links carries good. c.work.ensures.called d stands (sym (c.is_of_group.ensures.is d stands) ∙ c.if-is_of_group.false) off links carries good
 
 pub returns-else-is_of_group-clause-whole : goal.returns-else-is_of_group-clause-whole
 returns-else-is_of_group-clause-whole g c = λ none. c.work.ensures.whole none

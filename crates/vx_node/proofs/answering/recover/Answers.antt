@@ -2,7 +2,7 @@
 use Rattle.vx_events.specs.Facts.{site_number}
 use Rattle.vx_script.specs.declared.line.ScriptLine.TheVariants.{Recover}
 use Rattle.vx_yard.proofs.OfSites.{recovers_then}
-use Rattle.vx_node.proofs.Works.{works_found, works_then, works_whole}
+use Rattle.vx_above.proofs.Works.{works_found, works_then, works_whole}
 use Rattle.vx_node.proofs.answering.recover.Goals as goal
 
 pub returns-then-holds_group-clause-leads : goal.returns-then-holds_group-clause-leads

@@ -1,7 +1,8 @@
 -- The work of a line that no test refuses.
 use Rattle.std.proofs.Common.{◌≡◌, Bool, false, subst, sym, refl}
 use Rattle.std.proofs.lemmas.Result.{err_from_is_err_and}
-use Rattle.vx_link_lines.proofs.AnswerFor.{if_ok, memory_taken, leads_whole}
+use Rattle.vx_link_lines.proofs.AnswerFor.{if_ok, memory_taken}
+use Rattle.vx_above.proofs.Works.{leads_whole}
 use Rattle.vx_yard.proofs.NamedSite.{unbegun_by, unbegun_site}
 use Rattle.std.specs.Prelude.{IfOk, Ok, Result}
 use Rattle.vx_model.specs.declared.errors.OutOfMemory.{OutOfMemory}
@@ -17,8 +18,8 @@ use Rattle.vx_events.proofs.RefusedCalls.{read_may, show_may, write_may}
 use Rattle.vx_diskset.specs.Asked.{LeavesAlone, SameFailing}
 use Rattle.vx_diskset.proofs.KeepsFailing.{alone_same, failing_same}
 use Rattle.vx_node.proofs.LinkKinds.{links_bring_none, links_make_none, links_no_group, links_no_rvg}
-use Rattle.vx_node.proofs.Works.{works_whole, above_plain, apart_off, kept_above, works_between, works_either}
-use Rattle.vx_node.specs.Works.{WorksIs}
+use Rattle.vx_above.proofs.Works.{works_whole, above_plain, apart_off, kept_above, works_between, works_either}
+use Rattle.vx_yard.specs.AboveLines.{WorksIs}
 use Rattle.vx_node.proofs.answering.work.Goals as goal
 use Rattle.vx_group_lines.specs.Plain.{goes_to_group}
 use Rattle.vx_events.specs.RvgOver.{kind_named}
