@@ -7,7 +7,9 @@ use Rattle.vx_model.specs.declared.errors.OutOfMemory.{OutOfMemory}
 use Rattle.vx_disk.specs.declared.shelf.Shelf.{Ghosts}
 use Rattle.vx_script.specs.declared.line.ScriptLine.{ScriptLine}
 use Rattle.vx_script.specs.declared.line.ScriptLine.TheVariants.{Rvg}
+use Rattle.vx_events.specs.Brights.{told_for}
 use Rattle.vx_events.specs.Fails.{Fails}
+use Rattle.vx_events.specs.Lines.{is_of_links}
 use Rattle.vx_events.specs.RvgLinks.{LinksOver, links_rvg}
 use Rattle.vx_events.specs.RvgOver.{OverRvg, is_plain_kind}
 use Rattle.vx_events.specs.RvgSteps.{AsBefore, FoundPlain, MakesNoRvg, WorksAbove, WorksBeside, WorksFull, is_for_rvg, rvg_place}
@@ -15,6 +17,7 @@ use Rattle.vx_events.specs.StepsOver.{WorksOver, group_place, is_for_group}
 use Rattle.vx_events.specs.declared.said.Said.{Said}
 use Rattle.vx_events.specs.Parts.{StopsInPart}
 use Rattle.vx_events.proofs.Parts.{none_done}
+use Rattle.vx_events.proofs.Tolds.{told_less, works_told}
 use Rattle.vx_yard.specs.AboveLines.{WorksIs}
 use Rattle.vx_yard.specs.AboveLines.{LeadsAboveIs, LeadsBesideIs, LeadsLinkedIs}
 use Rattle.vx_yard.specs.Gaining.{LeadsRvgIs}
@@ -71,7 +74,7 @@ module _ {R : Type 0} {g : Ghosts R} where
       next = leads.next;
       fails = leads.fails;
       works = beside_full (IsTold new) d line leads.fails said leads.next none links off
-          (AsBefore (subst (λ (b : Bool). WorksOver b (IsTold new) d line leads.fails said leads.next) (sym plain) (inl leads.done)) (found leads.next));
+          (AsBefore (subst (λ (b : Bool). WorksOver b (told_for (IsTold new) d.world line) d line leads.fails said leads.next) (sym plain) (inl leads.done)) (found leads.next));
       stands = leads.stands;
       carries = leads.carries;
       rose = leads.rose;
@@ -87,7 +90,8 @@ module _ {R : Type 0} {g : Ghosts R} where
       next = leads.next;
       fails = leads.fails;
       works = beside_full (IsTold new) d line leads.fails said leads.next none links off
-          (AsBefore (subst (λ (b : Bool). WorksOver b (IsTold new) d line leads.fails said leads.next) (sym over) leads.done) (found leads.next));
+          (AsBefore (works_told (λ (t : told_for (IsTold new) d.world line). told_less (IsTold new) d.world (is_of_links line) t) (is_for_group d.world line) d line leads.fails said leads.next
+          (subst (λ (b : Bool). WorksOver b (IsTold new) d line leads.fails said leads.next) (sym over) leads.done)) (found leads.next));
       stands = leads.stands;
       carries = leads.carries;
       rose = leads.rose;
