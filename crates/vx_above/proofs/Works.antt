@@ -74,7 +74,8 @@ module _ {R : Type 0} {g : Ghosts R} where
       next = leads.next;
       fails = leads.fails;
       works = beside_full (IsTold new) d line leads.fails said leads.next none links off
-          (AsBefore (subst (λ (b : Bool). WorksOver b (told_for (IsTold new) d.world line) d line leads.fails said leads.next) (sym plain) (inl leads.done)) (found leads.next));
+          (AsBefore (works_told (λ (t : told_for (IsTold new) d.world line). told_less (IsTold new) d.world (is_of_links line) t) (is_for_group d.world line) d line leads.fails said leads.next
+          (subst (λ (b : Bool). WorksOver b (IsTold new) d line leads.fails said leads.next) (sym plain) (inl leads.done))) (found leads.next));
       stands = leads.stands;
       carries = leads.carries;
       rose = leads.rose;

@@ -76,7 +76,6 @@ use Rattle.vx_link_lines.proofs.PartLine.{header_done}
 use Rattle.vx_link_lines.proofs.UpdateLine.{done_as}
 use Rattle.vx_link_lines.proofs.HeardMoves.{Heard, heard_behind, heard_carried, heard_ends, heard_kept_as, heard_role, less_true, refused_noted}
 use Rattle.vx_events.specs.GroupLines.{is_over_group}
-use Rattle.vx_events.proofs.Tolds.{done_for}
 use Rattle.vx_link_lines.proofs.NotedYard.{carries_noted}
 use Rattle.vx_link_lines.proofs.Turned.{stands_moved}
 
@@ -152,7 +151,7 @@ module _ {R : Type 0} {g : Ghosts R} where
     leads_by {e} {fails} {said} ends next = record {
       next = e;
       fails = fails;
-      done = done_for (IsTold new) d (Deliver number) fails said e (record { ends = ends; counts = tt; works = tt; calls = tt });
+      done = record { ends = ends; counts = tt; works = tt; calls = tt };
       stands = next.stands;
       carries = λ carries. next.carries (carries_noted d old s carries);
       rose = next.rose;
@@ -304,7 +303,7 @@ module _ {R : Type 0} {g : Ghosts R} where
     unheard_stays = record {
       next = noted_by (note_one p.target) (behind d (DeliverAt number));
       fails = [];
-      done = done_for (IsTold y) d (Deliver number) [] Ignored (noted_by (note_one p.target) (behind d (DeliverAt number))) (record { ends = unheard_ends (IsTold y); counts = tt; works = tt; calls = tt });
+      done = record { ends = unheard_ends (IsTold y); counts = tt; works = tt; calls = tt };
       stands = unheard_stands;
       carries = λ carries. unheard_carries (carries_noted d y p.target carries);
       rose = rose_none (count_of y) (count_of y) (λ k u. omega arith);
@@ -323,14 +322,14 @@ module _ {R : Type 0} {g : Ghosts R} where
       record {
         next = behind d (DeliverAt number);
         fails = [];
-        done = done_for (IsTold y) d (Deliver number) [] Ignored (behind d (DeliverAt number)) (record {
+        done = record {
           ends = LinksDone (behind d (DeliverAt number)) (false, refl) refl refl
               (subst (λ (o : Outcome). RepeatsSaid (behind d (DeliverAt number)).world 0 o.said Ignored) (sym is) refl)
               (record { world = sym (unnoted d number p v at past); after = λ i. refl });
           counts = tt;
           works = tt;
           calls = tt;
-        });
+        };
         stands = stands_kept d v y y stands left (fit_happened d (DeliverAt number) false tt stands.links) same
             (stands.facts ∙ subst (λ (o : Outcome). facts_over d.world ≡ facts_over (headers_counted d.world (DeliverAt number) o).world) (sym is) refl);
         carries = λ carries. carries_kept d v y y [] carries left sent same (subst (λ (ps : List Packet). FlightStands ps y.flight) (sym (ap (λ (o : Outcome). o.world.packets) is)) carries.flight);

@@ -35,7 +35,6 @@ use Rattle.vx_events.specs.LinksFit.{LinksFit}
 use Rattle.vx_events.specs.Sayings.{RepeatsSaid}
 use Rattle.vx_events.specs.declared.said.Said.{Said}
 use Rattle.vx_events.specs.declared.said.Said.TheVariants.{Done, Refused}
-use Rattle.vx_events.proofs.Tolds.{done_for}
 use Rattle.vx_link_lines.specs.Headed.{HeadedSo, NextFor, NotesAt, behind, noted_by, part_said}
 use Rattle.vx_link_lines.specs.Linking.{IsLinking}
 use Rattle.vx_yard.specs.BothSites.{BothSites, LinkBurns}
@@ -129,7 +128,7 @@ module _ {R : Type 0} {g : Ghosts R} where
     leads_by {e} {fails} {said} new ends needs next = record {
       next = e;
       fails = fails;
-      done = done_for (IsTold new) d line fails said e (record {
+      done = record {
         ends = ends;
         counts = tt;
         works = λ is.
@@ -142,7 +141,7 @@ module _ {R : Type 0} {g : Ghosts R} where
               subst (λ (k : ℕ). MayPass (2 * header_calls) (d.world.nodes k).fuse) (sym l.number) both.0.1,
               subst (λ (k : ℕ). MayPass (2 * header_calls) (d.world.nodes k).fuse) (sym l.number_too) both.1.1,
             );
-      });
+      };
       stands = next.stands;
       carries = λ carries. next.carries (carries_both d old p s carries);
       rose = next.rose;

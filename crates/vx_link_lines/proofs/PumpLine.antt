@@ -23,7 +23,6 @@ use Rattle.vx_events.specs.Sayings.{RepeatsSaid}
 use Rattle.vx_events.specs.declared.said.Said.{Said}
 use Rattle.vx_events.specs.declared.said.Said.TheVariants.{Done, Refused}
 use Rattle.vx_events.proofs.LinkTesting.{OnLink}
-use Rattle.vx_events.proofs.Tolds.{done_for}
 use Rattle.vx_history.specs.Doubts.{Doubted}
 use Rattle.vx_history.specs.Events.{link_step, linked_sites}
 use Rattle.vx_history.specs.KeptLinks.{kept_link, kept_links}
@@ -257,7 +256,7 @@ module _ {R : Type 0} {g : Ghosts R} where
         record {
           next = record d { world = v };
           fails = [];
-          done = done_for (IsTold new) d (Pump p q) [] Done (record d { world = v }) (pump_done (IsTold new) d p q comes.said);
+          done = pump_done (IsTold new) d p q comes.said;
           stands = stands_kept d v (between old new) new middle_stands left (fit_happened d (PumpAt a b) false tt stands.links) relinks (facts ∙ comes.stands.facts);
           carries = λ _. carries_kept d v (between old new) new sends.0 middle_carries left sends.1 relinks comes.stands.flight;
           rose = rises;
@@ -277,7 +276,7 @@ module _ {R : Type 0} {g : Ghosts R} where
         record {
           next = record d { world = v };
           fails = [];
-          done = done_for (IsTold new) d (Pump p q) [] Done (record d { world = v }) (pump_other (IsTold new) d p q more.packets more.asked untold);
+          done = pump_other (IsTold new) d p q more.packets more.asked untold;
           stands = stands_kept d v (between old new) new middle_stands left (fit_finds d (Pump p q) [] Done (record d { world = v }) finds stands.links) relinks (facts ∙ comes);
           carries = λ _. carries_kept d v (between old new) new more.packets middle_carries left refl relinks (more.flies d.world.packets carries.flight);
           rose = rises;
@@ -297,8 +296,7 @@ module _ {R : Type 0} {g : Ghosts R} where
         subst (λ (x : Result Said OutOfMemory). LeadsIs d (Pump p q) old new x) (sym is) (record {
           next = d;
           fails = (site_number d.world p, disk) ∷ [];
-          done = done_for (IsTold new) d (Pump p q) ((site_number d.world p, disk) ∷ []) (Refused (Device disk)) d
-              (pump_unread (IsTold new) d p q disk stopped.1 (subst (λ (k : ℕ). IsLogDisk (d.world.nodes k) disk) (sym number) stopped.2));
+          done = pump_unread (IsTold new) d p q disk stopped.1 (subst (λ (k : ℕ). IsLogDisk (d.world.nodes k) disk) (sym number) stopped.2);
           stands = stay.stands;
           carries = λ _. stay.carries middle_carries;
           rose = subst (λ (k : ℕ). RoseAll ((k, disk) ∷ []) (count_of old) (count_of new)) (sym number) (rose_at old new s disk before after changed stopped.0);
@@ -308,7 +306,7 @@ module _ {R : Type 0} {g : Ghosts R} where
         subst (λ (x : Result Said OutOfMemory). LeadsIs d (Pump p q) old new x) (sym is) (record {
           next = d;
           fails = [];
-          done = done_for (IsTold new) d (Pump p q) [] (Refused other) d (pump_none (IsTold new) d p q other (untold other refl stopped) stopped);
+          done = pump_none (IsTold new) d p q other (untold other refl stopped) stopped;
           stands = stay.stands;
           carries = λ _. stay.carries middle_carries;
           rose = rises;

@@ -53,7 +53,6 @@ use Rattle.vx_linked.proofs.PartFacts.{sets}
 use Rattle.vx_link_lines.proofs.RawParts.{none_seat}
 use Rattle.vx_link_lines.specs.Headed.{NextFor, behind, noted_by}
 use Rattle.vx_events.specs.RvgSteps.{over_rvg_at}
-use Rattle.vx_events.proofs.Tolds.{done_for}
 use Rattle.vx_yard.specs.Standing.{Leads, StandsFor}
 use Rattle.vx_yard.specs.Working.{IsFree}
 use Rattle.vx_yard.specs.Writes.{noted_facts}
@@ -212,12 +211,12 @@ module _ {R : Type 0} {g : Ghosts R} (d : Doubted) (old : Yard R g) (first secon
       leads_by {e} {fails} {said} ends needs next = record {
         next = e;
         fails = fails;
-        done = done_for (IsTold new) d line fails said e (record {
+        done = record {
           ends = ends;
           counts = tt;
           works = λ is. subst (λ (k : ℕ). (w.nodes k).failing 0 ≡ false) (sym set_here.number) (needs is).0;
           calls = λ is. subst (λ (k : ℕ). MayPass header_calls (w.nodes k).fuse) (sym set_here.number) (needs is).1;
-        });
+        };
         stands = next.stands;
         carries = λ carries. next.carries (carries_noted d old s carries);
         rose = next.rose;

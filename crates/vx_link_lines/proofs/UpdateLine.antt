@@ -66,7 +66,6 @@ use Rattle.vx_link_lines.proofs.NotedYard.{left_burned}
 use Rattle.vx_yard.proofs.FirstSites.{begins_like}
 use Rattle.vx_yard.proofs.OverGroup.{begins_apart, noted_off, rvg_same}
 use Rattle.vx_events.specs.RvgViews.{is_over_rvg}
-use Rattle.vx_events.proofs.Tolds.{done_for}
 
 -- ---- what is noted of the target
 
@@ -263,7 +262,7 @@ module _ {R : Type 0} {g : Ghosts R} where
     leads_new h m packets gathered said f eff fits ends apart same here fact facts carries = record {
       next = worked_for h s;
       fails = [];
-      done = done_for (IsTold new) d (Deliver number) [] said (worked_for h s) (record { ends = ends; counts = tt; works = tt; calls = tt });
+      done = record { ends = ends; counts = tt; works = tt; calls = tt };
       stands = stands_at d (worked_for h s) old new s f before after stands below changed (comes_by h m packets gathered eff fits same here)
           (λ _. subst (λ (q : Node). BeginsFirst s q) (sym (worked_effect s d h m (d.world.links s) (d.world.headers s) (d.after s) packets gathered eff).is.node)
           (begins_apart s (beside_of d s) (worked m) after (stands_worked (beside_of d s) m after here) (over_site n m same ∙ apart)))
@@ -278,7 +277,7 @@ module _ {R : Type 0} {g : Ghosts R} where
     leads_same h m packets gathered said eff fits ends same here facts carries = record {
       next = worked_for h s;
       fails = [];
-      done = done_for (IsTold new) d (Deliver number) [] said (worked_for h s) (record { ends = ends; counts = tt; works = tt; calls = tt });
+      done = record { ends = ends; counts = tt; works = tt; calls = tt };
       stands = stands_still d (worked_for h s) old new s before after stands below changed (comes_by h m packets gathered eff fits (same_site n m same) here)
           (λ first. subst (λ (q : Node). BeginsFirst s q) (sym (worked_effect s d h m (d.world.links s) (d.world.headers s) (d.after s) packets gathered eff).is.node)
           (begins_like s n (worked m) (λ bare. ap (λ (q : Node). q.state) same ∙ bare) (ap (λ (q : Node). q.volumes) same) (ap (λ (q : Node). state_with q []) same) (ap (λ (q : Node). q.session) same)

@@ -78,7 +78,6 @@ use Rattle.std.specs.List.{find}
 use Rattle.vx_events.specs.RvgViews.{is_over_rvg, over_table, table_at}
 use Rattle.vx_events.specs.GroupNotes.{note_at}
 use Rattle.vx_events.specs.StepsOver.{over_group_at}
-use Rattle.vx_events.proofs.Tolds.{done_for}
 
 -- ---- the event
 
@@ -280,11 +279,10 @@ module _ {R : Type 0} {g : Ghosts R} where
       record {
         next = behind_read d k v start count;
         fails = [];
-        done = done_for (IsTold new) d line [] (Got bytes) (behind_read d k v start count)
-            (done_by (IsTold new) d line name volume start count [] (Got bytes) (behind_read d k v start count) is
+        done = done_by (IsTold new) d line name volume start count [] (Got bytes) (behind_read d k v start count) is
             (λ l list still. got_ends (IsTold new) d l k v start count bytes list still gave.size
             (λ told. record { site = omega (arith, read.seat.below, read.seat.number); up = can.up; running = can.running; primary = led; known = can.volume_exists; some = read.some; few = read.few; within = can.within })
-            (λ told. shows (raw_told after (raw_site (beside_of d s) (d.world.nodes s) after read.none gave.stands) (told.each s after there)))));
+            (λ told. shows (raw_told after (raw_site (beside_of d s) (d.world.nodes s) after read.none gave.stands) (told.each s after there))));
         carries = λ was. read_world d k v start count (λ (e : Doubted). Carries e new)
             (carries_on d (recounted d d.world) old new was load refl (λ i. refl) (λ i. feeds_same (d.world.nodes i) (d.world.nodes i) refl) (told_by old new s before after changed));
         stands = read_for d old new s before after stands read.seat.below changed alone keeps gave.stands read.none facts k v start count;
@@ -300,9 +298,8 @@ module _ {R : Type 0} {g : Ghosts R} where
       record {
         next = d;
         fails = (k, disk) ∷ [];
-        done = done_for (IsTold new) d line ((k, disk) ∷ []) (Refused (Device disk)) d
-            (done_by (IsTold new) d line name volume start count ((k, disk) ∷ []) (Refused (Device disk)) d is
-            (λ l list still. only_left (IsTold new) d l k (ReadAt k (volume_number (d.world.nodes k) volume) start count) disk (list first_choice) refl tt (still d.world)));
+        done = done_by (IsTold new) d line name volume start count ((k, disk) ∷ []) (Refused (Device disk)) d is
+            (λ l list still. only_left (IsTold new) d l k (ReadAt k (volume_number (d.world.nodes k) volume) start count) disk (list first_choice) refl tt (still d.world));
         carries = carries_same d old new load (told_by old new s before after changed);
         stands = stays_for d old new s before after stands read.seat.below changed alone keeps gave.0 read.none facts;
         rose = subst (λ (i : ℕ). RoseAll ((i, disk) ∷ []) (count_of old) (count_of new)) (sym read.seat.number) (rose_at old new s disk before after changed gave.1);

@@ -49,7 +49,6 @@ use Rattle.vx_effects.specs.Writes.{IsLetIn}
 use Rattle.vx_effects.proofs.Facts.{down_is}
 use Rattle.vx_effects.proofs.WriteLines.{line_cut, line_halted, line_written, worked_effect}
 use Rattle.vx_events.proofs.Places.{never_some, some_same}
-use Rattle.vx_events.proofs.Tolds.{done_for}
 use Rattle.vx_linked.specs.Holds.{awaits, awaits_one, is_over, least_hold}
 use Rattle.vx_linked.proofs.LeastHolds.{awaits_same}
 use Rattle.vx_yard.specs.Standing.{Leads, StandsFor, BeginsFirst}
@@ -227,7 +226,7 @@ module _ {R : Type 0} {g : Ghosts R} where
     leads_by fails said next ending stands_next carries rose = record {
       next = next;
       fails = fails;
-      done = done_for (IsTold new) d line fails said next (line_done (IsTold new) d line name volume start bytes s v fails said next is to.at.seat.number to.at.place ending);
+      done = line_done (IsTold new) d line name volume start bytes s v fails said next is to.at.seat.number to.at.place ending;
       stands = stands_next;
       carries = carries;
       rose = rose;

@@ -23,7 +23,6 @@ use Rattle.vx_events.specs.LinksFit.{LinksFit}
 use Rattle.vx_events.specs.Sayings.{RepeatsSaid}
 use Rattle.vx_events.specs.declared.said.Said.{Said}
 use Rattle.vx_events.specs.declared.said.Said.TheVariants.{Done}
-use Rattle.vx_events.proofs.Tolds.{done_for}
 use Rattle.vx_history.proofs.Places.{all_listed}
 use Rattle.vx_history.specs.Doubts.{Doubted}
 use Rattle.vx_history.specs.Listed.{AreListed}
@@ -224,7 +223,7 @@ module _ {R : Type 0} {g : Ghosts R} where
   brings_by d v line said old new more stands carries left sends fits done relinks facts flight = record {
     next = record d { world = v };
     fails = [];
-    done = done_for (IsTold new) d line [] said (record d { world = v }) done;
+    done = done;
     stands = stands_kept d v old new stands left fits relinks facts;
     carries = λ _. carries_kept d v old new more carries left sends relinks flight;
     rose = rose_kept old new relinks;
