@@ -140,17 +140,17 @@ module _ {R : Type 0} {g : Ghosts R} where
     below_names P then many enough =
         names_below old new s before after it.call.changed o (site_disks (site_in then.set)) (λ j. ap (λ (x : DiskSet R g). faults_at x j) it.call.at.is_set) (λ j. ap (λ (x : DiskSet R g). faults_at x j) then.is) many enough
 
-    are : (many : ℕ) → AreOf s (calls s old new many)
+    pub are : (many : ℕ) → AreOf s (calls s old new many)
     are many = calls_of s (count_of old s) (count_of new s) many
 
-    rose : (many : ℕ) → RoseAll (calls s old new many) (count_of old) (count_of new)
+    pub rose : (many : ℕ) → RoseAll (calls s old new many) (count_of old) (count_of new)
     rose many = rose_below old new s before after it.call.changed many
 
     -- what the tests see of the site is the same
     seen : (k : GroupNode) → over_table (with_note k (d.world.nodes s)) k ≡ over_table (d.world.nodes s) (note_at (d.world.nodes s)) → fact_from n (d.world.links s) d.world.sites ≡ fact_from (with_note k n) (d.world.links s) d.world.sites
     seen k table = sym (fact_like n (with_note k n) (d.world.links s) d.world.sites (seen_like n k (burned n.fuse) it.call.at.over (over_again n (with_note k n) k it.call.at.over refl refl) table) (λ j l. refl))
 
-    had_cut : cut_in before ≡ note.cut
+    pub had_cut : cut_in before ≡ note.cut
     had_cut = ap (λ (x : DiskSet R g). cut_in x) it.call.at.is_set ∙ it.call.at.noted.1
 
     -- ---- done

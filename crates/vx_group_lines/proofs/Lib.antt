@@ -55,3 +55,4 @@ pub mod BelowDone
 pub mod BelowDetach
 pub mod BelowAttach
 pub mod BelowRead
+pub mod BelowDeport
