@@ -4,7 +4,8 @@ use Rattle.std.proofs.lemmas.Bool.{false_from_ne_true}
 use Rattle.std.proofs.lemmas.List.{length-take}
 use Rattle.std.specs.Prelude.{Option, Some, None, if◌then◌else◌, slice_set, Result, Ok, Err, take}
 use Rattle.vx_model.specs.declared.errors.OutOfMemory.{OutOfMemory}
-use Rattle.vx_model.specs.declared.errors.Stop.TheVariants.{No as StopsBy}
+use Rattle.vx_model.specs.declared.errors.Stop.{Stop}
+use Rattle.vx_model.specs.declared.errors.Stop.TheVariants.{No as StopsBy, OutOfMemory as MemoryStop}
 use Rattle.vx_model.specs.declared.no.No.{No}
 use Rattle.vx_model.specs.declared.site.SiteState.TheVariants.{Up as IsUp, Deported as IsDeported}
 use Rattle.vx_model.specs.declared.units.Units.{Units}
@@ -91,7 +92,7 @@ use Rattle.vx_group_lines.proofs.GroupLeads.{Follows}
 use Rattle.vx_group_lines.proofs.MapGoing.{MapsAway, goes_away, with_goes}
 use Rattle.vx_group_lines.proofs.MapLines.{like_named, logs_bound, logs_low}
 use Rattle.vx_group_lines.proofs.Plains.{cleans_rvg, rvg_goes}
-use Rattle.vx_group_lines.specs.Noting.{IsNotedRefusal}
+use Rattle.vx_group_lines.specs.Noting.{IsNotedRefusal, reply_noted}
 
 -- the world behind the deport, with this note
 abbrev pub world_gone : Doubted → ℕ → GroupNode → Doubted
@@ -363,3 +364,9 @@ module _ {R : Type 0} {g : Ghosts R} where
         (record { same = λ many o e t fails next was now names noted noted_now change. moves_table t many fails o e note next names none_again was now noted noted_now change; rvg = λ o e next was now noted noted_now change. rvg_goes note next was now noted noted_now change.parts.rvg })
         (record { same = λ many o e t fails next was now names noted noted_now change. moves_table t many fails o e note next names none_again was now noted noted_now change; rvg = λ o e next was now noted noted_now change. rvg_goes note next was now noted noted_now change.parts.rvg })
         (λ which lacks. limit_wants note was_site name which it.maps lacks) why on maps refusal
+
+    pub deport_below_stopped : (mid : Yard R g) (result : Result Said OutOfMemory) → Midway old mid → (stop : Stop) → OnSites (λ o e. SiteDeported (below_rvg (d.world.nodes s)) (note_at (d.world.nodes s)) o e (Err stop)) before after
+        → OnSites (λ o e. DeportMapped o e (Err stop)) before after → reply_noted s (linked_fact d.world s) stop mid new result → (said : Said) × (result ≡ Ok said) × LeadsBelow d (GroupDeport name) s said old new
+    deport_below_stopped mid result half (StopsBy why) on maps refusal = deport_below_refused mid result half why on maps refusal
+    deport_below_stopped mid result half MemoryStop on maps refusal =
+        absurd (overs_then (λ o e. SiteDeported (below_rvg (d.world.nodes s)) (note_at (d.world.nodes s)) o e (Err MemoryStop)) before after it.call.at.set it.call.at.is_set on).holds

@@ -56,3 +56,4 @@ pub mod BelowDetach
 pub mod BelowAttach
 pub mod BelowRead
 pub mod BelowDeport
+pub mod BelowStart
