@@ -318,7 +318,7 @@ module _ {R : Type 0} {g : Ghosts R} where
         = goes_away (deported_with next (below_rvg x)) note next was_site goes.was it.maps goes.had then_site went then.holds.4
         (overs_both (λ o e. DeportMapped o e (Ok (tt {0}))) before after it.call.at.set then.set it.call.at.is_set then.is maps) in
         let k : GroupNode = with_maps go.maps next in
-        let many : ℕ = a.units + length goes.was.disks + logs_bound goes.was.volumes + failed_disk goes.change + 1 in
+        let many : ℕ = (site_disks was_site).units + length goes.was.disks + logs_bound goes.was.volumes + failed_disk goes.change + 1 in
         let fails : Fails = calls s old new many in
         let names : Names s many fails a b = below_names d (GroupDeport name) old new s before after stands it (P was_site) then many (omega arith) in
         let rvg : rvg_noted next ≡ rvg_noted note = rvg_goes note next goes.was goes.now goes.noted goes.noted_now (cleans_rvg a b goes.was goes.now goes.change) in
