@@ -1,7 +1,7 @@
 -- In a world in which no site is over a group of disks with a replicated volume group, a line that makes none does what it does there, but where it brings a
 -- group up and finds one.
-use Rattle.std.proofs.Common.{◌≡◌, ◌∙◌, ℕ, Bool, false, refl, ap, sym, subst}
-use Rattle.std.specs.Prelude.{Option, Some, None, ◌||◌}
+use Rattle.std.proofs.Common.{◌≡◌, ◌∙◌, ℕ, Bool, true, false, refl, ap, sym, subst}
+use Rattle.std.specs.Prelude.{Option, Some, None, ltb, ◌||◌, ◌&&◌}
 use Rattle.vx_model.specs.declared.no.No.{No}
 use Rattle.vx_history.specs.Doubts.{Doubted}
 use Rattle.vx_history.specs.Events.{packet_at}
@@ -27,7 +27,11 @@ module _ (w : World) (none : HasNoRvgs w) where
 
   target_none : (o : Option Packet) → rvg_target w o ≡ false
   target_none None = refl
-  target_none (Some p) = none p.target
+  target_none (Some p) = by (ltb p.target w.sites) (is_over_rvg (w.nodes p.target)) (none p.target)
+    where
+      by : (a b : Bool) → b ≡ false → (a && b) ≡ false
+      by true b is = is
+      by false b is = refl
 
   links_none : (line : ScriptLine) → links_rvg w line ≡ false
   links_none (Link p s sync prot) = either_none (is_over_rvg (w.nodes (site_number w p))) (is_over_rvg (w.nodes (site_number w s))) (none (site_number w p)) (none (site_number w s))

@@ -1,6 +1,6 @@
 -- How a line of links or packets ends where a site of it is over a group of disks with a replicated volume group: as between raw sets, but that disks may fail
 -- which a mirror bears, and that such a site notes what the line made of its group.
-use Rattle.std.specs.Prelude.{◌≡◌, ◌==◌, ◌||◌, ◌*◌, ℕ, Bool, true, false, ◌++◌, Option, Some, None, IsSome, if◌then◌else◌}
+use Rattle.std.specs.Prelude.{◌≡◌, ◌==◌, ◌||◌, ◌&&◌, ltb, ◌*◌, ℕ, Bool, true, false, ◌++◌, Option, Some, None, IsSome, if◌then◌else◌}
 use Rattle.std.specs.List.{AllByRecursion}
 use Rattle.vx_history.specs.Doubts.{Doubted}
 use Rattle.vx_history.specs.Events.{packet_at}
@@ -38,7 +38,7 @@ works_at w other i = false
 
 abbrev pub rvg_target : World → Option Packet → Bool
 rvg_target w None = false
-rvg_target w (Some p) = is_over_rvg (w.nodes p.target)
+rvg_target w (Some p) = ltb p.target w.sites && is_over_rvg (w.nodes p.target)
 
 -- whether it works at a site over a group of disks with a replicated volume group
 abbrev pub links_rvg : World → ScriptLine → Bool

@@ -9,7 +9,7 @@ use Rattle.vx_group.specs.declared.group_core.GroupCore.{GroupCore}
 use Rattle.vx_ground.specs.Accounts.{GroundSince, ground_state}
 use Rattle.vx_ground.specs.Lifted.{laid_volumes, volumes_over}
 use Rattle.vx_ground.proofs.AccountLemmas.{ground_none}
-use Rattle.vx_grouped.specs.GroupSites.{laid_below, laid_disks, site_below, site_disks}
+use Rattle.vx_grouped.specs.GroupSites.{GroupUp, laid_below, laid_disks, site_below, site_disks}
 use Rattle.vx_history.specs.World.{Node}
 use Rattle.vx_history.specs.declared.event.Said.{Said}
 use Rattle.vx_model.specs.Sites.{is_origin, is_up}
@@ -29,6 +29,7 @@ use Rattle.vx_diskset.specs.Asked.{LeavesAlone}
 use Rattle.vx_diskset.specs.DiskSets.{Later}
 use Rattle.vx_diskset.specs.Founded.{FoundedWorks}
 use Rattle.vx_diskset.specs.Holds.{KeptBeside}
+use Rattle.vx_diskset.specs.Noted.{NotedOn, StaysNoted}
 use Rattle.vx_diskset.specs.Shelves.{MovesOn}
 use Rattle.vx_diskset.specs.Stands.{IsOverSite, IsReceiverAt, OverStands, RoleBy, SiteStands}
 use Rattle.vx_diskset.specs.declared.disk_set.DiskSet.TheVariants.{Over}
@@ -103,6 +104,14 @@ module _ {R : Type 0} {g : Ghosts R} where
       ground = on_same (λ k s. GroundSince (ground_state f.laid.core) (laid_disks f.laid) (ground_state k) (shade_meaning g.meaning s)) (ground_none (ground_state f.laid.core) (laid_disks f.laid));
       since = on_same (λ k s. CalledSince (laid_disks f.laid) (shade_meaning g.meaning s)) (since_none (laid_disks f.laid));
       told = on_same (λ k s. TellsLess (laid_below f.laid) (g.meaning (rack_of s))) (λ told. told);
+    }
+
+    -- its group is as the site noted it
+    pub noted_same : (old : OverSet R g) → old.site ≡ ReceiverSite f → StaysNoted old (receiver_with f' old.cut)
+    noted_same old is = record {
+      cut = refl;
+      each = λ n note it.
+          on_same (λ k s. GroupUp n note (g.meaning (rack_of s)).tells k (shade_meaning g.meaning s)) (subst (λ (x : OverSite R g). NotedOn n note (below_site x)) is it);
     }
 
     module _ (cut : Option CutWrite) where

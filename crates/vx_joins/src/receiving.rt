@@ -10,7 +10,7 @@ ghost use Rattle.vx_model.specs.Content.{Write};
 ghost use Rattle.vx_diskset.specs.Asked.{LeavesAlone};
 ghost use Rattle.vx_diskset.specs.DiskSets.{Later};
 ghost use Rattle.vx_diskset.specs.Holds.{KeptBeside, beside_of};
-ghost use Rattle.vx_diskset.specs.Noted.{NotesOn};
+ghost use Rattle.vx_diskset.specs.Noted.{NotesOn, OversStay};
 ghost use Rattle.vx_diskset.specs.Stands.{KeepsRole, RoleIs, SiteStands};
 ghost use Rattle.vx_joins.specs.Deliveries.{DeliveredTo, TookTo};
 
@@ -83,6 +83,8 @@ pub fn deliver_update<R: Rack, N: Net>(
     ensures role { KeepsRole disks.old disks.new }
     ensures notes { NotesOn disks.old disks.new }
     ensures later { Later disks.old disks.new }
+    // What a site notes of its group is as it was.
+    ensures noted { OversStay disks.old disks.new }
 {
     match disks {
         DiskSet::Receives(secondary) => {

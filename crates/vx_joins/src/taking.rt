@@ -13,7 +13,7 @@ ghost use Rattle.vx_diskset.specs.Aboves.{site_in};
 ghost use Rattle.vx_diskset.specs.Asked.{LeavesAlone};
 ghost use Rattle.vx_diskset.specs.DiskSets.{Later};
 ghost use Rattle.vx_diskset.specs.Holds.{KeptBeside, beside_of};
-ghost use Rattle.vx_diskset.specs.Noted.{OverCalled};
+ghost use Rattle.vx_diskset.specs.Noted.{OverCalled, StaysNoted};
 ghost use Rattle.vx_diskset.specs.Stands.{RoleIs, SiteStands};
 ghost use Rattle.vx_diskset.specs.declared.disk_set.DiskSet.TheVariants.{Over as OverSites};
 ghost use Rattle.vx_joins.specs.Deliveries.{DeliveredTo, HandsOver, TakesOver, TookTo};
@@ -85,6 +85,7 @@ fn taken_in<R: Rack, N: Net>(
     ensures called { OverCalled over result.0 }
     ensures down { (site_disks (site_in result.0)).down ≡ (site_disks (site_in over)).down }
     ensures later { Later (OverSites over) (OverSites result.0) }
+    ensures noted { StaysNoted over result.0 }
 {
     let OverSet { site: above, cut } = over;
     match above {
@@ -130,6 +131,7 @@ pub(crate) fn take_in<R: Rack, N: Net>(
     ensures called { OverCalled over.old over.new }
     ensures down { (site_disks (site_in over.new)).down ≡ (site_disks (site_in over.old)).down }
     ensures later { Later (OverSites over.old) (OverSites over.new) }
+    ensures noted { StaysNoted over.old over.new }
 {
     let (after, answer) = taken_in(
         mem::replace(over, OverSet::gone()),

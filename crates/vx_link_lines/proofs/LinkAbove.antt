@@ -1,7 +1,7 @@
 -- How a line of links ends that works at one site, which is over a group of disks with a replicated volume group: what the site notes of its group then, in the world
 -- behind the line.
 use Rattle.std.proofs.Common.{◌≡◌, ◌∙◌, ℕ, Bool, true, false, [], ◌∷◌, ◌++◌, ap, sym, subst, refl, arith, inl, ⊎_elim}
-use Rattle.std.specs.Prelude.{Option, Some, IsSome, is_some, if◌then◌else◌}
+use Rattle.std.specs.Prelude.{Option, Some, IsSome, is_some, if◌then◌else◌, Result, Err}
 use Rattle.std.proofs.Math.Path.{fun_ext}
 use Rattle.std.proofs.lemmas.Bool.{cases_eq}
 use Rattle.vx_history.proofs.Updates.{at_place, updated_other}
@@ -27,6 +27,8 @@ use Rattle.vx_events.specs.RvgViews.{is_over_rvg}
 use Rattle.vx_events.specs.RvgWorks.{FuseRanOut, NotesWork}
 use Rattle.vx_events.specs.declared.said.Said.{Said}
 use Rattle.vx_yard.proofs.ChangeSite.{rose_none}
+use Rattle.vx_model.specs.declared.errors.OutOfMemory.{OutOfMemory}
+use Rattle.vx_yard.specs.AboveLines.{LeadsLinkedIs}
 use Rattle.vx_yard.specs.Standing.{StandsFor, StaysFor, StopsAbove}
 use Rattle.vx_yard.specs.Yards.{count_of}
 use Rattle.vx_yard.specs.declared.yard.Yard.{Yard}
@@ -171,3 +173,7 @@ module _ {R : Type 0} {g : Ghosts R} where
   -- the same of a yard that stands for the world as before
   pub stays_above : (d : Doubted) (line : ScriptLine) (old new : Yard R g) → StaysFor d old new → StopsAbove d line old new
   stays_above d line old new stays = record { next = d; part = inl (StopsInPart (none_done d line)); stands = stays.stands; carries = stays.carries; rose = stays.rose }
+
+  -- the same of an answer
+  pub stays_linked : (d : Doubted) (line : ScriptLine) (old new : Yard R g) (r : Result Said OutOfMemory) (e : OutOfMemory) → r ≡ Err e → StaysFor d old new → LeadsLinkedIs d line old new r
+  stays_linked d line old new r e is stays = subst (λ (x : Result Said OutOfMemory). LeadsLinkedIs d line old new x) (sym is) (stays_above d line old new stays)

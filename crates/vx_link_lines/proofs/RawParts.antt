@@ -1,6 +1,7 @@
 -- The sites of a line of links that are over no group of disks with a replicated volume group: their disks are those of raw sets.
-use Rattle.std.proofs.Common.{◌≡◌, ◌∙◌, ◌<◌, ℕ, List, Bool, true, false, refl, ap, subst, sym}
-use Rattle.std.specs.Prelude.{◌||◌, Option, Some, None, slice_get}
+use Rattle.std.proofs.Common.{◌≡◌, ◌∙◌, ◌<◌, ◌≤◌, ℕ, List, Bool, true, false, refl, ap, subst, sym, arith}
+use Rattle.std.proofs.lemmas.Bool.Decides.{nat_tests}
+use Rattle.std.specs.Prelude.{◌||◌, ◌&&◌, ltb, Option, Some, None, slice_get}
 use Rattle.vx_history.specs.Doubts.{Doubted}
 use Rattle.vx_history.specs.World.{Node, Packet, World}
 use Rattle.vx_disk.specs.declared.shelf.Shelf.{Ghosts}
@@ -29,9 +30,26 @@ second_off true b off = absurd (let e : true ≡ false = off in cc)
 second_off false b off = off
 
 -- the target of a packet
-pub target_off : (w : World) (o : Option Packet) (p : Packet) (t : ℕ) → o ≡ Some p → p.target ≡ t → rvg_target w o ≡ false → is_over_rvg (w.nodes t) ≡ false
-target_off w o p t is to off =
-    subst (λ (k : ℕ). is_over_rvg (w.nodes k) ≡ false) to (ap (λ (x : Option Packet). rvg_target w x) (sym is) ∙ off)
+is_below : (a b : ℕ) → a < b → ltb a b ≡ true
+is_below a b low = grind (arith, nat_tests)
+
+target_is : (w : World) (o : Option Packet) (p : Packet) (t : ℕ) → o ≡ Some p → p.target ≡ t → t < w.sites → rvg_target w o ≡ is_over_rvg (w.nodes t)
+target_is w o p t is to below =
+    ap (λ (x : Option Packet). rvg_target w x) is ∙ ap (λ (k : ℕ). ltb k w.sites && is_over_rvg (w.nodes k)) to ∙ ap (λ (b : Bool). b && is_over_rvg (w.nodes t)) (is_below t w.sites below)
+
+pub target_off : (w : World) (o : Option Packet) (p : Packet) (t : ℕ) → o ≡ Some p → p.target ≡ t → t < w.sites → rvg_target w o ≡ false → is_over_rvg (w.nodes t) ≡ false
+target_off w o p t is to below off = sym (target_is w o p t is to below) ∙ off
+
+pub target_over : (w : World) (o : Option Packet) (p : Packet) (t : ℕ) → o ≡ Some p → p.target ≡ t → t < w.sites → rvg_target w o ≡ true → is_over_rvg (w.nodes t) ≡ true
+target_over w o p t is to below over = sym (target_is w o p t is to below) ∙ over
+
+-- no site is the target of a packet that goes past the sites
+past_false : (a b : ℕ) → b ≤ a → ltb a b ≡ false
+past_false a b past = grind (arith, nat_tests)
+
+pub target_past : (w : World) (o : Option Packet) (p : Packet) → o ≡ Some p → w.sites ≤ p.target → rvg_target w o ≡ false
+target_past w o p is past =
+    ap (λ (x : Option Packet). rvg_target w x) is ∙ ap (λ (b : Bool). b && is_over_rvg (w.nodes p.target)) (past_false p.target w.sites past)
 
 module _ {R : Type 0} {g : Ghosts R} where
   pub raw_there : (d : Doubted) (y : Yard R g) (s : ℕ) (e : DiskSet R g) → StandsFor d y → s < d.world.sites → slice_get y.disk_sets.items s ≡ Some e

@@ -14,6 +14,7 @@ use Rattle.vx_joins.specs.Deliveries.{DeliveredTo, TookTo}
 use Rattle.vx_joins.proofs.TakesUpdate.{alone_same, later_same, never_heard, raw_by}
 use Rattle.vx_diskset.proofs.OverCalled.{over_role}
 use Rattle.vx_diskset.proofs.OverNoted.{notes_raw, notes_read}
+use Rattle.vx_diskset.proofs.OverStays.{stays_over, stays_raw, stays_same}
 use Rattle.vx_diskset.proofs.Roles.{role_same}
 use Rattle.vx_joins.proofs.TookUpdate.{other_took}
 use Rattle.vx_joins.proofs.receiving.deliver_update.Goals as goal
@@ -90,3 +91,14 @@ returns-in-Over-clause-notes g c = notes_read c.args.disks.now c.in-Over.over c.
 
 pub returns-in-Over-clause-later : goal.returns-in-Over-clause-later
 returns-in-Over-clause-later g c = subst (λ e. Later e (Over c.take_in.new.over)) (sym c.in-Over.is) c.take_in.ensures.later
+
+-- ---- what a site notes of its group
+
+pub returns-in-Receives-clause-noted : goal.returns-in-Receives-clause-noted
+returns-in-Receives-clause-noted g c = stays_raw c.args.disks.now _ (subst (λ e. IsRawSet e) (sym c.in-Receives.is) tt) tt
+
+pub returns-in_default-clause-noted : goal.returns-in_default-clause-noted
+returns-in_default-clause-noted g c = stays_same c.args.disks.now
+
+pub returns-in-Over-clause-noted : goal.returns-in-Over-clause-noted
+returns-in-Over-clause-noted g c = stays_over c.args.disks.now c.in-Over.over c.take_in.new.over c.in-Over.is c.take_in.ensures.noted

@@ -7,7 +7,7 @@ use Rattle.vx_diskset.specs.Aboves.{site_in}
 use Rattle.vx_diskset.specs.Asked.{LeavesAlone}
 use Rattle.vx_diskset.specs.DiskSets.{Later}
 use Rattle.vx_diskset.specs.Holds.{KeptBeside, beside_of}
-use Rattle.vx_diskset.specs.Noted.{OverCalled}
+use Rattle.vx_diskset.specs.Noted.{OverCalled, StaysNoted}
 use Rattle.vx_diskset.specs.Stands.{RoleIs, SiteStands}
 use Rattle.vx_diskset.specs.declared.disk_set.DiskSet.TheVariants.{Over}
 use Rattle.vx_joins.proofs.taking.take_in.Goals as goal
@@ -46,3 +46,6 @@ returns-clause-down g c = subst (λ s. (site_disks (site_in c.taken_in-after.res
 
 pub returns-clause-later : goal.returns-clause-later
 returns-clause-later g c = subst (λ s. Later (Over s) (Over c.taken_in-after.result.0)) c.replace.ensures.value c.taken_in-after.ensures.later
+
+pub returns-clause-noted : goal.returns-clause-noted
+returns-clause-noted g c = subst (λ s. StaysNoted s c.taken_in-after.result.0) c.replace.ensures.value c.taken_in-after.ensures.noted

@@ -15,7 +15,7 @@ use Rattle.vx_diskset.specs.declared.disk_set.DiskSet.TheVariants.{Over}
 use Rattle.vx_diskset.proofs.OverCalled.{receiver_called}
 use Rattle.vx_diskset.proofs.OverIdle.{rest_called}
 use Rattle.vx_joins.specs.Deliveries.{DeliveredTo, TookTo}
-use Rattle.vx_joins.proofs.TakesFounded.{alone_over, deaf_over, down_over, later_over, put_over, receiver_with, stands_same, works_same}
+use Rattle.vx_joins.proofs.TakesFounded.{alone_over, deaf_over, down_over, later_over, noted_same, put_over, receiver_with, stands_same, works_same}
 use Rattle.vx_joins.proofs.TakesUpdate.{alone_same, err_map, halted_off, ignored_to, later_same, ok_map, received_to, receives_at}
 use Rattle.vx_joins.proofs.TookUpdate.{received_took, unheard}
 use Rattle.vx_joins.proofs.UpdatesFit.{fits_group}
@@ -48,6 +48,9 @@ returns-in-Some-clause-took g c = λ d p k x at target message flight stands rol
     (λ stands halted fed. unheard w c.args.number p k x at message (beside_of d p.target) e c.args.fed_by.now c.args.assembly.now f
     (inl (inr (halted_off (w.nodes p.target).halted c.in-Some.field-0 (sym c.in-Some.is ∙ c.halted.ensures ∙ halted)))) stands fed)
     (stands_same c.in-Receiver.founded c.in-Receiver.founded refl refl refl c.args.over.cut c.args.over c.in-Receiver.is refl (beside_of d c.args.site) (w.nodes c.args.site) stands) here.halted fed
+
+pub returns-in-Some-clause-noted : goal.returns-in-Some-clause-noted
+returns-in-Some-clause-noted g c = noted_same c.in-Receiver.founded c.in-Receiver.founded refl refl refl c.args.over c.in-Receiver.is
 
 pub returns-in-Some-clause-still : goal.returns-in-Some-clause-still
 returns-in-Some-clause-still g c = alone_over c.in-Receiver.founded c.in-Receiver.founded refl refl refl c.args.over.cut c.args.over c.in-Receiver.is
@@ -132,6 +135,10 @@ returns-in-None-clause-assembly g c = c.take_founded-founded.ensures.assembly
 pub returns-in-None-clause-unsent : goal.returns-in-None-clause-unsent
 returns-in-None-clause-unsent g c = c.take_founded-founded.ensures.unsent
 
+pub returns-in-None-clause-noted : goal.returns-in-None-clause-noted
+returns-in-None-clause-noted g c =
+    noted_same c.in-Receiver.founded c.take_founded-founded.result.0 c.take_founded-founded.ensures.core c.take_founded-founded.ensures.below c.take_founded-founded.ensures.shelf c.args.over c.in-Receiver.is
+
 pub returns-in-None-clause-still : goal.returns-in-None-clause-still
 returns-in-None-clause-still g c = alone_over c.in-Receiver.founded c.take_founded-founded.result.0 c.take_founded-founded.ensures.core c.take_founded-founded.ensures.below c.take_founded-founded.ensures.shelf c.args.over.cut c.args.over c.in-Receiver.is
 
@@ -172,6 +179,9 @@ returns-in_default-clause-took g c = λ d p k x at target message flight stands 
     (λ role stands fed. unheard w c.args.number p k x at message (beside_of d p.target) e c.args.fed_by.now c.args.assembly.now f
     (⊎_elim (λ off. inl (inl off)) (λ origin. inr origin) (deaf_over (beside_of d p.target) (w.nodes p.target) c.args.over.site c.in_default.not-Receiver role stands.1)) stands fed)
     role stands fed
+
+pub returns-in_default-clause-noted : goal.returns-in_default-clause-noted
+returns-in_default-clause-noted g c = record { cut = refl; each = λ n note it. it }
 
 pub returns-in_default-clause-still : goal.returns-in_default-clause-still
 returns-in_default-clause-still g c = alone_same (Over c.args.over)
