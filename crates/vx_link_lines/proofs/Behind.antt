@@ -123,13 +123,13 @@ module _ {R : Type 0} {g : Ghosts R} where
         pub ignored_above : IsBehind d number p k old new before after feeder was a IsIgnored t → new.facts.items ≡ old.facts.items → LeadsLinked d (Deliver number) Ignored old new
         ignored_above there facts =
             let here = subst (λ (i : ℕ). IsBehind d number p k old new before after feeder was a IsIgnored i) (sym to) there in
-            ignored_so (AllKnown (IsTold new) d) (λ known. known.0) (λ said. LeadsLinked d (Deliver number) said old new) (linked_new d number p at old new before after stands here.below here.changed notes here.role over_there up_there)
+            ignored_so (AllKnown (IsTold new) d.world) (λ known. known.0) (λ said. LeadsLinked d (Deliver number) said old new) (linked_new d number p at old new before after stands here.below here.changed notes here.role over_there up_there)
             (linked_same d number p at old new before after stands here.below here.changed notes here.role over_there up_there) here facts
 
         pub taken_above : (last : ℕ) → IsBehind d number p k old new before after feeder was a IsTaken t → IsLast last → Shows last → LeadsLinked d (Deliver number) Taken old new
         taken_above last there received facts =
             let here = subst (λ (i : ℕ). IsBehind d number p k old new before after feeder was a IsTaken i) (sym to) there in
-            taken_so (AllKnown (IsTold new) d) (λ known. known.0) (λ said. LeadsLinked d (Deliver number) said old new) (linked_new d number p at old new before after stands here.below here.changed notes here.role over_there up_there)
+            taken_so (AllKnown (IsTold new) d.world) (λ known. known.0) (λ said. LeadsLinked d (Deliver number) said old new) (linked_new d number p at old new before after stands here.below here.changed notes here.role over_there up_there)
             (linked_same d number p at old new before after stands here.below here.changed notes here.role over_there up_there) last here (many_at last received) (shown_at last facts)
 
   -- want of memory: nothing was done

@@ -55,7 +55,7 @@ module _ {R : Type 0} {g : Ghosts R} (d : Doubted) (number : ℕ) (p : Packet) (
   n = d.world.nodes s
 
   module _ (h : Doubted) (m : Node) (packets : List Packet) (gathered : Option Gathering) (said : Said) (eff : EffectAt s d h m (d.world.links s) (d.world.headers s) (d.after s) packets gathered) (fits : LinksFit (worked_for h s))
-      (ends : LinkEnds (AllKnown (IsTold new) d) d (Deliver number) [] said (worked_for h s)) (same : SameSite n m) (facts : new.facts.items ≡ facts_over (worked_for h s).world) (carried : Carries d old → Carries (worked_for h s) new) where
+      (ends : LinkEnds (AllKnown (IsTold new) d.world) d (Deliver number) [] said (worked_for h s)) (same : SameSite n m) (facts : new.facts.items ≡ facts_over (worked_for h s).world) (carried : Carries d old → Carries (worked_for h s) new) where
     noted : EffectAt s d (worked_for h s) (worked m) (d.world.links s) (d.world.headers s) (d.after s) packets gathered
     noted = worked_effect s d h m (d.world.links s) (d.world.headers s) (d.after s) packets gathered eff
 
@@ -90,7 +90,7 @@ module _ {R : Type 0} {g : Ghosts R} (d : Doubted) (number : ℕ) (p : Packet) (
 
   -- with other facts
   pub linked_new : (h : Doubted) (m : Node) (packets : List Packet) (gathered : Option Gathering) (said : Said) (f : SiteFacts) → EffectAt s d h m (d.world.links s) (d.world.headers s) (d.after s) packets gathered → LinksFit (worked_for h s)
-      → LinkEnds (AllKnown (IsTold new) d) d (Deliver number) [] said (worked_for h s) → is_over_group n ≡ false → SameSite n m → SiteStands (beside_of d s) m after → f ≡ fact_of m (d.world.links s) d.world.sites
+      → LinkEnds (AllKnown (IsTold new) d.world) d (Deliver number) [] said (worked_for h s) → is_over_group n ≡ false → SameSite n m → SiteStands (beside_of d s) m after → f ≡ fact_of m (d.world.links s) d.world.sites
       → new.facts.items ≡ slice_set old.facts.items s f → (Carries d old → Carries (worked_for h s) new) → LeadsLinked d (Deliver number) said old new
   linked_new h m packets gathered said f eff fits ends apart same here fact facts carried =
       linked_by h m packets gathered said eff fits ends same
@@ -101,7 +101,7 @@ module _ {R : Type 0} {g : Ghosts R} (d : Doubted) (number : ℕ) (p : Packet) (
 
   -- with the same
   pub linked_same : (h : Doubted) (m : Node) (packets : List Packet) (gathered : Option Gathering) (said : Said) → EffectAt s d h m (d.world.links s) (d.world.headers s) (d.after s) packets gathered → LinksFit (worked_for h s)
-      → LinkEnds (AllKnown (IsTold new) d) d (Deliver number) [] said (worked_for h s) → m ≡ n → SiteStands (beside_of d s) m after → new.facts.items ≡ old.facts.items → (Carries d old → Carries (worked_for h s) new)
+      → LinkEnds (AllKnown (IsTold new) d.world) d (Deliver number) [] said (worked_for h s) → m ≡ n → SiteStands (beside_of d s) m after → new.facts.items ≡ old.facts.items → (Carries d old → Carries (worked_for h s) new)
       → LeadsLinked d (Deliver number) said old new
   linked_same h m packets gathered said eff fits ends is here facts carried =
       linked_by h m packets gathered said eff fits ends (same_site n m is)
