@@ -36,7 +36,7 @@ use Rattle.vx_events.specs.RvgLinks.{LinksOver, noting_each, noted_there}
 use Rattle.vx_events.specs.RvgMakes.{RvgStops, noting_in}
 use Rattle.vx_events.specs.RvgNotes.{volume_events}
 use Rattle.vx_events.specs.RvgOver.{CutBelow, EndsOrShows, EndsOver, OpensFor, OverRvg, OverRvgBy, ShowFails, ShowsAny, TakesOr, is_below, is_inside, missed_in, noting_over, fuse_behind}
-use Rattle.vx_events.specs.RvgParts.{RvgShort, ShortGroup, ShortLog, ShortMade}
+use Rattle.vx_events.specs.RvgParts.{RvgShort, ShortGroup, ShortLog, ShortMade, ShortPump}
 use Rattle.vx_events.specs.RvgViews.{is_over_rvg}
 use Rattle.vx_events.specs.RvgWorks.{AgreesOr}
 use Rattle.vx_events.specs.declared.said.Said.{Said}
@@ -197,6 +197,7 @@ short_stops told d line s new (ShortGroup kept taken lost next over brings notes
 short_stops told d line s new (ShortLog kept taken fails middle found next from rest are brings back rests is left) =
     but_by true d from (rests_like d line s kept middle found from rest rests) s line taken next rest [] new (rests_tell d line s kept middle found from rest rests) left
 short_stops told d line s new (ShortMade site srl maps volumes fails next is are notes left) = ended_rvg d d new (same_doubted d) s next [] refl left
+short_stops told d line s new (ShortPump first second fails next is over are works left) = ended_rvg d d new (same_doubted d) s next [] refl left
 
 -- ---- where a line writes its site is open
 

@@ -1,8 +1,9 @@
 -- A pump of a link of a site over a group of disks with a replicated volume group: what the site notes of its group, as its log is read.
 use Rattle.std.proofs.Common.{◌≡◌, ◌∙◌, ◌⊎◌, inl, inr, ◌+◌, ◌++◌, ◌<◌, ℕ, Bool, true, false, List, [], ◌∷◌, ap, sym, subst, refl, arith, ⊎_elim}
+use Rattle.std.proofs.Math.Path.{fun_ext}
 use Rattle.std.proofs.lemmas.Bool.{cases_eq}
 use Rattle.std.proofs.lemmas.List.{append-nil}
-use Rattle.std.specs.Prelude.{IfOk, Result, Some, slice_get, slice_set}
+use Rattle.std.specs.Prelude.{Result, Some, slice_get, slice_set}
 use Rattle.vx_disk.specs.Counts.{Rose}
 use Rattle.vx_disk.specs.declared.shelf.Shelf.{Ghosts}
 use Rattle.vx_courier.specs.UnderWay.{FlightStands}
@@ -10,8 +11,8 @@ use Rattle.vx_history.proofs.Updates.{at_place, updated_other}
 use Rattle.vx_history.specs.Doubts.{Doubted}
 use Rattle.vx_history.specs.Events.{link_step}
 use Rattle.vx_history.specs.Groups.{GroupNode}
-use Rattle.vx_history.specs.Steps.{burned}
-use Rattle.vx_history.specs.World.{Fuse, Node, Packet, World}
+use Rattle.vx_history.specs.Steps.{burned, worked_on}
+use Rattle.vx_history.specs.World.{Fuse, Node, Packet, World, updated, with_node}
 use Rattle.vx_history.specs.Step.{step}
 use Rattle.vx_history.specs.declared.event.Event.TheVariants.{Pump as PumpAt}
 use Rattle.vx_history.specs.declared.sender.SEvent.TheVariants.{Pump as PumpLink}
@@ -42,13 +43,14 @@ use Rattle.vx_events.proofs.Values.{slice_get-values_from}
 use Rattle.vx_events.specs.Facts.{site_number}
 use Rattle.vx_events.specs.Fails.{Fails, IsLogDisk}
 use Rattle.vx_events.specs.GroupEnds.{AreOf}
-use Rattle.vx_events.specs.GroupLines.{is_over_group}
+use Rattle.vx_events.specs.GroupLines.{is_over_group, noting}
 use Rattle.vx_events.specs.GroupNotes.{IsKnown, note_at}
 use Rattle.vx_events.specs.LinkEnds.{LinkEnds}
 use Rattle.vx_events.specs.LinkFinds.{FindsOther, IsUnreadable, SendsOther, pumped_with}
 use Rattle.vx_events.specs.LinksFit.{LinksFit}
 use Rattle.vx_events.specs.Brights.{AllKnown}
 use Rattle.vx_events.specs.RvgLinks.{LinksOver, fuse_there, noted_there, works_at}
+use Rattle.vx_events.specs.RvgParts.{RvgShort, ShortPump}
 use Rattle.vx_events.specs.RvgViews.{is_over_rvg, over_table}
 use Rattle.vx_events.specs.RvgWorks.{FuseRanOut, NotesWork}
 use Rattle.vx_events.specs.StepsOver.{fact_over, facts_over}
@@ -67,16 +69,17 @@ use Rattle.vx_link_lines.proofs.LinkAbove.{links_over}
 use Rattle.vx_link_lines.proofs.PumpLine.{AnySent, Rests, pump_done, pump_none, pump_other, pump_unread}
 use Rattle.vx_link_lines.proofs.SetAbove.{other_number, same_number}
 use Rattle.vx_yard.proofs.Carrying.{carries_same}
+use Rattle.vx_yard.proofs.CrashLine.{rose_still}
 use Rattle.vx_yard.proofs.LinkLines.{Relinks, carries_kept, stands_kept}
 use Rattle.vx_yard.proofs.Lists.{set_same}
 use Rattle.vx_yard.proofs.NoteSite.{IsNoted, changes_one, fits_one, with_one}
 use Rattle.vx_yard.proofs.OneSite.{Changed, Comes, facts_set, role_kept, stands_still}
 use Rattle.vx_yard.proofs.OverGroup.{begins_apart, both_ways}
 use Rattle.vx_yard.proofs.Reaching.{Reaches, reaches_same}
-use Rattle.vx_yard.specs.AboveLines.{LeadsLinked}
+use Rattle.vx_yard.specs.AboveLines.{LeadsLinked, LeadsLinkedIs}
 use Rattle.vx_yard.specs.Carries.{Carries}
 use Rattle.vx_yard.specs.Replies.{reply_to}
-use Rattle.vx_yard.specs.Standing.{StandsFor}
+use Rattle.vx_yard.specs.Standing.{StandsFor, StopsAbove}
 use Rattle.vx_yard.specs.Stands.{RoseAll}
 use Rattle.vx_yard.specs.Yards.{IsTold, count_of}
 use Rattle.vx_yard.specs.declared.yard.Yard.{Yard}
@@ -170,6 +173,12 @@ module _ {R : Type 0} {g : Ghosts R} (d : Doubted) (old new : Yard R g) (p q : L
         carries_over d s n next (burned n.fuse) mid refl
         (carries_same d old mid (record { flight = refl; assemblies = ap (λ xs. xs.items) rests.assemblies; feeders = ap (λ xs. xs.items) rests.feeders }) told carries)
 
+    abbrev agrees : AgreesStill note next (site_disks (site_in o)) (site_disks (site_in e))
+    agrees = (call_up d old mid s o e call (beside_of d s) n on up).1
+
+    abbrev extra : ℕ
+    extra = up_extra d old mid s o e call agrees
+
     -- ---- what it makes of them
 
     module _ (v : World) (by : LeavesDisks d.world v) (fits : LinksFit (record d { world = v })) (more : List Packet) (sent : v.packets ≡ d.world.packets ++ more) (facts : new.facts.items ≡ facts_over v)
@@ -214,6 +223,12 @@ module _ {R : Type 0} {g : Ghosts R} (d : Doubted) (old new : Yard R g) (p q : L
           ∙ ap (λ (b : Bool). noted_node n next (fuse_there b n.fuse n.fuse)) works
           ∙ ap (λ (f : Fuse). noted_node n next f) (lit_still n.fuse)
 
+      stands_left : StandsFor left new
+      stands_left = stands_kept (with_one d s k) left.world mid new stands_mid leaves fits_left relinks (facts ∙ sym facts_left)
+
+      carries_left : Carries d old → Carries left new
+      carries_left carries = carries_kept (with_one d s k) left.world mid new more (carries_mid carries) leaves sent relinks (flies carries)
+
       pumped_leads : (said : Said) (borne ending fails : Fails) → fails ≡ borne ++ ending → AreOf s borne → LinkEnds (AllKnown (IsTold new) d.world) d line ending said behind → NotesWork (FuseRanOut n said) s fails note next
           → RoseAll fails (count_of old) (count_of new) → LeadsLinked d line said old new
       pumped_leads said borne ending fails split of ends worked rose = record {
@@ -221,16 +236,10 @@ module _ {R : Type 0} {g : Ghosts R} (d : Doubted) (old new : Yard R g) (p q : L
         fails = fails;
         works = subst (λ (x : Node). LinksOver (IsTold new) d line fails said (with_one behind s x)) node_is
             (links_over line d s over works others behind (λ i other. by.nodes i) next (IsTold new) fails said worked borne ending split of ends tt tt);
-        stands = stands_kept (with_one d s k) left.world mid new stands_mid leaves fits_left relinks (facts ∙ sym facts_left);
-        carries = λ carries. carries_kept (with_one d s k) left.world mid new more (carries_mid carries) leaves sent relinks (flies carries);
+        stands = stands_left;
+        carries = carries_left;
         rose = rose;
       }
-
-      abbrev agrees : AgreesStill note next (site_disks (site_in o)) (site_disks (site_in e))
-      agrees = (call_up d old mid s o e call (beside_of d s) n on up).1
-
-      abbrev extra : ℕ
-      extra = up_extra d old mid s o e call agrees
 
       -- no call ended it
       over_pumped : (said : Said) → LinkEnds (AllKnown (IsTold new) d.world) d line [] said behind → LeadsLinked d line said old new
@@ -245,6 +254,41 @@ module _ {R : Type 0} {g : Ghosts R} (d : Doubted) (old new : Yard R g) (p q : L
           let borne : Fails = borne_calls d old mid s o e call disk rose extra in
           pumped_leads said borne ((s, disk) ∷ []) (borne ++ (s, disk) ∷ []) refl (borne_are d old mid s o e call disk rose extra) ends (ended_up d old mid s o e call disk rose agrees (FuseRanOut n said))
           (ended_rose d old mid s o e call disk rose extra)
+
+    -- ---- want of memory: nothing was sent, and no disk ended it
+
+    abbrev noted_nodes : ℕ → Node
+    noted_nodes = updated d.world.nodes s (record (d.world.nodes s) { group = Some next })
+
+    world_noted : with_node d.world s k ≡ worked_on (noting d.world s next) s
+    world_noted = ap (λ (f : ℕ → Node). record d.world { nodes = f }) (fun_ext same)
+      where
+        worked_then : Node → Node
+        worked_then x = record x { fuse = burned x.fuse }
+
+        same : (i : ℕ) → updated d.world.nodes s k i ≡ (worked_on (noting d.world s next) s).nodes i
+        same i = ⊎_elim
+            (λ (is : i ≡ s).
+            subst (λ (j : ℕ). updated d.world.nodes s k j ≡ (worked_on (noting d.world s next) s).nodes j) (sym is)
+            (at_place d.world.nodes s k
+            ∙ sym (at_place noted_nodes s (worked_then (noted_nodes s)) ∙ ap (λ (x : Node). worked_then x) (at_place d.world.nodes s (record (d.world.nodes s) { group = Some next })))))
+            (λ other.
+            updated_other d.world.nodes s i k other
+            ∙ sym (updated_other noted_nodes s i (worked_then (noted_nodes s)) other ∙ updated_other d.world.nodes s i (record (d.world.nodes s) { group = Some next }) other))
+            (cases_eq i s)
+
+    over_short : new.facts.items ≡ facts_over d.world → (Carries d old → FlightStands d.world.packets new.flight) → StopsAbove d line old new
+    over_short facts flies =
+        let unmoved : LeavesDisks d.world d.world = record { sites = refl; nodes = λ i. refl; kept = λ i. refl; headers = λ i. refl; gathering = λ i. refl } in
+        let sent : d.world.packets ≡ d.world.packets ++ [] = sym (append-nil d.world.packets) in
+        record {
+          next = with_one d s k;
+          part = inr (subst (λ (i : ℕ). RvgShort (IsTold new) d (Pump p q) i (with_one d s k)) (sym number)
+              (ShortPump p q (done_calls d old mid s o e call extra) next refl over (done_are d old mid s o e call extra) (done_up d old mid s o e call agrees ⊥) (record { world = world_noted; after = λ i. refl })));
+          stands = stands_left d.world unmoved stands.links [] sent facts flies;
+          carries = carries_left d.world unmoved stands.links [] sent facts flies;
+          rose = rose_still old new s (Over o) (Over e) changed.there changed.later changed.disk_sets;
+        }
 
   -- ---- by the disk sets before and behind the call
 
@@ -312,7 +356,11 @@ module _ {R : Type 0} {g : Ghosts R} (d : Doubted) (old new : Yard R g) (p q : L
 
     pub pump_stops_above : (f : Flying) (stop : Stop) (r : Result Said OutOfMemory) → PumpStop (d.world.nodes s) (link_step d.world (site_number d.world p) (site_number d.world q) PumpLink).action (faults_at before) (faults_at after) stop
         → ((why : No) → stop ≡ RefusedSo why → IsUnreadable why → AllKnown (IsTold new) d.world → ⊥) → r ≡ reply_to stop → new.facts.items ≡ old.facts.items → new.flight ≡ f → f ≡ old.flight
-        → IfOk r (λ said. LeadsLinked d (Pump p q) said old new)
-    pump_stops_above f MemoryStop r stopped untold is facts flight still = subst (λ (x : Result Said OutOfMemory). IfOk x (λ said. LeadsLinked d (Pump p q) said old new)) (sym is) tt
+        → LeadsLinkedIs d (Pump p q) old new r
+    pump_stops_above f MemoryStop r stopped untold is facts flight still =
+        subst (λ (x : Result Said OutOfMemory). LeadsLinkedIs d (Pump p q) old new x) (sym is)
+        (by_over (λ x y. StopsAbove d line old new)
+        (λ o e changes moves kind there.
+        over_short o e changes moves kind there (facts ∙ stands.facts) (λ carries. subst (λ (x : Flying). FlightStands d.world.packets x) (sym (flight ∙ still)) carries.flight)))
     pump_stops_above f (RefusedSo why) r stopped untold is facts flight still =
-        subst (λ (x : Result Said OutOfMemory). IfOk x (λ said. LeadsLinked d (Pump p q) said old new)) (sym is) (pump_refused_above f why stopped (untold why refl) facts flight still)
+        subst (λ (x : Result Said OutOfMemory). LeadsLinkedIs d (Pump p q) old new x) (sym is) (pump_refused_above f why stopped (untold why refl) facts flight still)

@@ -3,7 +3,7 @@ ghost use Rattle.std.specs.Prelude.{◌≡◌, IfOk, false, true};
 ghost use Rattle.vx_history.specs.Doubts.{Doubted};
 ghost use Rattle.vx_events.specs.RvgLinks.{links_rvg};
 ghost use Rattle.vx_script.specs.declared.line.ScriptLine.TheVariants.{Pump};
-ghost use Rattle.vx_yard.specs.AboveLines.{LeadsLinked};
+ghost use Rattle.vx_yard.specs.AboveLines.{LeadsLinkedIs};
 ghost use Rattle.vx_yard.specs.Carries.{Carries};
 ghost use Rattle.vx_yard.specs.OfSites.{AsAsked, HasCalled};
 ghost use Rattle.vx_yard.specs.Standing.{LeadsIs, StandsFor};
@@ -28,8 +28,7 @@ pub fn pump_line<R: Rack>(
     requires kept { IsYardKept yard.old }
     requires free { IsFree yard.old (Pump first.now second.now) }
     ensures leads { (d : Doubted) → StandsFor d yard.old → links_rvg d.world (Pump first.now second.now) ≡ false → Carries d yard.old → LeadsIs d (Pump first.now second.now) yard.old yard.new result }
-    // What want of memory leaves of a pump of which a read lost a disk is not said yet.
-    ensures above { (d : Doubted) → StandsFor d yard.old → links_rvg d.world (Pump first.now second.now) ≡ true → Carries d yard.old → IfOk result (λ said. LeadsLinked d (Pump first.now second.now) said yard.old yard.new) }
+    ensures above { (d : Doubted) → StandsFor d yard.old → links_rvg d.world (Pump first.now second.now) ≡ true → Carries d yard.old → LeadsLinkedIs d (Pump first.now second.now) yard.old yard.new result }
     ensures asked { (d : Doubted) → StandsFor d yard.old → links_rvg d.world (Pump first.now second.now) ≡ false → AsAsked d.world (Pump first.now second.now) yard.old yard.new }
     ensures called { (d : Doubted) → StandsFor d yard.old → links_rvg d.world (Pump first.now second.now) ≡ false → IfOk result (λ said. HasCalled d.world (Pump first.now second.now) said yard.old yard.new) }
     ensures told { IsTold yard.new → IsTold yard.old }
