@@ -40,4 +40,5 @@ pub mod SetLink
 pub mod SetNames
 pub mod StatesAre
 pub mod Turned
+pub mod UpdateAbove
 pub mod UpdateLine
