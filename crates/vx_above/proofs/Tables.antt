@@ -15,7 +15,7 @@ use Rattle.vx_events.specs.RvgViews.{data_facts, data_units, is_data_unit, kind_
 
 -- ---- the volumes that are no data volumes, by what the tests see of them in another kind
 
-others_seen : Units → ℕ → List VolumeFacts → List VolumeFacts
+abbrev others_seen : Units → ℕ → List VolumeFacts → List VolumeFacts
 others_seen units place [] = []
 others_seen units place (f ∷ fs) = unless_data (is_data_unit units.vols place) (let x : VolumeFacts = record f { kind = kind_at units place } in x) (others_seen units (place + 1) fs)
 
@@ -29,7 +29,7 @@ others_same (Some units) us vs same = others_as units 0 us ∙ ap (λ (fs : List
 
 -- ---- the data volumes
 
-plexes_seen : Option VolumeFacts → ℕ
+abbrev plexes_seen : Option VolumeFacts → ℕ
 plexes_seen None = 0
 plexes_seen (Some f) = f.plexes
 
@@ -57,7 +57,7 @@ others_is None = refl
 others_is (Some c) = refl
 
 -- the table by its parts
-table_of : List Volume → Option Units → List VolumeEntry → List VolumeFacts
+abbrev table_of : List Volume → Option Units → List VolumeEntry → List VolumeFacts
 table_of xs o vs = data_facts vs (data_units o) xs ++ others_by o vs
 
 table_is : (n : Node) (note : GroupNode) → over_table n note ≡ table_of n.volumes (rvg_noted note) (entries_noted note)

@@ -99,6 +99,11 @@ module _ (m middle m' : Meaning) (pick : ℕ) (since : RisesSince m middle) (fel
     passes = λ x z was is up. absurd (never_both m'.down fell.down up);
   }
 
+-- what a shaded rack tells, the rack tells
+shade_bright : {R : Type 0} (g : Ghosts R) (s : Shade R) → IsTrue (shade_meaning g.meaning s).tells → IsTrue (g.meaning (rack_of s)).tells
+shade_bright g (Bright rack) told = told
+shade_bright g (Dark rack) told = absurd (let wrong : false ≡ true = told in cc)
+
 module _ {R : Type 0} {g : Ghosts R} where
   -- ---- the disks below a disk set
 
@@ -122,14 +127,10 @@ module _ {R : Type 0} {g : Ghosts R} where
     pub disks : HasDisks e (site_disks site)
     pub told : IsRackTold e → IsTrue (site_below site).tells
 
-  shade_bright : (s : Shade R) → IsTrue (shade_meaning g.meaning s).tells → IsTrue (g.meaning (rack_of s)).tells
-  shade_bright (Bright rack) told = told
-  shade_bright (Dark rack) told = absurd (let wrong : false ≡ true = told in cc)
-
   pub told_below : (s : GroupSite R g) → IsTrue (site_disks s).tells → IsTrue (site_below s).tells
-  told_below (Up laid) told = shade_bright laid.shelf told
-  told_below (Deported idle) told = shade_bright idle.rack told
-  told_below (Down idle) told = shade_bright idle.rack told
+  told_below (Up laid) told = shade_bright g laid.shelf told
+  told_below (Deported idle) told = shade_bright g idle.rack told
+  told_below (Down idle) told = shade_bright g idle.rack told
   told_below (Marked rack) told = told
   told_below Gone told = told
 

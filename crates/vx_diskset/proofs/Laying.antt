@@ -40,7 +40,7 @@ laid_as u ring volumes sizes m new size laid = record {
 }
 
 -- what both say of the units
-laid_by : (o : Option GroupNode) (n : Node) (sizes : ℕ → ℕ) (m : Meaning) → LiesBy o n sizes m → IsLaid (units_by o n.disks) n.ring n.volumes sizes m
+laid_by : (o : Option GroupNode) (n : Node) (sizes : ℕ → ℕ) (m : Meaning) → LiesBy o n.disks n.blocks n.ring n.volumes sizes m → IsLaid (units_by o n.disks) n.ring n.volumes sizes m
 laid_by None n sizes m lies = lies.laid
 laid_by (Some note) n sizes m lies = lies.laid
 
@@ -48,7 +48,7 @@ pub laid_in : (n : Node) (m : Meaning) → LiesOn n m → IsLaid (units_of n) n.
 laid_in n m lies = laid_by n.group n n.base.size m lies
 
 -- over a group its volumes are there
-there_by : (o : Option GroupNode) (n : Node) (sizes : ℕ → ℕ) (m : Meaning) → (o ≡ None → ⊥) → LiesBy o n sizes m → (k : ℕ) → inside_of (units_by o n.disks) k ≡ true → k < m.units
+there_by : (o : Option GroupNode) (n : Node) (sizes : ℕ → ℕ) (m : Meaning) → (o ≡ None → ⊥) → LiesBy o n.disks n.blocks n.ring n.volumes sizes m → (k : ℕ) → inside_of (units_by o n.disks) k ≡ true → k < m.units
 there_by None n sizes m over lies k is = absurd (over refl)
 there_by (Some note) n sizes m over lies k is = lies.there k is
 
@@ -69,12 +69,12 @@ raw_as disks blocks ring volumes sizes m new units size lies = record {
 }
 
 pub raw_in : (n : Node) (m : Meaning) → n.group ≡ None → LiesOn n m → LiesRaw n m
-raw_in n m none lies = subst (λ (o : Option GroupNode). LiesBy o n n.base.size m) none lies
+raw_in n m none lies = subst (λ (o : Option GroupNode). LiesBy o n.disks n.blocks n.ring n.volumes n.base.size m) none lies
 
 pub raw_on : (n : Node) (m : Meaning) → n.group ≡ None → LiesRaw n m → LiesOn n m
-raw_on n m none lies = subst (λ (o : Option GroupNode). LiesBy o n n.base.size m) (sym none) lies
+raw_on n m none lies = subst (λ (o : Option GroupNode). LiesBy o n.disks n.blocks n.ring n.volumes n.base.size m) (sym none) lies
 
-lies_by : (o : Option GroupNode) (n : Node) (sizes : ℕ → ℕ) (m new : Meaning) → new.units ≡ m.units → ((k : ℕ) → new.size k ≡ m.size k) → LiesBy o n sizes m → LiesBy o n sizes new
+lies_by : (o : Option GroupNode) (n : Node) (sizes : ℕ → ℕ) (m new : Meaning) → new.units ≡ m.units → ((k : ℕ) → new.size k ≡ m.size k) → LiesBy o n.disks n.blocks n.ring n.volumes sizes m → LiesBy o n.disks n.blocks n.ring n.volumes sizes new
 lies_by None n sizes m new units size lies = raw_as n.disks n.blocks n.ring n.volumes sizes m new units size lies
 lies_by (Some note) n sizes m new units size lies = record {
   laid = laid_as (config_units (config_of note.config)) n.ring n.volumes sizes m new size lies.laid;
@@ -100,16 +100,16 @@ laid_sized u ring volumes was sizes m same laid = record {
   none = λ v past. same v ∙ laid.none v past;
 }
 
-sized_by : (o : Option GroupNode) (n : Node) (was sizes : ℕ → ℕ) (m : Meaning) → ((v : ℕ) → sizes v ≡ was v) → LiesBy o n was m → LiesBy o n sizes m
+sized_by : (o : Option GroupNode) (n : Node) (was sizes : ℕ → ℕ) (m : Meaning) → ((v : ℕ) → sizes v ≡ was v) → LiesBy o n.disks n.blocks n.ring n.volumes was m → LiesBy o n.disks n.blocks n.ring n.volumes sizes m
 sized_by None n was sizes m same lies = record { units = lies.units; size = lies.size; can = lies.can; few = lies.few; laid = laid_sized (raw_units n.disks) n.ring n.volumes was sizes m same lies.laid }
 sized_by (Some note) n was sizes m same lies = record { laid = laid_sized (config_units (config_of note.config)) n.ring n.volumes was sizes m same lies.laid; there = lies.there }
 
-pub lies_sized : (n : Node) (sizes : ℕ → ℕ) (m : Meaning) → ((v : ℕ) → sizes v ≡ n.base.size v) → LiesOn n m → LiesBy n.group n sizes m
+pub lies_sized : (n : Node) (sizes : ℕ → ℕ) (m : Meaning) → ((v : ℕ) → sizes v ≡ n.base.size v) → LiesOn n m → LiesBy n.group n.disks n.blocks n.ring n.volumes sizes m
 lies_sized n sizes m same lies = sized_by n.group n n.base.size sizes m same lies
 
 -- of a raw set
 pub raw_sized : (n : Node) (sizes : ℕ → ℕ) (m : Meaning) → n.group ≡ None → ((v : ℕ) → sizes v ≡ n.base.size v) → LiesOn n m → IsRaw n.disks n.blocks n.ring n.volumes sizes m
-raw_sized n sizes m none same lies = subst (λ (o : Option GroupNode). LiesBy o n sizes m) none (lies_sized n sizes m same lies)
+raw_sized n sizes m none same lies = subst (λ (o : Option GroupNode). LiesBy o n.disks n.blocks n.ring n.volumes sizes m) none (lies_sized n sizes m same lies)
 
 -- the content has the sizes of its units
 pub sizes_of : (u : Units) (ring : ℕ) (volumes : List Volume) (c : Content) (m : Meaning) → IsLaid u ring volumes c.size m → HasSizes u.vols c m

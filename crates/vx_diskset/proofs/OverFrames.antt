@@ -174,7 +174,7 @@ module _ (c : Core) (m m' : Meaning) (mine : Blocks) (goes : VolumesGo mine m m'
 -- ---- a site that is up and runs
 
 -- a replicated volume group that is laid on these volumes of a group
-lies_over : (o : Option GroupNode) (n : Node) (sizes : ℕ → ℕ) (m : Meaning) → (o ≡ None → ⊥) → IsLaid (units_by o n.disks) n.ring n.volumes sizes m → ((k : ℕ) → inside_of (units_by o n.disks) k ≡ true → k < m.units) → LiesBy o n sizes m
+lies_over : (o : Option GroupNode) (n : Node) (sizes : ℕ → ℕ) (m : Meaning) → (o ≡ None → ⊥) → IsLaid (units_by o n.disks) n.ring n.volumes sizes m → ((k : ℕ) → inside_of (units_by o n.disks) k ≡ true → k < m.units) → LiesBy o n.disks n.blocks n.ring n.volumes sizes m
 lies_over None n sizes m over laid there = absurd (over refl)
 lies_over (Some note) n sizes m over laid there = record { laid = laid; there = there }
 

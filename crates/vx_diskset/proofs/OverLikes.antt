@@ -25,7 +25,7 @@ use Rattle.vx_diskset.specs.declared.over_set.OverSite.{OverSite}
 use Rattle.vx_diskset.specs.declared.over_set.OverSite.TheVariants.{Origin as OriginSite, Receiver as ReceiverSite, Deported as GroupAway, Down as GroupFell, Gone as NoGroup}
 
 -- on the same units of a group
-lies_over : (was now : Option GroupNode) (fuse : Fuse) (n : Node) (x : Meaning) → (was ≡ None → ⊥) → (now ≡ None → ⊥) → units_by now n.disks ≡ units_by was n.disks → LiesBy was n n.base.size x → LiesBy now (record n { group = now; fuse = fuse }) n.base.size x
+lies_over : (was now : Option GroupNode) (fuse : Fuse) (n : Node) (x : Meaning) → (was ≡ None → ⊥) → (now ≡ None → ⊥) → units_by now n.disks ≡ units_by was n.disks → LiesBy was n.disks n.blocks n.ring n.volumes n.base.size x → LiesBy now n.disks n.blocks n.ring n.volumes n.base.size x
 lies_over None now fuse n x first last same it = absurd (first refl)
 lies_over (Some a) None fuse n x first last same it = absurd (last refl)
 lies_over (Some a) (Some b) fuse n x first last same it = record {

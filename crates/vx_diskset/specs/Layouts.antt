@@ -81,10 +81,10 @@ pub record IsOver (u : Units) (ring : ℕ) (volumes : List Volume) (sizes : ℕ 
   pub there : (k : ℕ) → inside_of u k ≡ true → k < m.units
 
 -- a raw set, or one over a group, with volumes of these sizes
-abbrev pub LiesBy : Option GroupNode → Node → (ℕ → ℕ) → Meaning → Type 0
-LiesBy None n sizes m = IsRaw n.disks n.blocks n.ring n.volumes sizes m
-LiesBy (Some note) n sizes m = IsOver (config_units (config_of note.config)) n.ring n.volumes sizes m
+abbrev pub LiesBy : Option GroupNode → (disks blocks ring : ℕ) → List Volume → (ℕ → ℕ) → Meaning → Type 0
+LiesBy None disks blocks ring volumes sizes m = IsRaw disks blocks ring volumes sizes m
+LiesBy (Some note) disks blocks ring volumes sizes m = IsOver (config_units (config_of note.config)) ring volumes sizes m
 
 -- the same of a site
 abbrev pub LiesOn : Node → Meaning → Type 0
-LiesOn n m = LiesBy n.group n n.base.size m
+LiesOn n m = LiesBy n.group n.disks n.blocks n.ring n.volumes n.base.size m

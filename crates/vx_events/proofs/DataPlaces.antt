@@ -118,6 +118,7 @@ pub record DataPlaced (n : Node) (name : List ℕ) (x : VolumeFacts) : Type 0 wh
   pub blocks : fact.blocks ≡ x.blocks
 
 pub data_placed : (n : Node) (name : List ℕ) (x : VolumeFacts) → find (λ (v : VolumeFacts). bytes_eq v.name name) (table_at n) ≡ Some x → x.kind ≡ Data → DataPlaced n name x
+unfolding shown_table
 data_placed n name x e is = by (is_over_rvg n) refl
   where
     placed : (all : List VolumeFacts) → table_at n ≡ all → Fronted name all n.volumes x → DataPlaced n name x

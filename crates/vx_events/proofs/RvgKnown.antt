@@ -11,7 +11,7 @@ use Rattle.vx_history.specs.declared.event.Event.{Event}
 use Rattle.vx_config.specs.declared.config.Config.{Config}
 use Rattle.vx_model.specs.declared.units.Units.{Units}
 use Rattle.vx_script.specs.declared.line.ScriptLine.{ScriptLine}
-use Rattle.vx_script.specs.declared.line.ScriptLine.TheVariants.{Apply, GroupImport, Put, Recover, Write}
+use Rattle.vx_script.specs.declared.line.ScriptLine.TheVariants.{Apply, GroupImport, Put, Read, Recover, Show, Write}
 use Rattle.vx_events.proofs.KnownLaws.{back_known, cuts_known, finds_none, group_known, group_stays, no_rise, same_note}
 use Rattle.vx_events.proofs.RvgMissed.{missed_dark, missed_note}
 use Rattle.vx_events.specs.Doubts.{with_disks, IsAs}

@@ -62,7 +62,7 @@ seek A test (suc n) high on =
     by false is rest = rest is
 
 -- how many plexes a volume has
-pub count_or : Option VolumeEntry → ℕ
+abbrev pub count_or : Option VolumeEntry → ℕ
 count_or None = 0
 count_or (Some e) = length e.plexes
 
@@ -161,7 +161,7 @@ module _ (c d : GroupCore) (name : List ℕ) (want : Shape) (m m' : Meaning) (S 
   made_by up (Ok vol) made on = record {
     each = λ v lt is. ⊎_elim (λ low. made_old up v low is)
         (λ high.
-        let many : length d.inner.config.volumes ≡ length c.inner.config.volumes + 1 = ap length made.volumes ∙ long_one c.inner.config.volumes (made.volume ∷ []) in
+        let many : length d.inner.config.volumes ≡ length c.inner.config.volumes + 1 = ap length made.volumes ∙ long_one c.inner.config.volumes made.volume in
         let number = made.number in
         let same : v ≡ vol = omega (arith, lt, high, many, number) in
         ap (λ (k : ℕ). is_alike b k) same ∙ on)

@@ -1,6 +1,6 @@
 -- A line that reads blocks of a site that may keep links.
 use Rattle.std.proofs.Common.{◌≡◌, ◌∙◌, ◌+◌, ◌*◌, ◌<◌, ◌≤◌, ℕ, Bool, false, List, [], ◌∷◌, length, ap, sym, subst, refl, arith, inl, inr}
-use Rattle.std.specs.Prelude.{None, Option, Some, Ok, Err, map, slice_get, unwrap_or}
+use Rattle.std.specs.Prelude.{None, Option, Some, Ok, Err, if◌then◌else◌, map, slice_get, unwrap_or}
 use Rattle.std.specs.Str.{bytes_eq}
 use Rattle.std.proofs.lemmas.Option.{slice_get_within}
 use Rattle.vx_history.specs.Doubts.{Doubted}

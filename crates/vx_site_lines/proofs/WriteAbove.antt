@@ -306,5 +306,5 @@ module _ {R : Type 0} {g : Ghosts R} (d : Doubted) (old new : Yard R g) (line : 
             (λ o p so_it. none_above o p so_it.0 what most f f' so_it.1 at (noted_so free) facts (record { flight = gone.flight; assemblies = gone.assemblies; feeders = gone.feeders })) (wrote, it)
         by_why Off blames it noted_so gone =
             let sure : (beside_of d s).doubt ≡ None = running_sure (beside_of d s) n before was to.can.up to.can.running in
-            ⊎_elim (λ own. by_own it.1.kept own it.1.count it.1.least it.1.most it.1.stands it.0 it.3 (noted_so free) gone) (λ other. absurd (never_some (sym sure ∙ other))) it.1.is
+            ⊎_elim (λ own. by_own it.1.kept own it.1.count it.1.least it.1.most it.1.stands it.0 it.3 (noted_so free) (record { flight = gone.flight; assemblies = gone.assemblies; feeders = gone.feeders })) (λ other. absurd (never_some (sym sure ∙ other))) it.1.is
         by_why other blames it noted_so gone = absurd it

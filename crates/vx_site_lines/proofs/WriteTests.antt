@@ -136,7 +136,7 @@ module _ {R : Type 0} {g : Ghosts R} where
     abbrev n : Node
     n = d.world.nodes s
 
-    write_call : CallMay y.facts.items name volume start (blocks_in bytes)
+    abbrev write_call : CallMay y.facts.items name volume start (blocks_in bytes)
     write_call = (may_write y line name volume start bytes is free).call
 
     seat_is : SiteAt d y name s

@@ -141,6 +141,26 @@ module _ (told : Type 0) (d : Doubted) (name : List ℕ) (to s : ℕ) (number_is
       subst (λ (i : ℕ). Ends told d (Apply name to) i [] (Refused Off) e) (sym number_is)
       (FuseRunsOut (keeps_k count) (ApplyAt s to 0) [] (event_is 0) refl few fused refl refl (record { world = refl; after = λ i. refl }))
 
+-- the site, whose fuse ran out in it
+module _ (d : Doubted) (s count : ℕ) (below : s < d.world.sites) (up : (d.world.nodes s).state ≡ IsUp) (least : (d.world.nodes s).safe ≤ count) (most : count ≤ length (d.world.nodes s).log) where
+  abbrev own : Node
+  own = d.world.nodes s
+
+  abbrev fell : Doubted
+  fell = crash_of d s count false
+
+  abbrev ended : Doubted
+  ended = worked_for fell s
+
+  node_then : fell.world.nodes s ≡ crashed_node own own count
+  node_then = crash_node d s count false own (d.world.links s) refl (λ j. refl) (λ _. refl) below up least most
+
+  pub fell_node : ended.world.nodes s ≡ crashed_node own own count
+  fell_node = (note_effect fell s (worked (fell.world.nodes s))).is.node ∙ ap (λ (q : Node). worked q) node_then
+
+  pub fell_same : fell.world.nodes s ≡ ended.world.nodes s
+  fell_same = node_then ∙ sym fell_node
+
 module _ {R : Type 0} {g : Ghosts R} where
   -- an apply of at most so many that was refused; where its fuse ran out no more of them are kept
   abbrev pub StopsApply : KeptBeside → Node → (to : ℕ) → DiskSet R g → DiskSet R g → No → Type 0
@@ -193,36 +213,21 @@ module _ {R : Type 0} {g : Ghosts R} where
 
   -- the site, whose fuse ran out in it
   module _ (d : Doubted) (s count : ℕ) (below : s < d.world.sites) (up : (d.world.nodes s).state ≡ IsUp) (least : (d.world.nodes s).safe ≤ count) (most : count ≤ length (d.world.nodes s).log) where
-    abbrev own : Node
-    own = d.world.nodes s
-
-    abbrev fell : Doubted
-    fell = crash_of d s count false
-
-    abbrev ended : Doubted
-    ended = worked_for fell s
-
-    node_then : fell.world.nodes s ≡ crashed_node own own count
-    node_then = crash_node d s count false own (d.world.links s) refl (λ j. refl) (λ _. refl) below up least most
-
-    pub fell_node : ended.world.nodes s ≡ crashed_node own own count
-    fell_node = (note_effect fell s (worked (fell.world.nodes s))).is.node ∙ ap (λ (q : Node). worked q) node_then
-
-    pub fell_same : fell.world.nodes s ≡ ended.world.nodes s
-    fell_same = node_then ∙ sym fell_node
-
     pub fell_comes : (before after : DiskSet R g) → LinksFit d → FailsAs (d.world.nodes s) before → SameFailing before after → SiteStands (sure_of (itself (beside_of d s) (d.world.nodes s))) (crashed (d.world.nodes s) count) after
         → Comes d (worked_for (crash_of d s count false) s) s after
     fell_comes before after fits fails same stood =
-        let comes = crash_comes d s count false own (d.world.links s) refl (λ j. refl) (λ _. refl) below up least most before after fits fails same stood in
+        let fell : Doubted = crash_of d s count false in
+        let ended : Doubted = worked_for fell s in
+        let back : fell.world.nodes s ≡ ended.world.nodes s = fell_same d s count below up least most in
+        let comes = crash_comes d s count false (d.world.nodes s) (d.world.links s) refl (λ j. refl) (λ _. refl) below up least most before after fits fails same stood in
         record {
           changes = changes_then s d fell ended comes.changes (note_effect fell s (worked (fell.world.nodes s))).site;
           links = fit_worked fell s comes.links;
-          stands = subst (λ (q : Node). SiteStands (beside_of fell s) q after) fell_same comes.stands;
-          failing = subst (λ (q : Node). FailsAs q after) fell_same comes.failing;
-          fuse = subst (λ (q : Node). FusedAs q after) fell_same comes.fuse;
-          role = subst (λ (q : Node). RoleIs q after) fell_same comes.role;
-          doubt = λ was a there. subst (λ (q : Node). IsSameSite q a.node) fell_same (comes.doubt was a there);
+          stands = subst (λ (q : Node). SiteStands (beside_of fell s) q after) back comes.stands;
+          failing = subst (λ (q : Node). FailsAs q after) back comes.failing;
+          fuse = subst (λ (q : Node). FusedAs q after) back comes.fuse;
+          role = subst (λ (q : Node). RoleIs q after) back comes.role;
+          doubt = λ was a there. subst (λ (q : Node). IsSameSite q a.node) back (comes.doubt was a there);
         }
 
   module _ (d : Doubted) (old new : Yard R g) (name : List ℕ) (to s : ℕ) (before after : DiskSet R g) (stands : StandsFor d old) (here : CanApplyAt d old name s)

@@ -279,7 +279,7 @@ module _ {R : Type 0} {g : Ghosts R} where
             plain = λ over. absurd (doubt_apart (beside_of d s) n before k (stands.disk_sets.sites s before below changed.there) up other (no_rvg over).volumes);
             group = ap (λ (x : Node). x.group) (crash_node d s count true a.node a.row node_is row_is (λ e. absurd (never e)) below fits.up_too least most);
             volumes = ap (λ (x : Node). x.volumes) (crash_node d s count true a.node a.row node_is row_is (λ e. absurd (never e)) below fits.up_too least most) ∙ same_site.volumes;
-            fuse = ap (λ (x : Node). x.fuse) (crash_node d s count true a.node a.row node_is row_is (λ e. absurd (never e)) below fits.up_too least most) ∙ same_site.volumes;
+            fuse = ap (λ (x : Node). x.fuse) (crash_node d s count true a.node a.row node_is row_is (λ e. absurd (never e)) below fits.up_too least most);
             carries = carries_let s d (crash_of d s count true) old new lets small (crash_changes d s count true a.node a.row node_is row_is (λ e. absurd (never e)) below fits.up_too least most)
                 (crash_sent d s count true a.node a.row node_is row_is (λ e. absurd (never e)) below fits.up_too least most)
                 (crash_gathering d s count true a.node a.row node_is row_is (λ e. absurd (never e)) below fits.up_too least most)

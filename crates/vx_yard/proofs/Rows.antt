@@ -1,6 +1,6 @@
 -- Rows of links that are the same link by link, and what the tests see of a site with them, which may be over a group.
-use Rattle.std.proofs.Common.{◌≡◌, ◌∙◌, ◌+◌, ℕ, zero, suc, Bool, true, false, List, [], ◌∷◌, length, ap, refl, sym}
-use Rattle.std.specs.Prelude.{◌&&◌, eqb, Option, Some, is_some, map, unwrap_or, if◌then◌else◌}
+use Rattle.std.proofs.Common.{◌≡◌, ◌∙◌, ◌+◌, ◌++◌, ℕ, zero, suc, Bool, true, false, List, [], ◌∷◌, length, ap, refl, sym}
+use Rattle.std.specs.Prelude.{◌&&◌, eqb, not, Option, Some, is_some, map, unwrap_or, if◌then◌else◌}
 use Rattle.vx_history.specs.Groups.{GroupNode}
 use Rattle.vx_history.specs.Events.{is_in_place, link_in_place, linked_sites, put_before}
 use Rattle.vx_history.specs.KeptLinks.{kept_link, kept_links}
@@ -16,7 +16,9 @@ use Rattle.vx_diskset.specs.Holds.{row_links}
 use Rattle.vx_events.specs.Facts.{group_by, volume_fact}
 use Rattle.vx_events.specs.GroupLines.{is_over_group}
 use Rattle.vx_events.specs.GroupNotes.{no_note, note_at}
-use Rattle.vx_events.specs.GroupViews.{noted_table}
+use Rattle.vx_events.specs.GroupViews.{config_of, noted_table}
+use Rattle.vx_events.specs.RvgFits.{entries_noted, rvg_noted}
+use Rattle.vx_events.specs.RvgViews.{data_facts, data_units, others_of}
 use Rattle.vx_events.specs.StepsOver.{fact_of_group}
 use Rattle.vx_events.specs.LinkedFacts.{needed_by, link_fact, link_facts, links_by, seen_fact}
 use Rattle.vx_effects.specs.Facts.{down_fact}
@@ -85,6 +87,13 @@ facts_is f k name state disks blocks grouped volumes rvg links =
     ∙ ap (λ (x : Option RvgFacts). let y : SiteFacts = record k { rvg = x; links = f.links } in y) rvg
     ∙ ap (λ (x : List LinkFacts). let y : SiteFacts = record k { links = x } in y) links
 
+-- the volumes that the tests see, of a site with this note and these volumes
+abbrev table_by : Option GroupNode → List Volume → List VolumeFacts
+table_by o vs =
+    if is_some o && not (eqb (length vs) 0)
+    then data_facts (entries_noted (unwrap_or o no_note)) (data_units (rvg_noted (unwrap_or o no_note))) vs ++ others_of (config_of (unwrap_or o no_note).config)
+    else map volume_fact vs
+
 -- the parts of a node that the tests see of a site that is down
 pub record IsDownOf (n c : Node) : Type 0 where
   pub name : c.name ≡ n.name
@@ -98,8 +107,9 @@ module _ (n c : Node) (row new : ℕ → Link) (sites many : ℕ) (is : IsDownOf
   down_by : (b : Bool) → down_fact (if b then fact_of_group n (note_at n) else fact_from n row sites) ≡ (if b then fact_of_group c (note_at c) else fact_from c new many)
   down_by true = facts_is (down_fact (fact_of_group n (note_at n))) (fact_of_group c (note_at c)) (sym is.name) (sym is.state) (sym is.disks) (sym is.blocks) refl
       (ap (λ (o : Option GroupNode). noted_table (unwrap_or o no_note)) (sym is.group)) refl refl
-  down_by false = facts_is (down_fact (fact_from n row sites)) (fact_from c new many) (sym is.name) (sym is.state) (sym is.disks) (sym is.blocks) refl
-      (ap (λ (vs : List Volume). map volume_fact vs) (sym is.volumes))
+  down_by false = facts_is (down_fact (fact_from n row sites)) (fact_from c new many) (sym is.name) (sym is.state) (sym is.disks) (sym is.blocks)
+      (ap (λ (o : Option GroupNode). is_some o && not (eqb (length n.volumes) 0)) (sym is.group) ∙ ap (λ (vs : List Volume). is_some c.group && not (eqb (length vs) 0)) (sym is.volumes))
+      (ap (λ (o : Option GroupNode). table_by o n.volumes) (sym is.group) ∙ ap (λ (vs : List Volume). table_by c.group vs) (sym is.volumes))
       (ap (λ (t : SiteState). group_by t c) (sym is.state))
       (ap (λ (t : SiteState). links_by t (link_facts c new (linked_sites new many 0 many))) (sym is.state))
 
