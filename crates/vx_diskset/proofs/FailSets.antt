@@ -24,5 +24,6 @@ module _ {R : Type 0} {g : Ghosts R} where
   stands_failing beside n failing (Receives s) h = (h.0, receiver_failing beside n failing s.rvg.core s.waiting (g.meaning s.rvg.shelf) h.1)
   stands_failing beside n failing (Down rack) h = down_failing beside n failing (g.meaning rack) h
   stands_failing beside n failing (OfGroup s) h = set_failing beside n failing s h
-  stands_failing beside n failing (Over s) h = (h.0, over_failing beside n failing s.site h.1)
+  stands_failing beside n failing (Over s) h =
+      ((h.0.0, λ k is. (let ground = h.0.1 k is in record { units = ground.units; disks = ground.disks; blocks = ground.blocks }), h.0.2, h.0.3), over_failing beside n failing s.site h.1)
   stands_failing beside n failing Gone h = absurd h
