@@ -65,6 +65,11 @@ note_of : (o : Option GroupNode) → (o ≡ None → ⊥) → (note : GroupNode)
 note_of None some = absurd (some refl)
 note_of (Some note) some = (note, refl)
 
+disk_ends : (told : Type 0) (d : Doubted) (name : List ℕ) (disk : ℕ) (state : DiskState) (s : ℕ) → site_number d.world name ≡ s
+    → Ends told d (Disk name disk state) (site_number d.world name) [] Done (with_one d s (disk_node (d.world.nodes s) disk state))
+disk_ends told d name disk state s number =
+    none_left told d (Disk name disk state) (site_number d.world name) Done (with_node d.world s (disk_node (d.world.nodes s) disk state)) refl refl (ap (λ (k : ℕ). made_fail d.world k disk (is_failing state)) (sym number))
+
 module _ {R : Type 0} {g : Ghosts R} where
   -- those of a group have as many
   group_units : (n : Node) (e : GroupSite R g) → GroupSiteStands n e → (site_disks e).units ≡ n.disks
@@ -128,11 +133,6 @@ module _ {R : Type 0} {g : Ghosts R} where
   disk_carries d old new disk state s before after changed load =
       let n : Node = disk_node (d.world.nodes s) disk state in
       carries_node s d (with_one d s n) n old new load (changes_one d s n) refl refl (at_place d.world.nodes s n) refl refl refl (told_by old new s before after changed)
-
-  disk_ends : (told : Type 0) (d : Doubted) (name : List ℕ) (disk : ℕ) (state : DiskState) (s : ℕ) → site_number d.world name ≡ s
-      → Ends told d (Disk name disk state) (site_number d.world name) [] Done (with_one d s (disk_node (d.world.nodes s) disk state))
-  disk_ends told d name disk state s number =
-      none_left told d (Disk name disk state) (site_number d.world name) Done (with_node d.world s (disk_node (d.world.nodes s) disk state)) refl refl (ap (λ (k : ℕ). made_fail d.world k disk (is_failing state)) (sym number))
 
   pub disk_leads : (d : Doubted) (old new : Yard R g) (name : List ℕ) (disk : ℕ) (state : DiskState) (s : ℕ) (before after : DiskSet R g) → StandsFor d old → over_group_at d.world name ≡ false → seat_of old.facts.items name ≡ Some s
       → Changed old new s before after → KeepsRole before after → OversStay before after → ((beside : KeptBeside) (n : Node) → SiteStands beside n before → SiteStands beside n after) → SetsDisk disk (is_failing state) before after

@@ -53,6 +53,11 @@ use Rattle.vx_site_lines.proofs.AboveEnds.{stays_over}
 abbrev fused_node : Node → (calls : ℕ) → Node
 fused_node m calls = record m { fuse = FuseSet calls }
 
+fuse_ends : (told : Type 0) (d : Doubted) (name : List ℕ) (calls pick s : ℕ) → site_number d.world name ≡ s
+    → Ends told d (Fuse name calls pick) (site_number d.world name) [] Done (with_one d s (fused_node (d.world.nodes s) calls))
+fuse_ends told d name calls pick s number =
+    none_left told d (Fuse name calls pick) (site_number d.world name) Done (with_node d.world s (fused_node (d.world.nodes s) calls)) refl refl (ap (λ (k : ℕ). fused d.world k calls) (sym number))
+
 module _ {R : Type 0} {g : Ghosts R} where
   -- the site of such a line is up
   pub fuse_up : (d : Doubted) (old : Yard R g) (name : List ℕ) (calls pick s : ℕ) → StandsFor d old → IsFree old (Fuse name calls pick) → seat_of old.facts.items name ≡ Some s → (d.world.nodes s).state ≡ IsUp
@@ -89,11 +94,6 @@ module _ {R : Type 0} {g : Ghosts R} where
   fuse_carries d old new calls s before after changed load =
       let n : Node = fused_node (d.world.nodes s) calls in
       carries_node s d (with_one d s n) n old new load (changes_one d s n) refl refl (at_place d.world.nodes s n) refl refl refl (told_by old new s before after changed)
-
-  fuse_ends : (told : Type 0) (d : Doubted) (name : List ℕ) (calls pick s : ℕ) → site_number d.world name ≡ s
-      → Ends told d (Fuse name calls pick) (site_number d.world name) [] Done (with_one d s (fused_node (d.world.nodes s) calls))
-  fuse_ends told d name calls pick s number =
-      none_left told d (Fuse name calls pick) (site_number d.world name) Done (with_node d.world s (fused_node (d.world.nodes s) calls)) refl refl (ap (λ (k : ℕ). fused d.world k calls) (sym number))
 
   pub fuse_leads : (d : Doubted) (old new : Yard R g) (name : List ℕ) (calls pick s : ℕ) (before after : DiskSet R g) → StandsFor d old → over_group_at d.world name ≡ false → IsFree old (Fuse name calls pick) → seat_of old.facts.items name ≡ Some s
       → Changed old new s before after → KeepsRole before after → OversFused calls before after → ((beside : KeptBeside) (n : Node) → SiteStands beside n before → n.state ≡ IsUp → SiteStands beside (record n { fuse = FuseSet calls }) after)
