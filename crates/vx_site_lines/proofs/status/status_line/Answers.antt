@@ -19,8 +19,8 @@ site_of-site-requires-clause-named g c = λ κs within. named_some c.args.yard.n
 
 pub returns-in_err-room-clause-above : goal.returns-in_err-room-clause-above
 returns-in_err-room-clause-above g c = λ d stands rvg.
-    let p = err_from_is_err_and c.from_residual-in_err-room.result c.from_residual-in_err-room.ensures.1 in
-    unbegun_above d (Status c.args.name.now) c.args.yard.now c.from_residual-in_err-room.result p.0 p.1 stands
+    let p = err_from_is_err_and c.from_residual.result c.from_residual.ensures.1 in
+    unbegun_above d (Status c.args.name.now) c.args.yard.now c.from_residual.result p.0 p.1 stands
 
 pub returns-in_err-links-clause-above : goal.returns-in_err-links-clause-above
 returns-in_err-links-clause-above g c = λ d stands rvg.
