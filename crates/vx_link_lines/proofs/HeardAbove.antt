@@ -77,7 +77,7 @@ works_target d number p at = ap (λ (q : Option Packet). is_target q p.target) a
 pub works_apart : (d : Doubted) (number : ℕ) (p : Packet) → packet_at d.world.packets number ≡ Some p → (i : ℕ) → (i ≡ p.target → ⊥) → works_at d.world (Deliver number) i ≡ false
 works_apart d number p at i apart = ap (λ (q : Option Packet). is_target q i) at ∙ other_number i p.target apart
 
-module _ {R : Type 0} {g : Ghosts R} (d : Doubted) (number : ℕ) (p : Packet) (at : packet_at d.world.packets number ≡ Some p) where
+module _ (d : Doubted) (number : ℕ) (p : Packet) (at : packet_at d.world.packets number ≡ Some p) where
   abbrev s : ℕ
   s = p.target
 
@@ -93,103 +93,104 @@ module _ {R : Type 0} {g : Ghosts R} (d : Doubted) (number : ℕ) (p : Packet) (
   abbrev to : Doubted
   to = noted_by (note_one s) (behind d (DeliverAt number))
 
-  -- ---- no header is written
+  module _ {R : Type 0} {g : Ghosts R} where
+    -- ---- no header is written
 
-  -- what a call leads a yard to, by what the site comes to
-  abbrev StillAt : (old new : Yard R g) → Said → DiskSet R g → DiskSet R g → Type 0
-  StillAt old new said before after =
-      Changed old new s before after → NotesOn before after → Moves start to s (worked n) old new after → LinkEnds (AllKnown (IsTold new) d.world) d line [] said to → LeadsLinked d line said old new
+    -- what a call leads a yard to, by what the site comes to
+    abbrev StillAt : (old new : Yard R g) → Said → DiskSet R g → DiskSet R g → Type 0
+    StillAt old new said before after =
+        Changed old new s before after → NotesOn before after → Moves start to s (worked n) old new after → LinkEnds (AllKnown (IsTold new) d.world) d line [] said to → LeadsLinked d line said old new
 
-  still_over : (old new : Yard R g) (said : Said) (o p : OverSet R g) → StandsFor d old → s < d.world.sites → is_over_rvg (d.world.nodes s) ≡ true → n.state ≡ IsUp → StillAt old new said (Over o) (Over p)
-  still_over old new said o e stands below over up changed notes moves ends =
-      let call : OverCall d old new s o e = record { stands = stands; below = below; over = over; up = up; changed = changed; notes = notes } in
-      linked_done d old new s o e call line (works_target d number p at) (works_apart d number p at) to (worked n) (moves_reach d start to s (worked n) old new (Over e) (changes_one d s (worked n)) moves)
-      (record { name = refl; disks = refl; blocks = refl; volumes = refl; group = refl; failing = refl }) moves.facts (λ carries. moves.carries (carries_noted d old s carries)) said tt tt up (lit_burned n.fuse) (λ x on. on)
-      (λ none. none) ends
+    still_over : (old new : Yard R g) (said : Said) (o p : OverSet R g) → StandsFor d old → s < d.world.sites → is_over_rvg (d.world.nodes s) ≡ true → n.state ≡ IsUp → StillAt old new said (Over o) (Over p)
+    still_over old new said o e stands below over up changed notes moves ends =
+        let call : OverCall d old new s o e = record { stands = stands; below = below; over = over; up = up; changed = changed; notes = notes } in
+        linked_done d old new s o e call line (works_target d number p at) (works_apart d number p at) to (worked n) (moves_reach d start to s (worked n) old new (Over e) (changes_one d s (worked n)) moves)
+        (record { name = refl; disks = refl; blocks = refl; volumes = refl; group = refl; failing = refl }) moves.facts (λ carries. moves.carries (carries_noted d old s carries)) said tt tt up (lit_burned n.fuse) (λ x on. on)
+        (λ none. none) ends
 
-  still_leads : (old new : Yard R g) (said : Said) (before after : DiskSet R g) → StandsFor d old → s < d.world.sites → is_over_rvg (d.world.nodes s) ≡ true → n.state ≡ IsUp → StillAt old new said before after
-  still_leads old new said before after stands below over up changed notes moves =
-      let was : OverIs before = over_set (beside_of d s) n before (stands.disk_sets.sites s before below changed.there) over in
-      let now : OverIs after = over_set (beside_of to s) (worked n) after moves.stands over in
-      by was now changed notes moves
-    where
-      by : OverIs before → OverIs after → StillAt old new said before after
-      by was now =
-          subst (λ (x : DiskSet R g). StillAt old new said x after) (sym was.is)
-          (subst (λ (y : DiskSet R g). StillAt old new said (Over was.set) y) (sym now.is) (still_over old new said was.set now.set stands below over up))
+    still_leads : (old new : Yard R g) (said : Said) (before after : DiskSet R g) → StandsFor d old → s < d.world.sites → is_over_rvg (d.world.nodes s) ≡ true → n.state ≡ IsUp → StillAt old new said before after
+    still_leads old new said before after stands below over up changed notes moves =
+        let was : OverIs before = over_set (beside_of d s) n before (stands.disk_sets.sites s before below changed.there) over in
+        let now : OverIs after = over_set (beside_of to s) (worked n) after moves.stands over in
+        by was now changed notes moves
+      where
+        by : OverIs before → OverIs after → StillAt old new said before after
+        by was now =
+            subst (λ (x : DiskSet R g). StillAt old new said x after) (sym was.is)
+            (subst (λ (y : DiskSet R g). StillAt old new said (Over was.set) y) (sym now.is) (still_over old new said was.set now.set stands below over up))
 
-  -- nobody hears it
-  pub unheard_above : (y : Yard R g) (e : DiskSet R g) → StandsFor d y → s < d.world.sites → slice_get y.disk_sets.items s ≡ Some e → is_over_rvg (d.world.nodes s) ≡ true
-      → delivered d.world number (packet_at d.world.packets number) ≡ says d.world IsIgnored → LeadsLinked d line Ignored y y
-  unheard_above y e stands below there over is =
-      let set : OverIs e = over_set (beside_of d s) n e (stands.disk_sets.sites s e below there) over in
-      let noted = site_noted d y s set.set stands below (there ∙ ap (λ (x : DiskSet R g). Some x) set.is) over in
-      let config = config_on (below_rvg n) (note_at n) (site_in set.set) noted.0 in
-      record {
-        next = to;
-        fails = [];
-        works = links_still line d s over (works_target d number p at) (works_apart d number p at) to
-            (λ i apart. (unheard_changes d number p y e at stands below there is).nodes i apart ∙ updated_other d.world.nodes s i (worked n) apart) (unheard_node d number p y e at stands below there is) (IsTold y) Ignored
-            (works_still s [] (FuseRanOut n Ignored) (note_at n) config.0 config.1) (unheard_ends d number p y e at stands below there is (AllKnown (IsTold y) d.world)) tt tt;
-        stands = unheard_stands d number p y e at stands below there is;
-        carries = λ carries. unheard_carries d number p y e at stands below there is (carries_noted d y s carries);
-        rose = rose_none (count_of y) (count_of y) (λ k u. omega arith);
-      }
+    -- nobody hears it
+    pub unheard_above : (y : Yard R g) (e : DiskSet R g) → StandsFor d y → s < d.world.sites → slice_get y.disk_sets.items s ≡ Some e → is_over_rvg (d.world.nodes s) ≡ true
+        → delivered d.world number (packet_at d.world.packets number) ≡ says d.world IsIgnored → LeadsLinked d line Ignored y y
+    unheard_above y e stands below there over is =
+        let set : OverIs e = over_set (beside_of d s) n e (stands.disk_sets.sites s e below there) over in
+        let noted = site_noted d y s set.set stands below (there ∙ ap (λ (x : DiskSet R g). Some x) set.is) over in
+        let config = config_on (below_rvg n) (note_at n) (site_in set.set) noted.0 in
+        record {
+          next = to;
+          fails = [];
+          works = links_still line d s over (works_target d number p at) (works_apart d number p at) to
+              (λ i apart. (unheard_changes d number p y e at stands below there is).nodes i apart ∙ updated_other d.world.nodes s i (worked n) apart) (unheard_node d number p y e at stands below there is) (IsTold y) Ignored
+              (works_still s [] (FuseRanOut n Ignored) (note_at n) config.0 config.1) (unheard_ends d number p y e at stands below there is (AllKnown (IsTold y) d.world)) tt tt;
+          stands = unheard_stands d number p y e at stands below there is;
+          carries = λ carries. unheard_carries d number p y e at stands below there is (carries_noted d y s carries);
+          rose = rose_none (count_of y) (count_of y) (λ k u. omega arith);
+        }
 
-  -- ---- its link hears it
+    -- ---- its link hears it
 
-  module _ (answers : is_answer p.message ≡ true) (old new : Yard R g) (before after : DiskSet R g) (stands : StandsFor d old) (below : p.target < d.world.sites) (changed : Changed old new p.target before after) (keeps : KeepsRole before after)
-      (opens : IsOpen (d.world.nodes p.target)) (over : is_over_rvg (d.world.nodes p.target) ≡ true) (notes : NotesOn before after) where
-    abbrev event : Event
-    event = DeliverAt number
+    module _ (answers : is_answer p.message ≡ true) (old new : Yard R g) (before after : DiskSet R g) (stands : StandsFor d old) (below : p.target < d.world.sites) (changed : Changed old new p.target before after) (keeps : KeepsRole before after)
+        (opens : IsOpen (d.world.nodes p.target)) (over : is_over_rvg (d.world.nodes p.target) ≡ true) (notes : NotesOn before after) where
+      abbrev event : Event
+      event = DeliverAt number
 
-    abbrev o : Outcome
-    o = delivered d.world number (packet_at d.world.packets number)
+      abbrev o : Outcome
+      o = delivered d.world number (packet_at d.world.packets number)
 
-    abbrev ls : List KeptLink
-    ls = header_links o.world s
+      abbrev ls : List KeptLink
+      ls = header_links o.world s
 
-    alone : is_over_group (d.world.nodes p.target) ≡ false
-    alone = rvg_apart (d.world.nodes p.target) over
+      alone : is_over_group (d.world.nodes p.target) ≡ false
+      alone = rvg_apart (d.world.nodes p.target) over
 
-    role : RoleIs n after
-    role = heard_role d number p at answers old new before after stands below changed keeps opens alone
+      role : RoleIs n after
+      role = heard_role d number p at answers old new before after stands below changed keeps opens alone
 
-    module _ (a : Assembled) (said : EventSaid) (h : Heard d number p at answers old new before after stands below changed keeps opens alone a said) where
-      ends : LinkEnds (AllKnown (IsTold new) d.world) d line [] (reply_of said) to
-      ends = heard_ends d number p at answers old new before after stands below changed keeps opens alone a said h (AllKnown (IsTold new) d.world)
+      module _ (a : Assembled) (said : EventSaid) (h : Heard d number p at answers old new before after stands below changed keeps opens alone a said) where
+        ends : LinkEnds (AllKnown (IsTold new) d.world) d line [] (reply_of said) to
+        ends = heard_ends d number p at answers old new before after stands below changed keeps opens alone a said h (AllKnown (IsTold new) d.world)
 
-      -- a header was written
-      wrote : ltb (d.world.links s p.source).stored (o.world.links s p.source).stored ≡ true → StoresAt (beside_of d s) n true ls after → LeadsLinked d line (reply_of said) old new
-      wrote rises stored =
+        -- a header was written
+        wrote : ltb (d.world.links s p.source).stored (o.world.links s p.source).stored ≡ true → StoresAt (beside_of d s) n true ls after → LeadsLinked d line (reply_of said) old new
+        wrote rises stored =
+            let header : IsHeader d event s n ls (o.world.gathering s) = heard_header d number p at answers rises stands.links opens alone in
+            above_done d event s n ls (o.world.gathering s) header line (works_target d number p at) (works_apart d number p at)
+            (heard_behind d number p at answers old new before after stands below changed keeps opens alone rises) old new stands below over (reply_of said) before after changed notes role
+            (subst (λ (k : Node). SiteStands (record { links = ls; headers = d.world.headers s + 1; doubt = None }) k after) (sym (worked_twice n)) stored) h.facts
+            (heard_carried d number p at answers old new before after stands below changed keeps opens alone a said h (heard_rose d number p at answers rises)) ends tt tt
+
+        -- none was
+        kept : ltb (d.world.links s p.source).stored (o.world.links s p.source).stored ≡ false → StoresAt (beside_of d s) n false ls after → LeadsLinked d line (reply_of said) old new
+        kept stays stored =
+            still_leads old new (reply_of said) before after stands below over opens.0 changed notes
+            (heard_kept_as d number p at answers old new before after stands below changed keeps opens alone a said h stays stored) ends
+
+        by_rose : (b : Bool) → ltb (d.world.links s p.source).stored (o.world.links s p.source).stored ≡ b → StoresAt (beside_of d s) n b ls after → LeadsLinked d line (reply_of said) old new
+        by_rose true rises stored = wrote rises stored
+        by_rose false stays stored = kept stays stored
+
+        heard_linked : StoresAt (beside_of d s) n (ltb (d.world.links s p.source).stored (o.world.links s p.source).stored) ls after → LeadsLinked d line (reply_of said) old new
+        heard_linked stored = by_rose (ltb (d.world.links s p.source).stored (o.world.links s p.source).stored) refl stored
+
+      -- a header of it was refused
+      heard_denied : (why : No) (said : Said) (x x' : SiteFacts) → said ≡ Refused why → ltb (d.world.links s p.source).stored (o.world.links s p.source).stored ≡ true → KeptAt (beside_of d s) n (state_with n ls) before after (Err why)
+          → slice_get old.facts.items s ≡ Some x → x' ≡ noted_facts why x → new.facts.items ≡ slice_set old.facts.items s x' → LetsGoBy why old new s → LeadsLinked d line said old new
+      heard_denied why said x x' says rises is shown facts_is facts lets =
           let header : IsHeader d event s n ls (o.world.gathering s) = heard_header d number p at answers rises stands.links opens alone in
-          above_done d event s n ls (o.world.gathering s) header line (works_target d number p at) (works_apart d number p at)
-          (heard_behind d number p at answers old new before after stands below changed keeps opens alone rises) old new stands below over (reply_of said) before after changed notes role
-          (subst (λ (k : Node). SiteStands (record { links = ls; headers = d.world.headers s + 1; doubt = None }) k after) (sym (worked_twice n)) stored) h.facts
-          (heard_carried d number p at answers old new before after stands below changed keeps opens alone a said h (heard_rose d number p at answers rises)) ends tt tt
-
-      -- none was
-      kept : ltb (d.world.links s p.source).stored (o.world.links s p.source).stored ≡ false → StoresAt (beside_of d s) n false ls after → LeadsLinked d line (reply_of said) old new
-      kept stays stored =
-          still_leads old new (reply_of said) before after stands below over opens.0 changed notes
-          (heard_kept_as d number p at answers old new before after stands below changed keeps opens alone a said h stays stored) ends
-
-      by_rose : (b : Bool) → ltb (d.world.links s p.source).stored (o.world.links s p.source).stored ≡ b → StoresAt (beside_of d s) n b ls after → LeadsLinked d line (reply_of said) old new
-      by_rose true rises stored = wrote rises stored
-      by_rose false stays stored = kept stays stored
-
-      heard_linked : StoresAt (beside_of d s) n (ltb (d.world.links s p.source).stored (o.world.links s p.source).stored) ls after → LeadsLinked d line (reply_of said) old new
-      heard_linked stored = by_rose (ltb (d.world.links s p.source).stored (o.world.links s p.source).stored) refl stored
-
-    -- a header of it was refused
-    heard_denied : (why : No) (said : Said) (x x' : SiteFacts) → said ≡ Refused why → ltb (d.world.links s p.source).stored (o.world.links s p.source).stored ≡ true → KeptAt (beside_of d s) n (state_with n ls) before after (Err why)
-        → slice_get old.facts.items s ≡ Some x → x' ≡ noted_facts why x → new.facts.items ≡ slice_set old.facts.items s x' → LetsGoBy why old new s → LeadsLinked d line said old new
-    heard_denied why said x x' says rises is shown facts_is facts lets =
-        let header : IsHeader d event s n ls (o.world.gathering s) = heard_header d number p at answers rises stands.links opens alone in
-        subst (λ (r : Said). LeadsLinked d line r old new) (sym says)
-        (above_refused d event s n ls (o.world.gathering s) header line (works_target d number p at) (works_apart d number p at)
-        (heard_behind d number p at answers old new before after stands below changed keeps opens alone rises) old new stands below over why x x' before after changed notes role
-        (refused_noted (beside_of d s) n ls before after why (answered_keep CrashedAt (beside_of d s) n (state_with n ls) before after (Err why) is)) shown facts_is facts lets tt tt)
+          subst (λ (r : Said). LeadsLinked d line r old new) (sym says)
+          (above_refused d event s n ls (o.world.gathering s) header line (works_target d number p at) (works_apart d number p at)
+          (heard_behind d number p at answers old new before after stands below changed keeps opens alone rises) old new stands below over why x x' before after changed notes role
+          (refused_noted (beside_of d s) n ls before after why (answered_keep CrashedAt (beside_of d s) n (state_with n ls) before after (Err why) is)) shown facts_is facts lets tt tt)
 
 -- ---- by the number of the site
 

@@ -138,7 +138,7 @@ module _ {R : Type 0} {g : Ghosts R} where
     abbrev to : Doubted
     to = noted_by (note_one s) (behind d event)
 
-    alone : is_over_group n ≡ false
+    pub alone : is_over_group n ≡ false
     alone = none_over n none
 
     noted : StandsFor start old
