@@ -66,7 +66,7 @@ module _ (s : ℕ) (fails : Fails) where
         same = record { dark = refl; bytes = refl; others = refl; cut = refl; maps = refl; inside = refl };
         firsts = [];
         begun = inr (refl, λ loose. loose);
-        tight = λ _ _. refl;
+        tight = λ loose _ _. loose;
       };
       quiet = λ _ _ agrees. agrees;
     };

@@ -187,11 +187,11 @@ module _ {R : Type 0} {g : Ghosts R} (d : Doubted) (old new : Yard R g) (name : 
 
 module _ {R : Type 0} {g : Ghosts R} (d : Doubted) (old new : Yard R g) (name : List ℕ) (to s : ℕ) (before after : DiskSet R g) (stands : StandsFor d old) (here : CanApplyAt d old name s) (over : is_over_rvg (d.world.nodes s) ≡ true)
     (changed : Changed old new s before after) (keeps : KeepsRole before after) (notes : NotesOn before after) where
-  abbrev n : Node
-  n = d.world.nodes s
+  abbrev own : Node
+  own = d.world.nodes s
 
-  abbrev line : ScriptLine
-  line = Apply name to
+  abbrev words : ScriptLine
+  words = Apply name to
 
   was : OverIs before
   was = over_set (beside_of d s) (d.world.nodes s) before (stands.disk_sets.sites s before here.seat.below changed.there) over
@@ -209,24 +209,24 @@ module _ {R : Type 0} {g : Ghosts R} (d : Doubted) (old new : Yard R g) (name : 
   apply_above number origin is facts load =
       let h : Doubted = happened d (ApplyAt s to number) false in
       let effect = reached_effect d s to number false here.seat.below here.can.up here.can.running origin is.0 is.1 in
-      let eff = worked_effect s d h n (d.world.links s) (d.world.headers s) (d.after s) d.world.packets (d.world.gathering s) effect in
-      by_over (λ x y. SiteStands (beside_of d s) (worked n) y → LeadsAbove d line (DoneAt number) old new) (over_set (beside_of d s) (worked n) after is.2 over)
+      let eff = worked_effect s d h own (d.world.links s) (d.world.headers s) (d.after s) d.world.packets (d.world.gathering s) effect in
+      by_over (λ x y. SiteStands (beside_of d s) (worked own) y → LeadsAbove d words (DoneAt number) old new) (over_set (beside_of d s) (worked own) after is.2 over)
       (λ o p call kind stood.
-      above_applied d old new name to s here o p call kind number n d.world.packets effect refl stood (fact_like n (worked n) (d.world.links s) d.world.sites (fuse_fact n (burned n.fuse)) (λ j l. refl))
+      above_applied d old new name to s here o p call kind number own d.world.packets effect refl stood (fact_like own (worked own) (d.world.links s) d.world.sites (fuse_fact own (burned own.fuse)) (λ j l. refl))
       (ap (λ (x : Outcome). x.said) (apply_step d.world s to number here.seat.below here.can.up here.can.running origin is.0 is.1)) (ap (λ fs. fs.items) facts)
-      (carries_node s d (worked_for h s) (worked n) old new load eff.site eff.sent eff.gathering eff.is.node refl refl refl (told_by old new s before after changed))) is.2
+      (carries_node s d (worked_for h s) (worked own) old new load eff.site eff.sent eff.gathering eff.is.node refl refl refl (told_by old new s before after changed))) is.2
 
   -- it was refused
   pub apply_denied : (why : No) (said : Said) (f f' : SiteFacts) → said ≡ Refused why → BlamesSite (d.world.nodes s) why → StopsApply (beside_of d s) (d.world.nodes s) to before after why → slice_get old.facts.items s ≡ Some f
       → f' ≡ noted_facts why f → new.facts.items ≡ slice_set old.facts.items s f' → LetsGoBy why old new s → LeadsAbove d (Apply name to) said old new
-  apply_denied why said f f' says blames is at noted facts lets = subst (λ (r : Said). LeadsAbove d line r old new) (sym says) (by_why why blames is noted lets)
+  apply_denied why said f f' says blames is at noted facts lets = subst (λ (r : Said). LeadsAbove d words r old new) (sym says) (by_why why blames is noted lets)
     where
-      by_why : (why : No) → BlamesSite n why → StopsApply (beside_of d s) n to before after why → f' ≡ noted_facts why f → LetsGoBy why old new s → LeadsAbove d line (Refused why) old new
+      by_why : (why : No) → BlamesSite own why → StopsApply (beside_of d s) own to before after why → f' ≡ noted_facts why f → LetsGoBy why old new s → LeadsAbove d words (Refused why) old new
       by_why (Device disk) blames is noted lets =
-          by_over (λ x y. SiteStands (beside_of d s) (halted_at n disk) y × RoseAt x y disk → LeadsAbove d line (Refused (Device disk)) old new) (over_set (beside_of d s) (halted_at n disk) after is.0 over)
+          by_over (λ x y. SiteStands (beside_of d s) (halted_at own disk) y × RoseAt x y disk → LeadsAbove d words (Refused (Device disk)) old new) (over_set (beside_of d s) (halted_at own disk) after is.0 over)
           (λ o p call kind it.
           above_halted d old new name to s here o p call kind disk f f' blames it.0 it.1 at noted facts (record { flight = lets.flight; assemblies = lets.assemblies; feeders = lets.feeders })) is
       by_why Off blames is noted lets =
-          by_over (λ x y. StopsApply (beside_of d s) n to x y Off → LeadsAbove d line (Refused Off) old new) (over_set (sure_of (itself (beside_of d s) n)) (crashed n is.1.count) after is.1.stands over)
+          by_over (λ x y. StopsApply (beside_of d s) own to x y Off → LeadsAbove d words (Refused Off) old new) (over_set (sure_of (itself (beside_of d s) own)) (crashed own is.1.count) after is.1.stands over)
           (λ o p call kind it. above_fell d old new name to s here o p call kind f f' it at noted facts (record { flight = lets.flight; assemblies = lets.assemblies; feeders = lets.feeders })) is
       by_why other blames is noted lets = absurd is

@@ -152,7 +152,7 @@ module _ (line : ScriptLine) (d : Doubted) (s : ℕ) (over : is_over_rvg (d.worl
   world_same : over_world line d s over works others middle same kept ≡ middle
   world_same =
       ap (λ (k : Node). record middle { world = with_node middle.world s k }) (subst (λ (k : Node). noted_there d.world line s kept k ≡ k) (sym node) worked_there)
-      ∙ ap (λ (f : ℕ → Node). record middle { world = record middle.world { nodes = f } }) (fun_ext (λ i. updated_self middle.world.nodes s i))
+      ∙ ap (λ (f : ℕ → Node). record middle { world = record middle.world { nodes = f } }) (fun_ext (λ i. sym (updated_self middle.world.nodes s i)))
 
   pub links_still : (told : Type 0) (said : Said) → NotesWork (FuseRanOut (d.world.nodes s) said) s [] (note_at (d.world.nodes s)) (note_at (d.world.nodes s)) → LinkEnds (AllKnown told d.world) d line [] said middle
       → NeedsLogs d.world line said → NeedsPasses d.world line said → LinksOver told d line [] said middle
