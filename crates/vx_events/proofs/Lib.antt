@@ -36,6 +36,7 @@ pub mod Noting
 pub mod Over
 pub mod OverSeats
 pub mod Parts
+pub mod Opens
 pub mod Passing
 pub mod Places
 pub mod Refused

@@ -33,7 +33,7 @@ module _ (w : World) (none : HasNoRvgs w) where
       by true b is = is
       by false b is = refl
 
-  links_none : (line : ScriptLine) → links_rvg w line ≡ false
+  pub links_none : (line : ScriptLine) → links_rvg w line ≡ false
   links_none (Link p s sync prot) = either_none (is_over_rvg (w.nodes (site_number w p))) (is_over_rvg (w.nodes (site_number w s))) (none (site_number w p)) (none (site_number w s))
   links_none (Set p s sync prot) = none (site_number w p)
   links_none (Pump p s) = none (site_number w p)

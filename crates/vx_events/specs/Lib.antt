@@ -24,6 +24,7 @@ pub mod LinkViews
 pub mod LinkedFacts
 pub mod LinksFit
 pub mod Lists
+pub mod OpenLines
 pub mod Parts
 pub mod Plain
 pub mod RvgBack

@@ -1,0 +1,57 @@
+-- What is left of a line that is not open: it works on no link of a site with a replicated volume group over its group of disks, and at such a site on blocks of data
+-- volumes alone. Where there is no such site no line is open.
+use Rattle.std.proofs.Common.{◌≡◌, ℕ, Bool, true, false, List, refl, ap}
+use Rattle.std.specs.Prelude.{◌&&◌, not}
+use Rattle.vx_history.specs.World.{Node, World}
+use Rattle.vx_order.specs.Calls.{is_data}
+use Rattle.vx_order.specs.declared.facts.VolumeKind.{VolumeKind}
+use Rattle.vx_order.specs.declared.facts.VolumeKind.TheVariants.{Data, Map, Plain, Srl}
+use Rattle.vx_script.specs.declared.line.ScriptLine.{ScriptLine}
+use Rattle.vx_script.specs.declared.line.ScriptLine.TheVariants.{Apply, PlexAttach, PlexDetach, Put, Read, Show, Volume, Write}
+use Rattle.vx_events.proofs.RvgFull.{links_none}
+use Rattle.vx_events.specs.Facts.{site_number}
+use Rattle.vx_events.specs.OpenLines.{HasNoOpen, is_open, is_open_volume}
+use Rattle.vx_events.specs.RvgLinks.{links_rvg}
+use Rattle.vx_events.specs.RvgOver.{is_plain_kind, kind_named}
+use Rattle.vx_events.specs.RvgSteps.{HasNoRvgs}
+use Rattle.vx_events.specs.RvgViews.{is_over_rvg}
+
+pub open_links : (w : World) (line : ScriptLine) → is_open w line ≡ false → links_rvg w line ≡ false
+open_links w (Volume site volume blocks mirrors layout log map policy) closed = refl
+open_links w (PlexDetach site volume plex) closed = refl
+open_links w (PlexAttach site volume plex) closed = refl
+open_links w (Write site volume start count fill) closed = refl
+open_links w (Put site volume start bytes) closed = refl
+open_links w (Read site volume start count) closed = refl
+open_links w (Show site volume start count) closed = refl
+open_links w (Apply site to) closed = refl
+open_links w other closed = closed
+
+data_by : (over : Bool) (kind : VolumeKind) → over ≡ true → (over && not (is_data kind)) ≡ false → kind ≡ Data
+data_by true Data is closed = refl
+data_by true Srl is closed = absurd (cc)
+data_by true Map is closed = absurd (cc)
+data_by true Plain is closed = absurd (cc)
+data_by false kind is closed = absurd (cc)
+
+-- the volume that such a line names at such a site is a data volume
+pub open_data : (n : Node) (volume : List ℕ) → is_over_rvg n ≡ true → is_open_volume n volume ≡ false → kind_named n volume ≡ Data
+open_data n volume over closed = data_by (is_over_rvg n) (kind_named n volume) over closed
+
+pub open_inside : (n : Node) (volume : List ℕ) → is_open_volume n volume ≡ false → is_over_rvg n ≡ true → is_plain_kind (kind_named n volume) ≡ false
+open_inside n volume closed over = ap is_plain_kind (open_data n volume over closed)
+
+module _ (w : World) (none : HasNoRvgs w) where
+  volume_none : (site volume : List ℕ) → is_open_volume (w.nodes (site_number w site)) volume ≡ false
+  volume_none site volume = ap (λ (b : Bool). b && not (is_data (kind_named (w.nodes (site_number w site)) volume))) (none (site_number w site))
+
+  pub open_none : HasNoOpen w
+  open_none (Volume site volume blocks mirrors layout log map policy) = none (site_number w site)
+  open_none (PlexDetach site volume plex) = none (site_number w site)
+  open_none (PlexAttach site volume plex) = none (site_number w site)
+  open_none (Write site volume start count fill) = volume_none site volume
+  open_none (Put site volume start bytes) = volume_none site volume
+  open_none (Read site volume start count) = volume_none site volume
+  open_none (Show site volume start count) = volume_none site volume
+  open_none (Apply site to) = none (site_number w site)
+  open_none other = links_none w none other
