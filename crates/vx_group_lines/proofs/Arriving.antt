@@ -178,7 +178,8 @@ arrives_made d e s n before arrives below bare is =
     arrives_as d (happened e (GroupAt s) false) s (group_set s (e.world.nodes s)) (group_set s n) before (ap (λ (x : Node). group_set s x) arrives.node)
     (subst (λ (o : Option Gathering). Arrives d (happened e (GroupAt s) false) s (group_set s (e.world.nodes s)) o) arrives.gathering
     (arrives_then d e (happened e (GroupAt s) false) s n (group_set s (e.world.nodes s)) (e.world.links s) (e.world.headers s) (e.after s) e.world.packets before (e.world.gathering s) arrives
-    (group_effect e s false below (ap (λ (x : Node). x.state) arrives.node ∙ bare)) (fit_happened e (GroupAt s) false tt arrives.fits) arrives.sure refl arrives.links))
+    (group_effect e s false below (ap (λ (x : Node). x.state) arrives.node ∙ bare)) (fit_happened e (GroupAt s) false tt arrives.fits) arrives.sure refl arrives.links
+    (λ was made none. subst (λ (x : Node). IsFirstSite s (group_set s x)) (sym arrives.node) (first_made s n is))))
 
 -- a group is deported
 pub arrives_away : (d e : Doubted) (s : ℕ) (n : Node) (before : Option Gathering) → Arrives d e s n before → s < e.world.sites → n.state ≡ Up → n.halted ≡ None → n.log ≡ [] → n.safe ≡ 0

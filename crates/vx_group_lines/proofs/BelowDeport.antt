@@ -17,7 +17,7 @@ use Rattle.vx_effects.proofs.Groups.{deport_effect}
 use Rattle.vx_effects.proofs.Leaving.{fit_note, fit_worked}
 use Rattle.vx_effects.proofs.Rises.{note_effect}
 use Rattle.vx_effects.proofs.Rows.{touch_kept}
-use Rattle.vx_history.specs.Doubts.{Doubted, happened}
+use Rattle.vx_history.specs.Doubts.{After, Doubted, happened}
 use Rattle.vx_history.specs.Events.{kept_of, lost_touch}
 use Rattle.vx_history.specs.Groups.{GroupNode, NoteSettles, NoteUnsettles}
 use Rattle.vx_history.specs.Missing.{with_maps}
@@ -307,34 +307,34 @@ module _ {R : Type 0} {g : Ghosts R} where
         let x : Node = d.world.nodes s in
         let note : GroupNode = note_at (d.world.nodes s) in
         let P : GroupSite R g → GroupSite R g → Type 0 = λ o e. SiteDeported (below_rvg x) note o e (Ok (tt {0})) in
-        let then : OverThen (P was_site) after = overs_then P before after it.call.at.set it.call.at.is_set on in
-        let then_site : GroupSite R g = site_in then.set in
+        let behind : OverThen (P was_site) after = overs_then P before after it.call.at.set it.call.at.is_set on in
+        let site_then : GroupSite R g = site_in behind.set in
         let a : Meaning = site_disks was_site in
-        let b : Meaning = site_disks then_site in
-        let next : GroupNode = then.holds.0 in
-        let goes : ConfigGoes (CleansPlexes a b) note next was_site then_site = then.holds.3 in
-        let went : AwayNoted (deported_with next (below_rvg x)) next then_site = then.holds.2 in
-        let go : MapsAway note next was_site then_site goes.was
-        = goes_away (deported_with next (below_rvg x)) note next was_site goes.was it.maps goes.had then_site went then.holds.4
-        (overs_both (λ o e. DeportMapped o e (Ok (tt {0}))) before after it.call.at.set then.set it.call.at.is_set then.is maps) in
+        let b : Meaning = site_disks site_then in
+        let next : GroupNode = behind.holds.0 in
+        let goes : ConfigGoes (CleansPlexes a b) note next was_site site_then = behind.holds.3 in
+        let went : AwayNoted (deported_with next (below_rvg x)) next site_then = behind.holds.2 in
+        let go : MapsAway note next was_site site_then goes.was
+        = goes_away (deported_with next (below_rvg x)) note next was_site goes.was it.maps goes.had site_then went behind.holds.4
+        (overs_both (λ o e. DeportMapped o e (Ok (tt {0}))) before after it.call.at.set behind.set it.call.at.is_set behind.is maps) in
         let k : GroupNode = with_maps go.maps next in
         let many : ℕ = (site_disks was_site).units + length goes.was.disks + logs_bound goes.was.volumes + failed_disk goes.change + 1 in
         let fails : Fails = calls s old new many in
-        let names : Names s many fails a b = below_names d (GroupDeport name) old new s before after stands it (P was_site) then many (omega arith) in
+        let names : Names s many fails a b = below_names d (GroupDeport name) old new s before after stands it (P was_site) behind many (omega arith) in
         let rvg : rvg_noted next ≡ rvg_noted note = rvg_goes note next goes.was goes.now goes.noted goes.noted_now (cleans_rvg a b goes.was goes.now goes.change) in
         let seen_table : over_table (with_note k x) k ≡ over_table x note
         = table_like x (with_note k x) note k refl rvg (cleans_table s many fails a b note next names goes.was goes.now goes.noted goes.noted_now goes.change) in
         let follows : Follows d (world_gone d s k) old new
-        = below_gone d old new s before after stands it.call it.up it.running k then.set then.is (away_with_maps go.maps (deported_with next (below_rvg x)) next then_site went) away
-        (record { units = units_noted note next goes.was goes.now goes.noted goes.noted_now rvg; cut = then.holds.1.same.cut; inside = then.holds.1.same.inside })
-        (it.cut ∙ had_cut d (GroupDeport name) old new s before after stands it ∙ sym then.holds.1.same.cut) seen_table facts lets in
+        = below_gone d old new s before after stands it.call it.up it.running k behind.set behind.is (away_with_maps go.maps (deported_with next (below_rvg x)) next site_then went) away
+        (record { units = units_noted note next goes.was goes.now goes.noted goes.noted_now rvg; cut = behind.holds.1.same.cut; inside = behind.holds.1.same.inside })
+        (it.cut ∙ had_cut d (GroupDeport name) old new s before after stands it ∙ sym behind.holds.1.same.cut) seen_table facts lets in
         record {
           next = world_gone d s k;
           fails = fails;
           ends = inl (GroupDone k (are d (GroupDeport name) old new s before after stands it many) (
             with_goes (Reconfigures (λ c x. ConfigRests s fails (opened_again c) (opened_again x)) NoteSettles) (MapsCalled s fails) note next goes.was go.config go.maps goes.noted go.noted
                 (reconfigures s many fails a b note next names (λ c x. ConfigRests s fails (opened_again c) (opened_again x)) (λ c x. NoteSettles c x) goes.was goes.now goes.noted goes.noted_now
-                (cleans_to s many fails a b note next names goes.was goes.now (omega arith) goes.change (omega arith)) then.holds.1)
+                (cleans_to s many fails a b note next names goes.was goes.now (omega arith) goes.change (omega arith)) behind.holds.1)
                 (like_named s many fails a b names goes.was go.config (λ u j. logs_low goes.was many u j (omega arith)) note.maps go.maps go.by),
             refl,
           )

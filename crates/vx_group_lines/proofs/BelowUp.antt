@@ -52,6 +52,12 @@ use Rattle.vx_group_lines.proofs.BelowAt.{BelowAt, on_up, overs_kept}
 use Rattle.vx_group_lines.proofs.GroupEnding.{world_up}
 use Rattle.vx_group_lines.proofs.GroupLeads.{Follows}
 
+-- what is noted of a group is the same but for the configuration, which names the same replicated volume group
+pub record NotesBelow (note next : GroupNode) : Type 0 where
+  pub units : config_units (config_of next.config) ≡ config_units (config_of note.config)
+  pub cut : next.cut ≡ note.cut
+  pub inside : next.inside ≡ note.inside
+
 module _ {R : Type 0} {g : Ghosts R} where
   -- a call on the group, and what it left of the yard
   pub record BelowCalled (d : Doubted) (old new : Yard R g) (s : ℕ) (before after : DiskSet R g) : Type 0 where
@@ -77,14 +83,8 @@ module _ {R : Type 0} {g : Ghosts R} where
   kept_up beside n m note p (Marked rack) it by = absurd it
   kept_up beside n m note p SiteGone it by = absurd it
 
-  since_below : (before after : DiskSet R g) (o p : OverSet R g) → before ≡ Over o → after ≡ Over p → CalledOn before after → CalledSince (site_disks (site_in o)) (site_disks (site_in p))
+  pub since_below : (before after : DiskSet R g) (o p : OverSet R g) → before ≡ Over o → after ≡ Over p → CalledOn before after → CalledSince (site_disks (site_in o)) (site_disks (site_in p))
   since_below before after o p was is since = subst (λ (x : DiskSet R g). CalledOn (Over o) x) is (subst (λ (x : DiskSet R g). CalledOn x after) was since)
-
-  -- what is noted of it is the same but for the configuration, which names the same replicated volume group
-  pub record NotesBelow (note next : GroupNode) : Type 0 where
-    pub units : config_units (config_of next.config) ≡ config_units (config_of note.config)
-    pub cut : next.cut ≡ note.cut
-    pub inside : next.inside ≡ note.inside
 
   module _ (d : Doubted) (old new : Yard R g) (s : ℕ) (before after : DiskSet R g) (stands : StandsFor d old) (call : BelowCalled d old new s before after) (up : (d.world.nodes s).state ≡ IsUp) (running : (d.world.nodes s).halted ≡ None)
       (k : GroupNode) (p : OverSet R g) (is : after ≡ Over p) (noted : UpNoted (below_rvg (with_note k (d.world.nodes s))) k (site_in p)) (notes : NotesBelow (note_at (d.world.nodes s)) k) (cut : cut_in after ≡ cut_in before) where

@@ -60,11 +60,10 @@ use Rattle.vx_yard.specs.declared.yard.Yard.{Yard}
 use Rattle.vx_group_lines.proofs.Arriving.{Arrives, arrives_crash, arrives_unfused, arrives_up, arrives_worked}
 use Rattle.vx_above.proofs.SiteCalls.{calls}
 use Rattle.vx_above.proofs.Changing.{notes_config, notes_table}
-use Rattle.vx_group_lines.proofs.Choosing.{or_stops}
 use Rattle.vx_group_lines.proofs.GroupAt.{away_notes, down_notes, no_value, uncut, up_notes, lit_away, lit_up, loose_away}
 use Rattle.vx_group_lines.proofs.GroupCalls.{Called, SetThen, called_to, calls_all, calls_are, calls_named, calls_names, calls_none, cut_of, failing_to, maps_were, plain_were, sets_then, sized}
 use Rattle.vx_group_lines.proofs.GroupEnding.{Midway, load_on, lets_on}
-use Rattle.vx_group_lines.proofs.GroupLeads.{Follows, away_set, down_set, follows_off, follows_on, leads_by, up_set}
+use Rattle.vx_group_lines.proofs.GroupLeads.{Follows, away_set, down_set, follows_off, follows_on, leads_by, or_stops, up_set}
 use Rattle.vx_group_lines.proofs.GroupMarks.{begins_at, group_noted_at}
 use Rattle.vx_group_lines.proofs.ImportWhys.{away_unfused, config_now, fused_keeps, import_cases, ImportCases, is_late, sits_away, StaysAway, unfused_with, Why, why_disk, why_is}
 use Rattle.vx_above.proofs.Losing.{Names}

@@ -1,6 +1,7 @@
 -- What a line over a group leads a yard to, by what its call left of the disks of the site.
 use Rattle.std.proofs.Common.{◌≡◌, ◌∙◌, ◌<◌, ◌≤◌, ℕ, true, false, [], length, ap, sym, subst, arith}
-use Rattle.std.specs.Prelude.{Option, Some, None, slice_set}
+use Rattle.std.specs.Prelude.{Option, Some, None, slice_set, Result, Ok, Err}
+use Rattle.vx_model.specs.declared.errors.OutOfMemory.{OutOfMemory}
 use Rattle.vx_model.specs.Sites.{is_origin}
 use Rattle.vx_model.specs.declared.limits.TheConstants.{LEAST_BLOCKS, MOST_DISKS}
 use Rattle.vx_model.specs.declared.site.Role.{Role}
@@ -23,11 +24,13 @@ use Rattle.vx_diskset.specs.declared.disk_set.DiskSet.TheVariants.{OfGroup}
 use Rattle.vx_diskset.specs.declared.group_set.CutWrite.{CutWrite}
 use Rattle.vx_diskset.specs.declared.group_set.GroupSet.{GroupSet}
 use Rattle.vx_events.proofs.OverSeats.{fact_grouped}
+use Rattle.vx_events.proofs.Parts.{none_done}
 use Rattle.vx_events.proofs.Places.{never_some}
 use Rattle.vx_events.specs.Fails.{Fails}
 use Rattle.vx_events.specs.GroupEnds.{GroupEnds}
 use Rattle.vx_events.specs.GroupLines.{is_over_group}
 use Rattle.vx_events.specs.GroupNotes.{note_at}
+use Rattle.vx_events.specs.Parts.{StopsInPart}
 use Rattle.vx_events.specs.RvgFits.{rvg_noted}
 use Rattle.vx_events.specs.StepsOver.{fact_of_group, fact_over, group_place}
 use Rattle.vx_events.specs.declared.said.Said.{Said}
@@ -35,7 +38,7 @@ use Rattle.vx_yard.proofs.Carrying.{Feeds, LetsGo, SameLoad, carries_at, carries
 use Rattle.vx_yard.proofs.OneSite.{Changed, Comes, stands_at, told_by}
 use Rattle.vx_yard.proofs.OverGroup.{noted_over}
 use Rattle.vx_yard.specs.Carries.{Carries}
-use Rattle.vx_yard.specs.Standing.{LeadsOver, StandsFor, BeginsFirst}
+use Rattle.vx_yard.specs.Standing.{BeginsFirst, LeadsOver, LeadsOverIs, LeadsOverOrStops, StandsFor}
 use Rattle.vx_yard.specs.Stands.{RoseAll}
 use Rattle.vx_yard.specs.Yards.{IsTold, count_of}
 use Rattle.vx_yard.specs.declared.yard.Yard.{Yard}
@@ -87,6 +90,12 @@ away_bare m away bare = absurd (let e : IsDeported ≡ IsBare = sym away ∙ bar
 down_bare : (m : Node) → m.state ≡ IsDown → m.state ≡ IsBare → m ≡ bare_with m
 down_bare m down bare = absurd (let e : IsDown ≡ IsBare = sym down ∙ bare in cc)
 
+-- and the note names no replicated volume group, whatever it is called
+plain_as : (m : Node) (next : GroupNode) → NotesGroup m next → rvg_noted next ≡ None → (note : GroupNode) → m.group ≡ Some note → rvg_noted note ≡ None
+plain_as m next noted plain note is =
+    let same : next ≡ note = (let some : Some next ≡ Some note = sym noted.is ∙ is in cc) in
+    subst (λ (k : GroupNode). rvg_noted k ≡ None) same plain
+
 module _ {R : Type 0} {g : Ghosts R} where
   -- ---- the disk set of the site
 
@@ -102,11 +111,6 @@ module _ {R : Type 0} {g : Ghosts R} where
   maps_as m next e noted maps note is =
       let same : next ≡ note = (let some : Some next ≡ Some note = sym noted.is ∙ is in cc) in
       subst (λ (k : GroupNode). StandMaps k e) same maps
-
-  plain_as : (m : Node) (next : GroupNode) → NotesGroup m next → rvg_noted next ≡ None → (note : GroupNode) → m.group ≡ Some note → rvg_noted note ≡ None
-  plain_as m next noted plain note is =
-      let same : next ≡ note = (let some : Some next ≡ Some note = sym noted.is ∙ is in cc) in
-      subst (λ (k : GroupNode). rvg_noted k ≡ None) same plain
 
   -- a group that is up
   pub up_set : (m : Node) (next : GroupNode) (set : GroupSet R g) → Sized m → UpNoted m next set.site → StandMaps next set.site → rvg_noted next ≡ None → cut_value set.cut ≡ None → next.cut ≡ None → Sets m set
@@ -225,3 +229,8 @@ module _ {R : Type 0} {g : Ghosts R} where
     carries = follows.carries;
     rose = rose;
   }
+
+  -- want of memory before anything is done
+  pub or_stops : (d : Doubted) (line : ScriptLine) (old new : Yard R g) (r : Result Said OutOfMemory) → LeadsOverIs d line old new r → LeadsOverOrStops d line old new r
+  or_stops d line old new (Ok said) leads = leads
+  or_stops d line old new (Err e) stays = record { next = d; part = StopsInPart (none_done d line); stands = stays.stands; carries = stays.carries; rose = stays.rose }

@@ -22,7 +22,6 @@ pub mod GroupInit
 pub mod GroupEnding
 pub mod GroupDone
 pub mod GroupShown
-pub mod Choosing
 pub mod Dimming
 pub mod Returning
 pub mod Rising
@@ -52,8 +51,5 @@ pub mod BelowMissed
 pub mod BelowUp
 pub mod BelowOff
 pub mod BelowDone
-pub mod BelowDetach
-pub mod BelowAttach
-pub mod BelowRead
 pub mod BelowDeport
 pub mod BelowStart

@@ -45,6 +45,11 @@ abbrev pub starts_with_data : List VolumeFacts → Bool
 starts_with_data [] = false
 starts_with_data (v ∷ vs) = is_data v.kind
 
+-- whether this volume is there, and no data volume
+abbrev pub is_plain_volume : Option VolumeFacts → Bool
+is_plain_volume None = false
+is_plain_volume (Some v) = not (is_data v.kind)
+
 -- whether the disks of the site of this name are a group, with a replicated volume group over it or not
 abbrev pub grouped_at : World → List ℕ → Bool
 grouped_at w site = over_group_at w site || over_rvg_at w site
@@ -72,19 +77,6 @@ goes_to_group w (Disk site disk state) = over_group_at w site
 goes_to_group w (Crash site pick) = over_group_at w site
 goes_to_group w (Fuse site calls pick) = over_group_at w site
 goes_to_group w other = false
-
--- the site of any other line that goes to a group where its site is over one
-abbrev pub plain_site : ScriptLine → Option (List ℕ)
-plain_site (Disk site disk state) = Some site
-plain_site (Crash site pick) = Some site
-plain_site (Fuse site calls pick) = Some site
-plain_site (Recover site) = Some site
-plain_site (Status site) = Some site
-plain_site (WriteLine site volume start count fill) = Some site
-plain_site (PutLine site volume start bytes) = Some site
-plain_site (ReadLine site volume start count) = Some site
-plain_site (ShowLine site volume start count) = Some site
-plain_site other = None
 
 -- whether lines of this kind may go to a group
 abbrev pub is_group_kind : ScriptLine → Bool

@@ -1,12 +1,13 @@
 // The lines that go to the group of a site, and their work.
 ghost use Rattle.std.specs.Prelude.{◌≡◌, ℕ, List, IfOk, IsOk, IsSome, Some, slice_get, false, true};
 ghost use Rattle.vx_history.specs.Doubts.{Doubted};
+ghost use Rattle.vx_order.specs.Calls.{is_data};
 ghost use Rattle.vx_order.specs.declared.facts.SiteFacts.{SiteFacts};
 ghost use Rattle.vx_events.specs.Facts.{place_of, seat_of};
 ghost use Rattle.vx_events.specs.RvgSteps.{is_for_rvg};
 ghost use Rattle.vx_yard.specs.AboveLines.{WorksIs};
 ghost use Rattle.vx_events.specs.StepsOver.{over_group_at};
-ghost use Rattle.vx_group_lines.specs.Plain.{goes_to_group, grouped_at, is_block_kind, is_group_kind, is_group_line, plain_at, starts_with_data};
+ghost use Rattle.vx_group_lines.specs.Plain.{goes_to_group, grouped_at, is_block_kind, is_group_kind, is_group_line, is_plain_volume, plain_at, starts_with_data};
 ghost use Rattle.vx_yard.specs.OfSites.{AsAsked, HasCalled};
 ghost use Rattle.vx_yard.specs.Standing.{StandsFor};
 ghost use Rattle.vx_yard.specs.Working.{IsFree, takes_memory};
@@ -60,6 +61,23 @@ fn is_grouped<R: Rack>(yard: &Yard<R>, name: &Name) -> bool
     yard.facts[site].grouped
 }
 
+// Whether a volume is a data volume of a replicated volume group.
+fn is_data_volume(volume: &VolumeFacts) -> bool
+    ensures { result ≡ is_data volume.now.kind }
+{
+    matches!(volume.kind, VolumeKind::Data)
+}
+
+// Whether the volume in this place is no data volume.
+fn is_plain_in(volumes: &[VolumeFacts], place: usize) -> bool
+    ensures { result ≡ is_plain_volume (slice_get volumes.now place) }
+{
+    match volumes.get(place) {
+        Some(volume) => !is_data_volume(volume),
+        None => false,
+    }
+}
+
 // Whether a volume is one of a group, and no data volume of a replicated volume group.
 fn is_plain<R: Rack>(yard: &Yard<R>, name: &Name, volume: &Name) -> bool
     requires kept { IsYardKept yard.now }
@@ -72,10 +90,7 @@ fn is_plain<R: Rack>(yard: &Yard<R>, name: &Name, volume: &Name) -> bool
         return false;
     }
     let place = yard.volume_of(site, volume);
-    !matches!(
-        yard.facts[site].volumes.as_slice()[place].kind,
-        VolumeKind::Data
-    )
+    is_plain_in(yard.facts[site].volumes.as_slice(), place)
 }
 
 // Whether such a line goes to a group, whatever its site is.

@@ -59,7 +59,7 @@ pub(crate) fn group_stopped<R: Rack>(
 // The volumes of a configuration as the tests see them, by what each is to its replicated volume group; none where there is no configuration.
 fn table_of(config: Option<&Config>, room: VolumeRoom) -> VolumeTable
     requires empty { room ≡ [] }
-    requires sound { (c : ConfigValue) → option_copied config.entry ≡ Some c → is_sound c ≡ true }
+    requires sound { (c : ConfigValue) → option_copied config ≡ Some c → is_sound c ≡ true }
     ensures { result ≡ kinds_of (option_copied config.entry) }
 {
     match config {

@@ -27,7 +27,7 @@ fn place_in(volumes: &[VolumeEntry], name: &Name) -> u32
 
 // The same of a configuration.
 fn number_by(config: Option<&Config>, name: &Name) -> u32
-    requires sound { (c : ConfigValue) → option_copied config.entry ≡ Some c → is_sound c ≡ true }
+    requires sound { (c : ConfigValue) → option_copied config ≡ Some c → is_sound c ≡ true }
     ensures { (c : ConfigValue) → option_copied config.entry ≡ Some c → result ≡ number_in c.volumes name.now }
 {
     match config {

@@ -21,7 +21,7 @@ use Rattle.vx_yard.specs.Stands.{AreTold}
 use Rattle.vx_yard.specs.Yards.{in_files}
 use Rattle.std.proofs.lemmas.Option.{slice_get_within}
 use Rattle.vx_model.proofs.Lists.{get_there}
-use Rattle.vx_group_lines.proofs.Choosing.{or_stops}
+use Rattle.vx_group_lines.proofs.GroupLeads.{or_stops}
 use Rattle.vx_group_lines.proofs.GroupImports.{import_done, import_stopped}
 use Rattle.vx_group_lines.proofs.GroupNamed.{away_named, if_ok, reply_same, unbegun_over}
 use Rattle.vx_group_lines.proofs.Tests.{import_may}

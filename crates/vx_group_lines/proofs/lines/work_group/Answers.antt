@@ -7,7 +7,7 @@ use Rattle.vx_yard.specs.OfSites.{AsAsked, HasCalled}
 use Rattle.vx_yard.specs.Standing.{LeadsOver, LeadsOverIs, LeadsOverOrStops}
 use Rattle.vx_yard.specs.Working.{IsFree}
 use Rattle.vx_yard.specs.Yards.{in_files}
-use Rattle.vx_group_lines.proofs.Choosing.{or_stops}
+use Rattle.vx_group_lines.proofs.GroupLeads.{or_stops}
 use Rattle.vx_group_lines.proofs.Tests.{volume_may}
 use Rattle.vx_group_lines.proofs.WorkLines.{memory_short, ok_any, prefers_below, prefers_few, rest_blocks, shape_layout}
 use Rattle.vx_group_lines.proofs.lines.work_group.Goals as goal
