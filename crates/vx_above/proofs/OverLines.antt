@@ -1,10 +1,10 @@
 -- Lines on the replicated volume group of a site over a group, by how they end there.
-use Rattle.std.proofs.Common.{◌≡◌, ℕ, Bool, true, false, List, sym, subst, refl}
+use Rattle.std.proofs.Common.{◌≡◌, ℕ, List, sym, subst, refl}
 use Rattle.vx_history.specs.Doubts.{Doubted}
 use Rattle.vx_history.specs.World.{Fuse}
-use Rattle.vx_script.specs.declared.line.ScriptLine.TheVariants.{Apply, Put, Read, Show, Write}
+use Rattle.vx_script.specs.declared.line.ScriptLine.TheVariants.{Put, Read, Show, Write}
 use Rattle.vx_events.specs.Fails.{Fails}
-use Rattle.vx_events.specs.RvgOver.{EndsOver, fuse_behind, EndsOrShows, OverRvg, OverRvgBy, ShowsInside, is_inner_kind, is_plain_kind, kind_named, NotesLine, burnt_over}
+use Rattle.vx_events.specs.RvgOver.{EndsOver, fuse_behind, OverRvg, NotesLine, burnt_over}
 use Rattle.vx_events.specs.declared.said.Said.{Said}
 use Rattle.vx_events.specs.RvgWorks.{FuseRanOut, NotesWork}
 use Rattle.vx_history.specs.Groups.{GroupNode}
@@ -22,38 +22,14 @@ pub record LineOver (told : Type 0) (d : Doubted) (s : ℕ) (line : ScriptLine) 
   pub wrap : (fails : Fails) (said : Said) (new : Doubted) → EndsOver told d line s fails said new → OverRvg told d line (rvg_place d.world line) fails said new
   pub fuse : (old now : Fuse) → fuse_behind line old now ≡ burnt_over old now
 
--- a line that works on a data volume
-module _ (told : Type 0) (d : Doubted) (site volume : List ℕ) (s : ℕ) (fails : Fails) (said : Said) (new : Doubted) where
-  pub over_write : (start count fill : ℕ) → is_plain_kind (kind_named (d.world.nodes s) volume) ≡ false → EndsOver told d (Write site volume start count fill) s fails said new → OverRvg told d (Write site volume start count fill) s fails said new
-  over_write start count fill inside ends = subst (λ (b : Bool). OverRvgBy b told d (Write site volume start count fill) s fails said new) (sym inside) ends
-
-  pub over_put : (start : ℕ) (bytes : List ℕ) → is_plain_kind (kind_named (d.world.nodes s) volume) ≡ false → EndsOver told d (Put site volume start bytes) s fails said new → OverRvg told d (Put site volume start bytes) s fails said new
-  over_put start bytes inside ends = subst (λ (b : Bool). OverRvgBy b told d (Put site volume start bytes) s fails said new) (sym inside) ends
-
-  pub over_read : (start count : ℕ) → is_plain_kind (kind_named (d.world.nodes s) volume) ≡ false → EndsOver told d (Read site volume start count) s fails said new → OverRvg told d (Read site volume start count) s fails said new
-  over_read start count inside ends = subst (λ (b : Bool). OverRvgBy b told d (Read site volume start count) s fails said new) (sym inside) ends
-
-  pub over_show : (start count : ℕ) → is_plain_kind (kind_named (d.world.nodes s) volume) ≡ false → is_inner_kind (kind_named (d.world.nodes s) volume) ≡ false → EndsOver told d (Show site volume start count) s fails said new
-      → OverRvg told d (Show site volume start count) s fails said new
-  over_show start count inside outer ends =
-      subst (λ (b : Bool). OverRvgBy b told d (Show site volume start count) s fails said new) (sym inside)
-      (subst (λ (b : Bool). EndsOrShows b told d (Show site volume start count) s fails said new) (sym outer) ends)
-
-  -- one that shows blocks of the log or of the maps
-  pub over_inside : (start count : ℕ) → is_plain_kind (kind_named (d.world.nodes s) volume) ≡ false → is_inner_kind (kind_named (d.world.nodes s) volume) ≡ true → ShowsInside d (Show site volume start count) s fails said new
-      → OverRvg told d (Show site volume start count) s fails said new
-  over_inside start count inside inner shows =
-      subst (λ (b : Bool). OverRvgBy b told d (Show site volume start count) s fails said new) (sym inside)
-      (subst (λ (b : Bool). EndsOrShows b told d (Show site volume start count) s fails said new) (sym inner) shows)
-
 -- ---- by the names of a line
 
-module _ (told : Type 0) (d : Doubted) (name volume : List ℕ) (s : ℕ) (number : site_number d.world name ≡ s) (inside : is_plain_kind (kind_named (d.world.nodes s) volume) ≡ false) where
+module _ (told : Type 0) (d : Doubted) (name volume : List ℕ) (s : ℕ) (number : site_number d.world name ≡ s) where
   pub line_write : (start count fill : ℕ) → LineOver told d s (Write name volume start count fill)
   line_write start count fill = record {
     place = number;
     lined = λ inner fails next works. works;
-    wrap = λ fails said new ends. subst (λ (k : ℕ). OverRvg told d (Write name volume start count fill) k fails said new) (sym number) (over_write told d name volume s fails said new start count fill inside ends);
+    wrap = λ fails said new ends. subst (λ (k : ℕ). OverRvg told d (Write name volume start count fill) k fails said new) (sym number) ends;
     fuse = λ old now. refl;
   }
 
@@ -61,7 +37,7 @@ module _ (told : Type 0) (d : Doubted) (name volume : List ℕ) (s : ℕ) (numbe
   line_put start bytes = record {
     place = number;
     lined = λ inner fails next works. works;
-    wrap = λ fails said new ends. subst (λ (k : ℕ). OverRvg told d (Put name volume start bytes) k fails said new) (sym number) (over_put told d name volume s fails said new start bytes inside ends);
+    wrap = λ fails said new ends. subst (λ (k : ℕ). OverRvg told d (Put name volume start bytes) k fails said new) (sym number) ends;
     fuse = λ old now. refl;
   }
 
@@ -69,23 +45,14 @@ module _ (told : Type 0) (d : Doubted) (name volume : List ℕ) (s : ℕ) (numbe
   line_read start count = record {
     place = number;
     lined = λ inner fails next works. works;
-    wrap = λ fails said new ends. subst (λ (k : ℕ). OverRvg told d (Read name volume start count) k fails said new) (sym number) (over_read told d name volume s fails said new start count inside ends);
+    wrap = λ fails said new ends. subst (λ (k : ℕ). OverRvg told d (Read name volume start count) k fails said new) (sym number) ends;
     fuse = λ old now. refl;
   }
 
-  pub line_show : (start count : ℕ) → is_inner_kind (kind_named (d.world.nodes s) volume) ≡ false → LineOver told d s (Show name volume start count)
-  line_show start count outer = record {
+  pub line_show : (start count : ℕ) → LineOver told d s (Show name volume start count)
+  line_show start count = record {
     place = number;
     lined = λ inner fails next works. works;
-    wrap = λ fails said new ends.
-        subst (λ (k : ℕ). OverRvg told d (Show name volume start count) k fails said new) (sym number) (over_show told d name volume s fails said new start count inside outer ends);
+    wrap = λ fails said new ends. subst (λ (k : ℕ). OverRvg told d (Show name volume start count) k fails said new) (sym number) ends;
     fuse = λ old now. refl;
   }
-
-pub line_apply : (told : Type 0) (d : Doubted) (name : List ℕ) (s to : ℕ) → site_number d.world name ≡ s → LineOver told d s (Apply name to)
-line_apply told d name s to number = record {
-  place = number;
-  lined = λ inner fails next works. works;
-  wrap = λ fails said new ends. subst (λ (k : ℕ). OverRvg told d (Apply name to) k fails said new) (sym number) ends;
-  fuse = λ old now. refl;
-}

@@ -1,5 +1,5 @@
--- What a line that no test refuses is answered: one that makes a replicated volume group, one on links of a site that has one over a group of disks, one at such a site,
--- one that works on a group of disks, or another.
+-- What a line that no test refuses, and that is not open, is answered: one that makes a replicated volume group, one at a site that has one over a group of disks, one
+-- that works on a group of disks, or another.
 use Rattle.std.proofs.Common.{◌≡◌, ℕ, Bool, true, false, List, [], inl, sym, subst, refl, ap}
 use Rattle.std.specs.Prelude.{◌&&◌, ◌||◌, Result, Ok, Err, not}
 use Rattle.vx_history.specs.Doubts.{Doubted}
@@ -10,7 +10,7 @@ use Rattle.vx_script.specs.declared.line.ScriptLine.TheVariants.{Rvg}
 use Rattle.vx_events.specs.Brights.{told_for}
 use Rattle.vx_events.specs.Fails.{Fails}
 use Rattle.vx_events.specs.Lines.{is_of_links}
-use Rattle.vx_events.specs.RvgLinks.{LinksOver, links_rvg}
+use Rattle.vx_events.specs.OpenLines.{is_open}
 use Rattle.vx_events.specs.RvgOver.{OverRvg, is_plain_kind}
 use Rattle.vx_events.specs.RvgSteps.{AsBefore, FoundPlain, MakesNoRvg, WorksAbove, WorksBeside, WorksFull, is_for_rvg, rvg_place}
 use Rattle.vx_events.specs.StepsOver.{WorksOver, group_place, is_for_group}
@@ -18,8 +18,7 @@ use Rattle.vx_events.specs.declared.said.Said.{Said}
 use Rattle.vx_events.specs.Parts.{StopsInPart}
 use Rattle.vx_events.proofs.Parts.{none_done}
 use Rattle.vx_events.proofs.Tolds.{told_less, works_told}
-use Rattle.vx_yard.specs.AboveLines.{WorksIs}
-use Rattle.vx_yard.specs.AboveLines.{LeadsAboveIs, LeadsBesideIs, LeadsLinkedIs}
+use Rattle.vx_yard.specs.AboveLines.{LeadsAboveIs, LeadsBesideIs, WorksIs}
 use Rattle.vx_yard.specs.Gaining.{LeadsRvgIs}
 use Rattle.vx_yard.proofs.RecoverLine.{rose_then}
 use Rattle.vx_yard.specs.Standing.{LeadsIs, LeadsOrStops, LeadsOverOrStops, StaysFor, StopsAbove, StopsFor}
@@ -31,24 +30,21 @@ use Rattle.vx_order.specs.Calls.{is_data}
 
 -- ---- a line that makes no replicated volume group
 
-full_by : (told : Type 0) (d : Doubted) (line : ScriptLine) (fails : Fails) (said : Said) (new : Doubted) → MakesNoRvg line → WorksAbove (links_rvg d.world line) (is_for_rvg d.world line) told d line fails said new → WorksFull told d line fails said new
+full_by : (told : Type 0) (d : Doubted) (line : ScriptLine) (fails : Fails) (said : Said) (new : Doubted) → MakesNoRvg line → WorksAbove (is_open d.world line) (is_for_rvg d.world line) told d line fails said new → WorksFull told d line fails said new
 full_by told d (Rvg site srl maps volumes) fails said new none works = absurd none
 full_by told d other fails said new none works = works
 
 module _ (told : Type 0) (d : Doubted) (line : ScriptLine) (fails : Fails) (said : Said) (new : Doubted) (none : MakesNoRvg line) where
-  linked_full : links_rvg d.world line ≡ true → LinksOver told d line fails said new → WorksFull told d line fails said new
-  linked_full links works = full_by told d line fails said new none (subst (λ (b : Bool). WorksAbove b (is_for_rvg d.world line) told d line fails said new) (sym links) works)
-
-  above_full : links_rvg d.world line ≡ false → is_for_rvg d.world line ≡ true → OverRvg told d line (rvg_place d.world line) fails said new → WorksFull told d line fails said new
-  above_full links over works =
+  above_full : is_open d.world line ≡ false → is_for_rvg d.world line ≡ true → OverRvg told d line (rvg_place d.world line) fails said new → WorksFull told d line fails said new
+  above_full closed over works =
       full_by told d line fails said new none
-      (subst (λ (b : Bool). WorksAbove b (is_for_rvg d.world line) told d line fails said new) (sym links)
+      (subst (λ (b : Bool). WorksAbove b (is_for_rvg d.world line) told d line fails said new) (sym closed)
       (subst (λ (b : Bool). WorksAbove false b told d line fails said new) (sym over) works))
 
-  beside_full : links_rvg d.world line ≡ false → is_for_rvg d.world line ≡ false → WorksBeside told d line fails said new → WorksFull told d line fails said new
-  beside_full links over works =
+  beside_full : is_open d.world line ≡ false → is_for_rvg d.world line ≡ false → WorksBeside told d line fails said new → WorksFull told d line fails said new
+  beside_full closed over works =
       full_by told d line fails said new none
-      (subst (λ (b : Bool). WorksAbove b (is_for_rvg d.world line) told d line fails said new) (sym links)
+      (subst (λ (b : Bool). WorksAbove b (is_for_rvg d.world line) told d line fails said new) (sym closed)
       (subst (λ (b : Bool). WorksAbove false b told d line fails said new) (sym over) works))
 
 module _ {R : Type 0} {g : Ghosts R} where
@@ -67,13 +63,13 @@ module _ {R : Type 0} {g : Ghosts R} where
 
   -- ---- a line at sites without one
 
-  module _ (d : Doubted) (line : ScriptLine) (old new : Yard R g) (none : MakesNoRvg line) (links : links_rvg d.world line ≡ false) (off : is_for_rvg d.world line ≡ false) where
+  module _ (d : Doubted) (line : ScriptLine) (old new : Yard R g) (none : MakesNoRvg line) (closed : is_open d.world line ≡ false) (off : is_for_rvg d.world line ≡ false) where
     -- one that works on no group
     pub works_plain : (r : Result Said OutOfMemory) → is_for_group d.world line ≡ false → ((next : Doubted) → FoundPlain line (group_place d.world line) next) → LeadsOrStops d line old new r → WorksIs d line old new r
     works_plain (Ok said) plain found leads = record {
       next = leads.next;
       fails = leads.fails;
-      works = beside_full (IsTold new) d line leads.fails said leads.next none links off
+      works = beside_full (IsTold new) d line leads.fails said leads.next none closed off
           (AsBefore (works_told (λ (t : told_for (IsTold new) d.world line). told_less (IsTold new) d.world (is_of_links line) t) (is_for_group d.world line) d line leads.fails said leads.next
           (subst (λ (b : Bool). WorksOver b (IsTold new) d line leads.fails said leads.next) (sym plain) (inl leads.done))) (found leads.next));
       stands = leads.stands;
@@ -90,7 +86,7 @@ module _ {R : Type 0} {g : Ghosts R} where
     works_over (Ok said) over found leads = record {
       next = leads.next;
       fails = leads.fails;
-      works = beside_full (IsTold new) d line leads.fails said leads.next none links off
+      works = beside_full (IsTold new) d line leads.fails said leads.next none closed off
           (AsBefore (works_told (λ (t : told_for (IsTold new) d.world line). told_less (IsTold new) d.world (is_of_links line) t) (is_for_group d.world line) d line leads.fails said leads.next
           (subst (λ (b : Bool). WorksOver b (IsTold new) d line leads.fails said leads.next) (sym over) leads.done)) (found leads.next));
       stands = leads.stands;
@@ -104,54 +100,34 @@ module _ {R : Type 0} {g : Ghosts R} where
     works_beside (Ok said) leads = record {
       next = leads.next;
       fails = leads.fails;
-      works = beside_full (IsTold new) d line leads.fails said leads.next none links off leads.works;
+      works = beside_full (IsTold new) d line leads.fails said leads.next none closed off leads.works;
       stands = leads.stands;
       carries = leads.carries;
       rose = leads.rose;
     }
     works_beside (Err e) stops = stops
 
-  -- ---- a line at a site with one, and on links of one
+  -- ---- a line at a site with one
 
-  pub works_above : (d : Doubted) (line : ScriptLine) (old new : Yard R g) → MakesNoRvg line → links_rvg d.world line ≡ false → is_for_rvg d.world line ≡ true → (r : Result Said OutOfMemory) → LeadsAboveIs d line old new r → WorksIs d line old new r
-  works_above d line old new none links over (Ok said) leads = record {
+  pub works_above : (d : Doubted) (line : ScriptLine) (old new : Yard R g) → MakesNoRvg line → is_open d.world line ≡ false → is_for_rvg d.world line ≡ true → (r : Result Said OutOfMemory) → LeadsAboveIs d line old new r → WorksIs d line old new r
+  works_above d line old new none closed over (Ok said) leads = record {
     next = leads.next;
     fails = leads.fails;
-    works = above_full (IsTold new) d line leads.fails said leads.next none links over leads.works;
+    works = above_full (IsTold new) d line leads.fails said leads.next none closed over leads.works;
     stands = leads.stands;
     carries = leads.carries;
     rose = leads.rose;
   }
-  works_above d line old new none links over (Err e) stops = stops
-
-  pub works_linked : (d : Doubted) (line : ScriptLine) (old new : Yard R g) → MakesNoRvg line → links_rvg d.world line ≡ true → (r : Result Said OutOfMemory) → LeadsLinkedIs d line old new r → WorksIs d line old new r
-  works_linked d line old new none links (Ok said) leads = record {
-    next = leads.next;
-    fails = leads.fails;
-    works = linked_full (IsTold new) d line leads.fails said leads.next none links leads.works;
-    stands = leads.stands;
-    carries = leads.carries;
-    rose = leads.rose;
-  }
-  works_linked d line old new none links (Err e) stops = stops
+  works_above d line old new none closed over (Err e) stops = stops
 
   -- a line of one site, with one or not
-  pub works_either : (d : Doubted) (line : ScriptLine) (old new : Yard R g) → MakesNoRvg line → links_rvg d.world line ≡ false → (r : Result Said OutOfMemory) → is_for_group d.world line ≡ false → ((next : Doubted) → FoundPlain line (group_place d.world line) next)
+  pub works_either : (d : Doubted) (line : ScriptLine) (old new : Yard R g) → MakesNoRvg line → is_open d.world line ≡ false → (r : Result Said OutOfMemory) → is_for_group d.world line ≡ false → ((next : Doubted) → FoundPlain line (group_place d.world line) next)
       → (is_for_rvg d.world line ≡ false → LeadsOrStops d line old new r) → (is_for_rvg d.world line ≡ true → LeadsAboveIs d line old new r) → WorksIs d line old new r
-  works_either d line old new none links r plain found leads above = by (is_for_rvg d.world line) refl
+  works_either d line old new none closed r plain found leads above = by (is_for_rvg d.world line) refl
     where
       by : (b : Bool) → is_for_rvg d.world line ≡ b → WorksIs d line old new r
-      by true over = works_above d line old new none links over r (above over)
-      by false off = works_plain d line old new none links off r plain found (leads off)
-
-  -- a line of links, of a site with one or not
-  pub works_between : (d : Doubted) (line : ScriptLine) (old new : Yard R g) → MakesNoRvg line → is_for_rvg d.world line ≡ false → (r : Result Said OutOfMemory) → is_for_group d.world line ≡ false → ((next : Doubted) → FoundPlain line (group_place d.world line) next)
-      → (links_rvg d.world line ≡ false → LeadsIs d line old new r) → (links_rvg d.world line ≡ true → LeadsLinkedIs d line old new r) → WorksIs d line old new r
-  works_between d line old new none off r plain found leads linked = by (links_rvg d.world line) refl
-    where
-      by : (b : Bool) → links_rvg d.world line ≡ b → WorksIs d line old new r
-      by true links = works_linked d line old new none links r (linked links)
-      by false links = works_whole d line old new none links off r plain found (leads links)
+      by true over = works_above d line old new none closed over r (above over)
+      by false off = works_plain d line old new none closed off r plain found (leads off)
 
   -- one that makes one
   pub works_rvg : (d : Doubted) (site srl maps : List ℕ) (volumes : List (List ℕ)) (old new : Yard R g) (r : Result Said OutOfMemory) → LeadsRvgIs d site srl maps volumes old new r → WorksIs d (Rvg site srl maps volumes) old new r

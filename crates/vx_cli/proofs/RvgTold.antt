@@ -7,7 +7,7 @@ use Rattle.vx_history.specs.World.{World}
 use Rattle.vx_model.specs.declared.no.No.{No}
 use Rattle.vx_model.specs.declared.units.Units.{Units}
 use Rattle.vx_script.specs.declared.line.ScriptLine.{ScriptLine}
-use Rattle.vx_script.specs.declared.line.ScriptLine.TheVariants.{GroupImport, Recover, Rvg}
+use Rattle.vx_script.specs.declared.line.ScriptLine.TheVariants.{GroupDeport, GroupImport, Recover, Rvg}
 use Rattle.vx_events.specs.Ends.{place_of}
 use Rattle.vx_events.specs.Facts.{site_number}
 use Rattle.vx_events.specs.Fails.{Fails}
@@ -15,17 +15,17 @@ use Rattle.vx_events.specs.GroupNotes.{note_at}
 use Rattle.vx_events.specs.Lines.{is_of_links}
 use Rattle.vx_events.specs.Parts.{StopsBetween, StopsDown, StopsInPart, StopsRead, StopsShort}
 use Rattle.vx_events.specs.RvgBack.{GroupCutOff, GroupHeld, GroupUnfound, KeptLost, LogCut, LogFails, LogLacks, FindsNoRvg, FindsPlain, FindsRvg, RvgBack, RvgFinds, RvgUp, SaysUp}
-use Rattle.vx_events.specs.Brights.{AllKnown, told_for}
-use Rattle.vx_events.specs.RvgLinks.{LinksOver, links_rvg}
+use Rattle.vx_events.specs.Brights.{told_for}
+use Rattle.vx_events.specs.OpenLines.{is_open}
 use Rattle.vx_events.specs.RvgMakes.{MakesRvg, RvgCut, RvgDone, RvgFails, RvgLacks}
 use Rattle.vx_events.specs.RvgNotes.{NotesLacking, NotesNarrowed, NotesNoRvg, NotesRvg}
-use Rattle.vx_events.specs.RvgOver.{BelowEnds, EndsOrShows, EndsOver, OverRvgBy, TakesOr, is_below, is_inside, missed_in, CutBelow}
+use Rattle.vx_events.specs.RvgOver.{BelowEnds, CutBelow, EndsOver, OverRvg, missed_in}
 use Rattle.vx_events.specs.RvgParts.{RvgShort, ShortFull, ShortGroup, ShortLog, ShortMade, ShortPump, short_place}
 use Rattle.vx_events.specs.RvgSteps.{AsBefore, FoundOne, FullBy, Gained, WorksAbove, WorksBeside, WorksFull, is_for_rvg, rvg_place}
 use Rattle.vx_events.specs.StepsOver.{group_place, is_for_group}
 use Rattle.vx_events.specs.declared.said.Said.{Said}
 use Rattle.vx_events.proofs.GroupTold.{back_told, group_told, known_told, nothing_told, shows_told}
-use Rattle.vx_events.proofs.LineTold.{ends_told, links_told}
+use Rattle.vx_events.proofs.LineTold.{ends_told}
 use Rattle.vx_events.proofs.Tolds.{for_more, works_told}
 use Rattle.vx_events.specs.GroupEnds.{GroupEnds}
 
@@ -98,17 +98,6 @@ module _ {T U : Type 0} (f : U → T) where
     left = x.left;
   }
 
-  shows_or_told : (inside : Bool) (d : Doubted) (line : ScriptLine) (s : ℕ) (fails : Fails) (said : Said) (new : Doubted) → EndsOrShows inside T d line s fails said new → EndsOrShows inside U d line s fails said new
-  shows_or_told true d line s fails said new x = x
-  shows_or_told false d line s fails said new x = over_told d line s fails said new x
-
-  takes_told : (d : Doubted) (line : ScriptLine) (s : ℕ) (fails : Fails) (said : Said) (new : Doubted) → TakesOr T d line s fails said new → TakesOr U d line s fails said new
-  takes_told d (GroupImport site) s fails said new (inl x) = inl (came_told d (GroupImport site) s fails said new x)
-  takes_told d (GroupImport site) s fails said new (inr x) = inr (found_told d (GroupImport site) s fails said new x)
-  takes_told d (Recover site) s fails said new (inl x) = inl (came_told d (Recover site) s fails said new x)
-  takes_told d (Recover site) s fails said new (inr x) = inr (found_told d (Recover site) s fails said new x)
-  takes_told d other s fails said new x = shows_or_told (is_inside (d.world.nodes s) other) d other s fails said new x
-
   below_told : (d : Doubted) (line : ScriptLine) (s : ℕ) (fails : Fails) (said : Said) (new : Doubted) → BelowEnds T d line s fails said new → BelowEnds U d line s fails said new
   below_told d line s fails said new x = record { missed = x.missed; ends = by x.ends }
     where
@@ -116,29 +105,15 @@ module _ {T U : Type 0} (f : U → T) where
       by (inl ends) = inl (group_told f (missed_in x.missed d s) line s fails said new ends)
       by (inr cut) = inr cut
 
-  place_told : (below : Bool) (d : Doubted) (line : ScriptLine) (s : ℕ) (fails : Fails) (said : Said) (new : Doubted) → OverRvgBy below T d line s fails said new → OverRvgBy below U d line s fails said new
-  place_told true d line s fails said new x = below_told d line s fails said new x
-  place_told false d line s fails said new x = takes_told d line s fails said new x
+  place_told : (d : Doubted) (line : ScriptLine) (s : ℕ) (fails : Fails) (said : Said) (new : Doubted) → OverRvg T d line s fails said new → OverRvg U d line s fails said new
+  place_told d (GroupDeport site) s fails said new x = below_told d (GroupDeport site) s fails said new x
+  place_told d (GroupImport site) s fails said new (inl x) = inl (came_told d (GroupImport site) s fails said new x)
+  place_told d (GroupImport site) s fails said new (inr x) = inr (found_told d (GroupImport site) s fails said new x)
+  place_told d (Recover site) s fails said new (inl x) = inl (came_told d (Recover site) s fails said new x)
+  place_told d (Recover site) s fails said new (inr x) = inr (found_told d (Recover site) s fails said new x)
+  place_told d other s fails said new x = over_told d other s fails said new x
 
-  -- ---- one on links, and any
-
-  links_over_told : (d : Doubted) (line : ScriptLine) (fails : Fails) (said : Said) (new : Doubted) → LinksOver T d line fails said new → LinksOver U d line fails said new
-  links_over_told d line fails said new x = record {
-    borne = x.borne;
-    ending = x.ending;
-    split = x.split;
-    bears = x.bears;
-    middle = x.middle;
-    ends = links_told all d line x.ending said x.middle x.ends;
-    next = x.next;
-    notes = x.notes;
-    left = x.left;
-    works = x.works;
-    calls = x.calls;
-  }
-    where
-      all : AllKnown U d.world → AllKnown T d.world
-      all known = (f known.0, known.1)
+  -- ---- any line
 
   beside_told : (d : Doubted) (line : ScriptLine) (fails : Fails) (said : Said) (new : Doubted) → WorksBeside T d line fails said new → WorksBeside U d line fails said new
   beside_told d line fails said new (AsBefore works found) =
@@ -146,14 +121,14 @@ module _ {T U : Type 0} (f : U → T) where
   beside_told d line fails said new (Gained x) = Gained (came_told d line (group_place d.world line) fails said new x)
   beside_told d line fails said new (FoundOne x) = FoundOne (found_told d line (group_place d.world line) fails said new x)
 
-  above_told : (links above : Bool) (d : Doubted) (line : ScriptLine) (fails : Fails) (said : Said) (new : Doubted) → WorksAbove links above T d line fails said new → WorksAbove links above U d line fails said new
-  above_told true above d line fails said new x = links_over_told d line fails said new x
-  above_told false true d line fails said new x = place_told (is_below (d.world.nodes (rvg_place d.world line)) line) d line (rvg_place d.world line) fails said new x
+  above_told : (halts above : Bool) (d : Doubted) (line : ScriptLine) (fails : Fails) (said : Said) (new : Doubted) → WorksAbove halts above T d line fails said new → WorksAbove halts above U d line fails said new
+  above_told true above d line fails said new x = x
+  above_told false true d line fails said new x = place_told d line (rvg_place d.world line) fails said new x
   above_told false false d line fails said new x = beside_told d line fails said new x
 
   full_told : (d : Doubted) (line : ScriptLine) (fails : Fails) (said : Said) (new : Doubted) → WorksFull T d line fails said new → WorksFull U d line fails said new
   full_told d (Rvg site srl maps volumes) fails said new x = makes_told d (Rvg site srl maps volumes) (site_number d.world site) fails said new x
-  full_told d other fails said new x = above_told (links_rvg d.world other) (is_for_rvg d.world other) d other fails said new x
+  full_told d other fails said new x = above_told (is_open d.world other) (is_for_rvg d.world other) d other fails said new x
 
   pub step_told : (why : Option No) (d : Doubted) (line : ScriptLine) (fails : Fails) (said : Said) (new : Doubted) → FullBy why T d line fails said new → FullBy why U d line fails said new
   step_told (Some why) d line fails said new x = x

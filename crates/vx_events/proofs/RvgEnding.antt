@@ -13,16 +13,16 @@ use Rattle.vx_history.specs.World.{NoFuse, Node, World}
 use Rattle.vx_history.specs.declared.event.Event.{Event}
 use Rattle.vx_history.specs.declared.event.Event.TheVariants.{Crash as CrashAt, Fall as FallAt, Recover as RecoverAt}
 use Rattle.vx_script.specs.declared.line.ScriptLine.{ScriptLine}
-use Rattle.vx_script.specs.declared.line.ScriptLine.TheVariants.{Site, Raw, Disk as DiskLine, Crash, Fuse as FuseLine, GroupImport, Recover, Write, Put, Read, Show, Apply, Status}
+use Rattle.vx_script.specs.declared.line.ScriptLine.TheVariants.{Site, Raw, Disk as DiskLine, Crash, Fuse as FuseLine, GroupDeport, GroupImport, Recover, Write, Put, Read, Show, Apply, Status}
 use Rattle.vx_events.proofs.GroupStopping.{events_tell, group_stops, noted_like}
 use Rattle.vx_events.proofs.LinkStopping.{link_stops}
-use Rattle.vx_events.proofs.Noting.{as_like, disks_like, like_disks, like_noted, like_self, like_then, same_like, like_site, like_worked}
+use Rattle.vx_events.proofs.Noting.{as_like, disks_like, like_disks, like_noted, like_self, like_then, same_like, like_site}
 use Rattle.vx_events.proofs.RvgFull.{brings_found}
 use Rattle.vx_events.proofs.RvgKnown.{back_dark}
 use Rattle.vx_events.proofs.RvgMissed.{missed_like}
 use Rattle.vx_events.proofs.RvgStopping.{ended as ended_rvg, noted_doubted, same_doubted}
 use Rattle.vx_events.proofs.Stopping.{BeginsWrite, ended, runs_as}
-use Rattle.vx_events.specs.Doubts.{IsAs, run_as, with_disks}
+use Rattle.vx_events.specs.Doubts.{run_as, with_disks}
 use Rattle.vx_events.specs.Ends.{place_of}
 use Rattle.vx_events.specs.Facts.{site_number}
 use Rattle.vx_events.specs.Fails.{Fails}
@@ -35,12 +35,11 @@ use Rattle.vx_events.specs.Brights.{AllKnown}
 use Rattle.vx_events.specs.RvgLinks.{LinksOver, noting_each, noted_there}
 use Rattle.vx_events.specs.RvgMakes.{RvgStops, noting_in}
 use Rattle.vx_events.specs.RvgNotes.{volume_events}
-use Rattle.vx_events.specs.RvgOver.{CutBelow, EndsOrShows, EndsOver, OpensFor, OverRvg, OverRvgBy, ShowFails, ShowsAny, TakesOr, is_below, is_inside, missed_in, noting_over, fuse_behind}
+use Rattle.vx_events.specs.RvgOver.{CutBelow, EndsOver, OpensFor, OverRvg, missed_in, noting_over, fuse_behind}
 use Rattle.vx_events.specs.RvgParts.{RvgShort, ShortGroup, ShortLog, ShortMade, ShortPump}
 use Rattle.vx_events.specs.RvgViews.{is_over_rvg}
 use Rattle.vx_events.specs.RvgWorks.{AgreesOr}
 use Rattle.vx_events.specs.declared.said.Said.{Said}
-use Rattle.vx_history.specs.Steps.{worked_on}
 
 -- ---- ends in worlds that differ in notes alone
 
@@ -225,7 +224,7 @@ opens_at w other opens c h = absurd h
 
 -- ---- any line at such a site
 
--- a line on the group alone
+-- a deport
 place_stops : (told : Type 0) (d : Doubted) (line : ScriptLine) (s : ℕ) (fails : Fails) (said : Said) (new : Doubted) (w : MissedNote)
     → GroupEnds told (missed_in w d s) line s fails said new ⊎ CutBelow (missed_in w d s) line s fails said new → RvgStops d new
 place_stops told d line s fails said new w (inl ends) =
@@ -263,37 +262,16 @@ module _ (told : Type 0) (is_told : told) (d : Doubted) (s : ℕ) (bright : (not
       absurd (let e : true ≡ false = sym (dark is_told) ∙ sym (back_dark s line taken next d _ new left) ∙ known in cc)
   finds_stops line (inr known) (FindsNoRvg kept taken lost next why has are brings unknown free notes says left) = fall_stops d s line kept taken lost next new left
 
-  worked : IsAs d (worked_on d.world s) new → RvgStops d new
-  worked left = record {
-    before = d;
-    like = same_doubted d;
-    events = [];
-    ending = [];
-    stops = EventsDone d refl refl (as_like d new (worked_on d.world s) (like_worked d.world s) left);
-  }
-
-  shows_or : (inside : Bool) (line : ScriptLine) → OpensFor d.world line → EndsOrShows inside told d line s fails said new → RvgStops d new
-  shows_or true line opens (ShowsAny site volume start count bytes is are got size left) = worked left
-  shows_or true line opens (ShowFails disk are has says left) = worked left
-  shows_or false line opens ends = over_stops told d line s fails said new (is_told, bright) (opens_at d.world line opens) ends
-
   back_or : (line : ScriptLine) → RvgBack told d line s fails said new ⊎ RvgFinds told d line s fails said new → RvgStops d new ⊎ RvgFinds told d line s fails said new
   back_or line (inl back) = inl (back_stops told d line s fails said new back)
   back_or line (inr finds) = inr finds
 
-  takes_or : (line : ScriptLine) → OpensFor d.world line → TakesOr told d line s fails said new → RvgStops d new ⊎ RvgFinds told d line s fails said new
-  takes_or (GroupImport site) opens ends = back_or (GroupImport site) ends
-  takes_or (Recover site) opens ends = back_or (Recover site) ends
-  takes_or other opens ends = inl (shows_or (is_inside (d.world.nodes s) other) other opens ends)
-
-  by_place : (below : Bool) (line : ScriptLine) → OpensFor d.world line → OverRvgBy below told d line s fails said new
-      → RvgStops d new ⊎ RvgFinds told d line s fails said new
-  by_place true line opens below = inl (place_stops told d line s fails said new below.missed below.ends)
-  by_place false line opens ends = takes_or line opens ends
-
   -- the line ended as events do, or found something on disks of which nothing is known
   pub stops_or_finds : (line : ScriptLine) → OpensFor d.world line → OverRvg told d line s fails said new → RvgStops d new ⊎ RvgFinds told d line s fails said new
-  stops_or_finds line opens ends = by_place (is_below (d.world.nodes s) line) line opens ends
+  stops_or_finds (GroupDeport site) opens below = inl (place_stops told d (GroupDeport site) s fails said new below.missed below.ends)
+  stops_or_finds (GroupImport site) opens ends = back_or (GroupImport site) ends
+  stops_or_finds (Recover site) opens ends = back_or (Recover site) ends
+  stops_or_finds other opens ends = inl (over_stops told d other s fails said new (is_told, bright) (opens_at d.world other opens) ends)
 
   pub over_rvg_stops : (line : ScriptLine) → (BringsUp line → AgreesOr (note_at (d.world.nodes s)) (note_at (new.world.nodes s))) → OpensFor d.world line
       → OverRvg told d line s fails said new → RvgStops d new

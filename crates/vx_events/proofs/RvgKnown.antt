@@ -4,17 +4,17 @@ use Rattle.std.specs.Prelude.{unwrap_or}
 use Rattle.vx_history.proofs.Updates.{at_place}
 use Rattle.vx_history.specs.Doubts.{Doubted}
 use Rattle.vx_history.specs.Groups.{GroupNode, MissedNote}
-use Rattle.vx_history.specs.Steps.{burned, worked_on}
+use Rattle.vx_history.specs.Steps.{burned}
 use Rattle.vx_history.specs.Stops.{IsFused}
 use Rattle.vx_history.specs.World.{NoFuse, Node, World}
 use Rattle.vx_history.specs.declared.event.Event.{Event}
 use Rattle.vx_config.specs.declared.config.Config.{Config}
 use Rattle.vx_model.specs.declared.units.Units.{Units}
 use Rattle.vx_script.specs.declared.line.ScriptLine.{ScriptLine}
-use Rattle.vx_script.specs.declared.line.ScriptLine.TheVariants.{Apply, GroupImport, Put, Read, Recover, Show, Write}
+use Rattle.vx_script.specs.declared.line.ScriptLine.TheVariants.{GroupDeport, GroupImport, Put, Read, Recover, Show, Write}
 use Rattle.vx_events.proofs.KnownLaws.{back_known, cuts_known, finds_none, group_known, group_stays, no_rise, same_note}
 use Rattle.vx_events.proofs.RvgMissed.{missed_dark, missed_note}
-use Rattle.vx_events.specs.Doubts.{with_disks, IsAs}
+use Rattle.vx_events.specs.Doubts.{with_disks}
 use Rattle.vx_events.specs.Fails.{Fails}
 use Rattle.vx_events.specs.GroupEnds.{BringsUp, GroupEnds}
 use Rattle.vx_events.specs.GroupLines.{noting}
@@ -23,7 +23,7 @@ use Rattle.vx_events.specs.Known.{MayDarken}
 use Rattle.vx_events.specs.RvgBack.{FindsNoRvg, FindsPlain, FindsRvg, GetsRvg, GroupCutOff, GroupHeld, GroupUnfound, HadRvg, IsLeftBack, KeptLost, LogCut, LogFails, LogLacks, RestsWithRvg, RvgBack, RvgFinds, RvgUp, fuse_left}
 use Rattle.vx_events.specs.RvgMakes.{IsLeftRvg, MakesRvg, RvgCut, RvgDone, RvgFails, RvgLacks, units_at}
 use Rattle.vx_events.specs.RvgNotes.{NotesNarrowed}
-use Rattle.vx_events.specs.RvgOver.{CutBelow, EndsOrShows, NotesLine, OverRvg, OverRvgBy, ShowFails, ShowsAny, TakesOr, is_below, is_inside, missed_in, noting_over, fuse_behind}
+use Rattle.vx_events.specs.RvgOver.{CutBelow, EndsOver, NotesLine, OverRvg, missed_in, noting_over, fuse_behind}
 use Rattle.vx_events.specs.RvgWorks.{FuseRanOut, NotesWork, WorksAs}
 use Rattle.vx_events.specs.declared.said.Said.{Said}
 
@@ -34,10 +34,6 @@ of_note w s next is known = ap (λ (o : Option GroupNode). (unwrap_or o no_note)
 
 pub noted_here : (v : World) (s : ℕ) (next : GroupNode) → ((noting v s next).nodes s).group ≡ Some next
 noted_here v s next = ap (λ (n : Node). n.group) (at_place v.nodes s (record (v.nodes s) { group = Some next }))
-
--- a site of which calls were made notes what it did
-pub worked_note : (w : World) (s : ℕ) → note_at ((worked_on w s).nodes s) ≡ note_at (w.nodes s)
-worked_note w s = ap (λ (n : Node). note_at n) (at_place w.nodes s (record (w.nodes s) { fuse = burned (w.nodes s).fuse }))
 
 pub noted_over_here : (line : ScriptLine) (w v : World) (s : ℕ) (next : GroupNode) → ((noting_over line w v s next).nodes s).group ≡ Some next
 noted_over_here line w v s next = ap (λ (n : Node). n.group) (at_place v.nodes s (record (v.nodes s) { group = Some next; fuse = fuse_behind line (w.nodes s).fuse (v.nodes s).fuse }))
@@ -133,27 +129,16 @@ module _ (told : Type 0) (tells : told) (d : Doubted) (s : ℕ) (known : (note_a
   line_dark Off (Put site volume start bytes) next x = works_dark Off s fails here next x ∙ known
   line_dark Off (Read site volume start count) next x = works_dark Off s fails here next x ∙ known
   line_dark Off (Show site volume start count) next x = works_dark Off s fails here next x ∙ known
-  line_dark Off (Apply site to) next x = works_dark Off s fails here next x ∙ known
   line_dark Off other next same = same_note here next same known
 
-  worked_known : IsAs d (worked_on d.world s) new → (note_at (new.world.nodes s)).dark ≡ false
-  worked_known left = ap (λ (w : World). (note_at (w.nodes s)).dark) left.world ∙ ap (λ (g : GroupNode). g.dark) (worked_note d.world s) ∙ known
-
-  shows_known : (inside : Bool) (line : ScriptLine) → EndsOrShows inside told d line s fails said new → (note_at (new.world.nodes s)).dark ≡ false
-  shows_known true line (ShowsAny site volume start count bytes is are got size left) = worked_known left
-  shows_known true line (ShowFails disk are has says left) = worked_known left
-  shows_known false line h =
+  line_known : (line : ScriptLine) → EndsOver told d line s fails said new → (note_at (new.world.nodes s)).dark ≡ false
+  line_known line h =
       of_note new.world s h.next (ap (λ (w : World). (w.nodes s).group) h.left.world ∙ noted_over_here line d.world h.middle.world s h.next) (line_dark (FuseRanOut (d.world.nodes s) h.inner) line h.next h.notes)
 
   back_or_known : (line : ScriptLine) → (MayDarken here line said → ⊥) → RvgBack told d line s fails said new ⊎ RvgFinds told d line s fails said new
       → (note_at (new.world.nodes s)).dark ≡ false
   back_or_known line free (inl back) = back_known_too line free back
   back_or_known line free (inr finds) = absurd (finds_known line free finds)
-
-  takes_known : (line : ScriptLine) → (MayDarken here line said → ⊥) → TakesOr told d line s fails said new → (note_at (new.world.nodes s)).dark ≡ false
-  takes_known (GroupImport site) free ends = back_or_known (GroupImport site) free ends
-  takes_known (Recover site) free ends = back_or_known (Recover site) free ends
-  takes_known other free ends = shows_known (is_inside (d.world.nodes s) other) other ends
 
   missed_known : (w : MissedNote) (line : ScriptLine) → (MayDarken here line said → ⊥) → GroupEnds told (missed_in w d s) line s fails said new ⊎ CutBelow (missed_in w d s) line s fails said new
       → (note_at (new.world.nodes s)).dark ≡ false
@@ -168,10 +153,8 @@ module _ (told : Type 0) (tells : told) (d : Doubted) (s : ℕ) (known : (note_a
           back_note s line cut.taken cut.next (missed_in w d s) _ new cut.left
           (cuts_known s (note_at ((missed_in w d s).world.nodes s)) line fails cut.next (missed_dark w d s known) (no_rise (note_at ((missed_in w d s).world.nodes s)) line said _ cut.says same_free) cut.cuts)
 
-  by_known : (below : Bool) (line : ScriptLine) → is_below (d.world.nodes s) line ≡ below → (MayDarken here line said → ⊥) → OverRvgBy below told d line s fails said new
-      → (note_at (new.world.nodes s)).dark ≡ false
-  by_known true line is free below = missed_known below.missed line free below.ends
-  by_known false line is free ends = takes_known line free ends
-
   pub over_known : (line : ScriptLine) → (MayDarken here line said → ⊥) → OverRvg told d line s fails said new → (note_at (new.world.nodes s)).dark ≡ false
-  over_known line free ends = by_known (is_below (d.world.nodes s) line) line refl free ends
+  over_known (GroupDeport site) free below = missed_known below.missed (GroupDeport site) free below.ends
+  over_known (GroupImport site) free ends = back_or_known (GroupImport site) free ends
+  over_known (Recover site) free ends = back_or_known (Recover site) free ends
+  over_known other free ends = line_known other ends

@@ -1,7 +1,6 @@
 -- Where no call of a line failed, and no fuse ran out in it, imports of a group of disks with a replicated volume group agree behind it as before.
-use Rattle.std.proofs.Common.{◌≡◌, ◌∙◌, ◌⊎◌, inl, inr, ℕ, Bool, true, false, List, Option, Some, ap, refl, subst, sym}
+use Rattle.std.proofs.Common.{◌≡◌, ◌∙◌, ◌⊎◌, inl, inr, ℕ, Bool, true, false, List, Option, Some, ap, subst, sym}
 use Rattle.std.specs.Prelude.{unwrap_or}
-use Rattle.vx_model.specs.Content.{Write as WriteBlocks}
 use Rattle.vx_model.specs.declared.no.Counted.TheVariants.{Number}
 use Rattle.vx_model.specs.declared.no.No.{No}
 use Rattle.vx_model.specs.declared.no.No.TheVariants.{Limit}
@@ -11,24 +10,22 @@ use Rattle.vx_history.specs.World.{Node, World}
 use Rattle.vx_history.specs.declared.event.Event.{Event}
 use Rattle.vx_config.specs.declared.config.Config.{Config}
 use Rattle.vx_script.specs.declared.line.ScriptLine.{ScriptLine}
-use Rattle.vx_script.specs.declared.line.ScriptLine.TheVariants.{Apply, GroupInit, GroupDeport, GroupImport, Volume, PlexDetach, PlexAttach, Disk, Crash, Fuse, Recover, Write, Put, Read, Show, Status}
-use Rattle.vx_events.proofs.KnownLaws.{left_note, never}
+use Rattle.vx_script.specs.declared.line.ScriptLine.TheVariants.{GroupDeport, GroupImport, Recover, Write, Put, Read, Show}
+use Rattle.vx_events.proofs.KnownLaws.{left_note}
 use Rattle.vx_events.proofs.RvgEnding.{never_found}
 use Rattle.vx_events.proofs.RvgMissed.{missed_agrees, missed_node}
-use Rattle.vx_events.proofs.RvgStays.{back_group, but_group, each_group, not_below}
-use Rattle.vx_events.specs.Doubts.{IsAs}
+use Rattle.vx_events.proofs.RvgStays.{back_group, but_group, each_group}
 use Rattle.vx_events.specs.Fails.{Fails}
-use Rattle.vx_events.specs.GroupEnds.{BringsUp, FindsGroup, FindsNoGroup, GroupCut, GroupDoes, GroupDone, GroupEnds, GroupFails, GroupLacks, GroupNotFound, ImportFails, InitFails, KeptUnread, NotFoundLeaves}
+use Rattle.vx_events.specs.GroupEnds.{FindsGroup, FindsNoGroup, GroupCut, GroupDoes, GroupDone, GroupEnds, GroupFails, GroupLacks, GroupNotFound, ImportFails, InitFails, KeptUnread, NotFoundLeaves}
 use Rattle.vx_events.specs.GroupMaps.{WithMaps}
-use Rattle.vx_events.specs.GroupNotes.{NotesBack, NotesRefused, NotesWrite, Reconfigures, no_note, note_at}
+use Rattle.vx_events.specs.GroupNotes.{NotesBack, NotesRefused, Reconfigures, no_note, note_at}
 use Rattle.vx_events.specs.RvgBack.{GetsRvg, GroupCutOff, GroupHeld, GroupUnfound, HadRvg, KeptLost, LogCut, LogFails, LogLacks, RestsWithRvg, RvgBack, RvgFinds, RvgUp}
 use Rattle.vx_events.specs.RvgLinks.{LinksOver, NotesThere, works_at}
-use Rattle.vx_events.specs.RvgOver.{CutBelow, EndsOrShows, NotesLine, OverRvg, OverRvgBy, SaysOver, ShowFails, ShowsAny, TakesOr, is_below, is_inside, missed_in}
+use Rattle.vx_events.specs.RvgOver.{BelowEnds, CutBelow, EndsOver, NotesLine, OverRvg, SaysOver, missed_in}
 use Rattle.vx_events.specs.RvgViews.{is_over_rvg}
 use Rattle.vx_events.specs.RvgWorks.{FuseRanOut, NoneFailed, NoteAgrees}
 use Rattle.vx_events.specs.declared.said.Said.{Said}
-use Rattle.vx_events.proofs.RvgKnown.{noted_over_here, worked_note}
-use Rattle.vx_history.specs.Steps.{worked_on}
+use Rattle.vx_events.proofs.RvgKnown.{noted_over_here}
 
 -- ---- notes
 
@@ -56,60 +53,36 @@ agrees_at : (m : Node) (next : GroupNode) → m.group ≡ Some next → NoteAgre
 agrees_at m next is a = subst (λ (g : GroupNode). NoteAgrees g) (sym (ap (λ (o : Option GroupNode). unwrap_or o no_note) is)) a
 
 module _ (told : Type 0) (s : ℕ) (n : Node) (note : GroupNode) (fails : Fails) (said : Said) (next : GroupNode) (a : NoteAgrees note) where
-  written : (x : WriteBlocks) → NotesWrite s fails x note next → NoteAgrees next
-  written x w =
-      agrees_same w.middle next (ap (λ (g : GroupNode). g.loose) w.is) (ap (λ (g : GroupNode). g.begun) w.is) (settled_maps note w.middle w.moves a)
-
-  does_agree : (m : Node) (line : ScriptLine) → is_below m line ≡ true → GroupDoes told s n note line fails said next → NoteAgrees next
-  does_agree m (GroupInit site) below does = absurd (never below)
-  does_agree m (GroupDeport site) below does = settled_maps note next does.0 a
-  does_agree m (GroupImport site) below does = absurd (never below)
-  does_agree m (Volume site volume blocks mirrors layout log map policy) below does =
-      let x = does.0 in
-      let rests = x.settles.tight a.loose a.begun in
-      agrees_same x.middle next (ap (λ (g : GroupNode). g.loose) x.zeros.same) (ap (λ (g : GroupNode). g.begun) x.zeros.same) (record { loose = rests.1; begun = rests.0 })
-  does_agree m (PlexDetach site volume plex) below does = settled_maps note next does.0 a
-  does_agree m (PlexAttach site volume plex) below does = settled_maps note next does.0 a
-  does_agree m (Write site volume start count fill) below does = written _ does.0
-  does_agree m (Put site volume start bytes) below does = written _ does.0
-  does_agree m (Read site volume start count) below does = agrees_note note next does.0 a
-  does_agree m (Show site volume start count) below does = agrees_note note next does.0 a
-  does_agree m (Recover site) below does = absurd (never below)
-  does_agree m (Disk site disk state) below does = agrees_note note next does.0 a
-  does_agree m (Crash site pick) below does = agrees_note note next does.0 a
-  does_agree m (Fuse site calls pick) below does = agrees_note note next does.0 a
-  does_agree m (Status site) below does = agrees_note note next does.0 a
-  does_agree m other below does = absurd does
+  deport_agrees : (site : List ℕ) → GroupDoes told s n note (GroupDeport site) fails said next → NoteAgrees next
+  deport_agrees site does = settled_maps note next does.0 a
 
 -- ---- a line at such a site
 
--- a line on the group alone, whose kind is known by any node
+-- a deport
 module _ (told : Type 0) (d : Doubted) (s : ℕ) (fails : Fails) (said : Said) (new : Doubted) (none : NoneFailed s fails) (dry : FuseRanOut (d.world.nodes s) said → ⊥)
-    (a : NoteAgrees (note_at (d.world.nodes s))) where
-  group_agrees : (m : Node) (line : ScriptLine) → is_below m line ≡ true → GroupEnds told d line s fails said new → NoteAgrees (note_at (new.world.nodes s))
-  group_agrees m line below (GroupDone next are does left) =
-      agrees_at (new.world.nodes s) next (left_note s line next _ new left) (does_agree told s (d.world.nodes s) (note_at (d.world.nodes s)) fails said next a m line below does)
-  group_agrees m line below (GroupLacks why wants without says left) = agrees_at (new.world.nodes s) (note_at (d.world.nodes s)) (left_note s line (note_at (d.world.nodes s)) d new left) a
-  group_agrees m line below (GroupFails disk next are has spoils says left) = absurd (none disk has)
-  group_agrees m line below (InitFails disk site is are has says left) = absurd (none disk has)
-  group_agrees m line below (ImportFails why next site is are refuses begun says left) = absurd (not_below m line (subst BringsUp (sym is) tt) below)
-  group_agrees m line below (KeptUnread disk next site is are has back says left) = absurd (none disk has)
-  group_agrees m line below (GroupCut next are fused cuts says left) = absurd (dry (fused, says))
-  group_agrees m line below (GroupNotFound why next are brings not leaves says left) = absurd (not_below m line brings below)
-  group_agrees m line below (FindsGroup next are brings unknown dark says left) = absurd (not_below m line brings below)
-  group_agrees m line below (FindsNoGroup next why are brings unknown device refused says left) = absurd (not_below m line brings below)
+    (a : NoteAgrees (note_at (d.world.nodes s))) (site : List ℕ) where
+  group_agrees : GroupEnds told d (GroupDeport site) s fails said new → NoteAgrees (note_at (new.world.nodes s))
+  group_agrees (GroupDone next are does left) =
+      agrees_at (new.world.nodes s) next (left_note s (GroupDeport site) next _ new left) (deport_agrees told s (d.world.nodes s) (note_at (d.world.nodes s)) fails said next a site does)
+  group_agrees (GroupLacks why wants without says left) =
+      agrees_at (new.world.nodes s) (note_at (d.world.nodes s)) (left_note s (GroupDeport site) (note_at (d.world.nodes s)) d new left) a
+  group_agrees (GroupFails disk next are has spoils says left) = absurd (none disk has)
+  group_agrees (InitFails disk at is are has says left) = absurd (none disk has)
+  group_agrees (ImportFails why next at is are refuses begun says left) = absurd (cc)
+  group_agrees (KeptUnread disk next at is are has back says left) = absurd (none disk has)
+  group_agrees (GroupCut next are fused cuts says left) = absurd (dry (fused, says))
+  group_agrees (GroupNotFound why next are brings not leaves says left) = absurd brings
+  group_agrees (FindsGroup next are brings unknown dark says left) = absurd brings
+  group_agrees (FindsNoGroup next why are brings unknown device refused says left) = absurd brings
 
-  place_agrees : (m : Node) (line : ScriptLine) → is_below m line ≡ true → GroupEnds told d line s fails said new ⊎ CutBelow d line s fails said new → NoteAgrees (note_at (new.world.nodes s))
-  place_agrees m line is (inl ends) = group_agrees m line is ends
-  place_agrees m line is (inr cut) = absurd (dry (cut.fused, cut.says))
+  place_agrees : GroupEnds told d (GroupDeport site) s fails said new ⊎ CutBelow d (GroupDeport site) s fails said new → NoteAgrees (note_at (new.world.nodes s))
+  place_agrees (inl ends) = group_agrees ends
+  place_agrees (inr cut) = absurd (dry (cut.fused, cut.says))
 
 module _ (told : Type 0) (tells : told) (d : Doubted) (s : ℕ) (fails : Fails) (said : Said) (new : Doubted) (none : NoneFailed s fails)
     (dry : FuseRanOut (d.world.nodes s) said → ⊥) (bright : (note_at (d.world.nodes s)).dark ≡ false) (a : NoteAgrees (note_at (d.world.nodes s))) where
   abbrev here : GroupNode
   here = note_at (d.world.nodes s)
-
-  worked : IsAs d (worked_on d.world s) new → NoteAgrees (note_at (new.world.nodes s))
-  worked left = subst (λ (w : World). NoteAgrees (note_at (w.nodes s))) (sym left.world) (subst (λ (k : GroupNode). NoteAgrees k) (sym (worked_note d.world s)) a)
 
   -- a group that came up
   came_agrees : (line : ScriptLine) (kept : ℕ) (middle found : GroupNode) (from : Doubted) (rest : List Event) → NotesBack told s (d.world.nodes s) fails here middle
@@ -141,13 +114,10 @@ module _ (told : Type 0) (tells : told) (d : Doubted) (s : ℕ) (fails : Fails) 
   line_agrees Off runs (Put site volume start bytes) next x = x.keeps.quiet none runs a
   line_agrees Off runs (Read site volume start count) next x = x.keeps.quiet none runs a
   line_agrees Off runs (Show site volume start count) next x = x.keeps.quiet none runs a
-  line_agrees Off runs (Apply site to) next x = x.keeps.quiet none runs a
   line_agrees Off runs other next same = agrees_note here next same a
 
-  shows_agree : (inside : Bool) (line : ScriptLine) → EndsOrShows inside told d line s fails said new → NoteAgrees (note_at (new.world.nodes s))
-  shows_agree true line (ShowsAny site volume start count bytes is are got size left) = worked left
-  shows_agree true line (ShowFails disk are has says left) = worked left
-  shows_agree false line h =
+  line_ends : (line : ScriptLine) → EndsOver told d line s fails said new → NoteAgrees (note_at (new.world.nodes s))
+  line_ends line h =
       let runs : FuseRanOut (d.world.nodes s) h.inner → ⊥ = λ off. dry (off.0, subst (λ (r : Said). SaysOver (d.world.nodes s) h.next r said) off.1 h.says) in
       agrees_at (new.world.nodes s) h.next (ap (λ (w : World). (w.nodes s).group) h.left.world ∙ noted_over_here line d.world h.middle.world s h.next)
       (line_agrees (FuseRanOut (d.world.nodes s) h.inner) runs line h.next h.notes)
@@ -156,19 +126,16 @@ module _ (told : Type 0) (tells : told) (d : Doubted) (s : ℕ) (fails : Fails) 
   back_or line (inl back) = back_agrees line back
   back_or line (inr finds) = absurd (never_found told tells d s bright fails said new line a.loose finds)
 
-  takes_agree : (line : ScriptLine) → TakesOr told d line s fails said new → NoteAgrees (note_at (new.world.nodes s))
-  takes_agree (GroupImport site) ends = back_or (GroupImport site) ends
-  takes_agree (Recover site) ends = back_or (Recover site) ends
-  takes_agree other ends = shows_agree (is_inside (d.world.nodes s) other) other ends
-
-  by_place : (below : Bool) (line : ScriptLine) → is_below (d.world.nodes s) line ≡ below → OverRvgBy below told d line s fails said new → NoteAgrees (note_at (new.world.nodes s))
-  by_place true line is below =
+  below_agrees : (site : List ℕ) → BelowEnds told d (GroupDeport site) s fails said new → NoteAgrees (note_at (new.world.nodes s))
+  below_agrees site below =
       let w : MissedNote = below.missed in
-      place_agrees told (missed_in w d s) s fails said new none (λ off. dry (subst (λ (n : Node). FuseRanOut n said) (missed_node w d s) off)) (missed_agrees w d s a) (d.world.nodes s) line is below.ends
-  by_place false line is ends = takes_agree line ends
+      place_agrees told (missed_in w d s) s fails said new none (λ off. dry (subst (λ (n : Node). FuseRanOut n said) (missed_node w d s) off)) (missed_agrees w d s a) site below.ends
 
   pub over_agrees : (line : ScriptLine) → OverRvg told d line s fails said new → NoteAgrees (note_at (new.world.nodes s))
-  over_agrees line ends = by_place (is_below (d.world.nodes s) line) line refl ends
+  over_agrees (GroupDeport site) below = below_agrees site below
+  over_agrees (GroupImport site) ends = back_or (GroupImport site) ends
+  over_agrees (Recover site) ends = back_or (Recover site) ends
+  over_agrees other ends = line_ends other ends
 
 -- ---- lines of links
 

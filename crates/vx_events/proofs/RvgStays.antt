@@ -1,42 +1,38 @@
 -- A line at a site over a group of disks with a replicated volume group leaves it noted with the one that it had, on the same volumes.
 use Rattle.std.proofs.Common.{◌≡◌, ◌∙◌, ◌⊎◌, inl, inr, ℕ, Bool, true, false, List, Option, Some, ap, refl, sym, subst}
 use Rattle.std.specs.Prelude.{if◌then◌else◌, slice_get, unwrap_or}
-use Rattle.vx_model.specs.Content.{Write as WriteBlocks}
 use Rattle.vx_model.specs.declared.no.Counted.TheVariants.{Number}
 use Rattle.vx_model.specs.declared.no.No.{No}
 use Rattle.vx_model.specs.declared.no.No.TheVariants.{Limit}
-use Rattle.vx_model.specs.declared.site.PlexState.TheVariants.{Active, Stale}
 use Rattle.vx_history.specs.Doubts.{Doubted}
 use Rattle.vx_history.specs.Groups.{GroupNode, MissedNote}
 use Rattle.vx_history.specs.Stops.{IsFused}
 use Rattle.vx_history.specs.World.{Node, World}
 use Rattle.vx_history.specs.declared.event.Event.{Event}
 use Rattle.vx_config.specs.declared.config.Config.{Config}
-use Rattle.vx_layout.specs.declared.shape.Shape.{Shape}
 use Rattle.vx_script.specs.declared.line.ScriptLine.{ScriptLine}
-use Rattle.vx_script.specs.declared.line.ScriptLine.TheVariants.{Apply, GroupInit, GroupDeport, GroupImport, Volume, PlexDetach, PlexAttach, Disk, Crash, Fuse, Recover, Write, Put, Read, Show, Status}
+use Rattle.vx_script.specs.declared.line.ScriptLine.TheVariants.{GroupDeport, GroupImport, Recover, Write, Put, Read, Show}
 use Rattle.vx_events.proofs.KnownLaws.{group_stays, left_note, never}
 use Rattle.vx_events.proofs.Places.{some_same}
-use Rattle.vx_events.proofs.RvgConfigs.{adds_keeps, again_keeps, closed_keeps, keeps_self, keeps_then, loses_keeps, puts_or, stayed}
+use Rattle.vx_events.proofs.RvgConfigs.{again_keeps, closed_keeps, keeps_self, keeps_then, loses_keeps, stayed}
 use Rattle.vx_events.proofs.RvgEvents.{rvg_apart}
 use Rattle.vx_events.proofs.RvgMissed.{missed_keeps}
-use Rattle.vx_events.proofs.RvgKnown.{back_dark, lost_group, noted_here, noted_over_here, worked_note}
+use Rattle.vx_events.proofs.RvgKnown.{back_dark, lost_group, noted_here, noted_over_here}
 use Rattle.vx_events.specs.Doubts.{IsAs, with_disks}
 use Rattle.vx_events.specs.Fails.{Fails}
-use Rattle.vx_events.specs.GroupConfigs.{ConfigLoses, lies_on_disk, opened_again}
-use Rattle.vx_events.specs.GroupEnds.{BringsUp, FindsGroup, FindsNoGroup, GroupCut, GroupCuts, GroupDoes, GroupDone, GroupEnds, GroupFails, GroupLacks, GroupNotFound, GroupSpoils, ImportFails, InitFails, KeptUnread, NotFoundLeaves}
-use Rattle.vx_events.specs.GroupLines.{group_noted, noting, plain_number}
+use Rattle.vx_events.specs.GroupConfigs.{ConfigLoses, opened_again}
+use Rattle.vx_events.specs.GroupEnds.{FindsGroup, FindsNoGroup, GroupCut, GroupDoes, GroupDone, GroupEnds, GroupFails, GroupLacks, GroupNotFound, ImportFails, InitFails, KeptUnread, NotFoundLeaves}
+use Rattle.vx_events.specs.GroupLines.{group_noted, noting}
 use Rattle.vx_events.specs.GroupMaps.{WithMaps}
-use Rattle.vx_events.specs.GroupNotes.{IsKnown, NotesBack, NotesCut, NotesDoubt, NotesRefused, NotesVolume, NotesWrite, Reconfigures, no_note, note_at}
+use Rattle.vx_events.specs.GroupNotes.{IsKnown, NotesBack, NotesRefused, Reconfigures, no_note, note_at}
 use Rattle.vx_events.specs.GroupViews.{config_of}
 use Rattle.vx_events.specs.RvgBack.{FindsNoRvg, FindsPlain, FindsRvg, GetsRvg, GroupCutOff, GroupHeld, GroupUnfound, HadRvg, IsLeftBack, IsLeftBut, KeptLost, LogCut, LogFails, LogLacks, RestsWithRvg, RvgBack, RvgFinds, RvgUp}
 use Rattle.vx_events.specs.RvgFits.{KeepsRvg, KeptConfig, NoteKeepsRvg, config_rvg, rvg_noted}
 use Rattle.vx_events.specs.RvgLinks.{LinksOver, NotesThere, noting_each, works_at, noted_there}
-use Rattle.vx_events.specs.RvgOver.{CutBelow, EndsOrShows, NotesLine, OverRvg, OverRvgBy, ShowFails, ShowsAny, TakesOr, is_below, is_inside, missed_in}
+use Rattle.vx_events.specs.RvgOver.{CutBelow, NotesLine, OverRvg, missed_in, EndsOver}
 use Rattle.vx_events.specs.RvgViews.{is_over_rvg}
 use Rattle.vx_events.specs.RvgWorks.{NotesWork, FuseRanOut, WorksCut}
 use Rattle.vx_events.specs.declared.said.Said.{Said}
-use Rattle.vx_history.specs.Steps.{worked_on}
 
 -- ---- notes
 
@@ -80,23 +76,6 @@ mapped_by : {C : Config → Config → Type 0} {K : GroupNode → GroupNode → 
     → ((c d : Config) → C c d → KeepsRvg c d) → WithMaps (Reconfigures C K) Maps note next → NoteKeepsRvg note next
 mapped_by note next keeps x = mapped note next (λ m moves. reconfigured note m keeps moves) x
 
-with_volume_more : (s : ℕ) (fails : Fails) (name : List ℕ) (want : Shape) (note next : GroupNode) → NotesVolume s fails name want note next → NoteKeepsRvg note next
-with_volume_more s fails name want note next x c at = record {
-  now = x.now;
-  is = x.is;
-  keeps = subst (λ (k : Config). KeepsRvg k x.now) (some_same (sym x.was ∙ at))
-      (keeps_then x.old x.made x.now (adds_keeps name want x.old x.made x.adds) (loses_keeps (λ _. false) s fails x.made x.now x.loses));
-}
-
-written : (s : ℕ) (fails : Fails) (w : WriteBlocks) (note next : GroupNode) → NotesWrite s fails w note next → NoteKeepsRvg note next
-written s fails w note next x = then_same note x.middle next (loses_mapped s fails note x.middle x.moves) (ap (λ (g : GroupNode). g.config) x.is)
-
-doubtful : (s : ℕ) (fails : Fails) (w : WriteBlocks) (note next : GroupNode) → NotesDoubt s fails w note next → NoteKeepsRvg note next
-doubtful s fails w note next x = then_same note x.middle next (loses_mapped s fails note x.middle x.moves) (ap (λ (g : GroupNode). g.config) x.is)
-
-cut_off : (s : ℕ) (fails : Fails) (w : WriteBlocks) (note next : GroupNode) → NotesCut s fails w note next → NoteKeepsRvg note next
-cut_off s fails w note next x = then_same note x.middle next (loses_mapped s fails note x.middle x.moves) (ap (λ (g : GroupNode). g.config) x.is)
-
 pub refused_config : (note next : GroupNode) → NotesRefused note next → next.config ≡ note.config
 refused_config note next (inl same) = ap (λ (g : GroupNode). g.config) same
 refused_config note next (inr dark) = ap (λ (g : GroupNode). g.config) dark
@@ -109,101 +88,52 @@ unfound_config other note next leaves = ap (λ (g : GroupNode). g.config) leaves
 pub by_note : (m : Node) (note next : GroupNode) → m.group ≡ Some next → NoteKeepsRvg note next → NoteKeepsRvg note (note_at m)
 by_note m note next is keeps = subst (λ (g : GroupNode). NoteKeepsRvg note g) (sym (ap (λ (o : Option GroupNode). unwrap_or o no_note) is)) keeps
 
--- ---- lines on the group alone
+-- ---- a deport
 
--- none of them brings the group up
-pub not_below : (n : Node) (line : ScriptLine) → BringsUp line → is_below n line ≡ true → ⊥
-not_below n (GroupImport site) brings below = never below
-not_below n (Recover site) brings below = never below
-not_below n other brings below = absurd brings
+-- the note that it leaves
+pub back_group : (s : ℕ) (line : ScriptLine) (taken : Bool) (next : GroupNode) (before last new : Doubted) → IsLeftBack s line taken next before last new
+    → (new.world.nodes s).group ≡ Some next
+back_group s line taken next before last new left =
+    let u : World = with_disks taken s before.world last.world in
+    ap (λ (w : World). (w.nodes s).group) left.world ∙ group_stays s line (noting u s next) ∙ noted_here u s next
 
-does_keeps : (told : Type 0) (s : ℕ) (m n : Node) (note : GroupNode) (line : ScriptLine) (fails : Fails) (said : Said) (next : GroupNode) → is_below m line ≡ true
-    → GroupDoes told s n note line fails said next → NoteKeepsRvg note next
-does_keeps told s m n note (GroupInit site) fails said next below does = absurd (never below)
-does_keeps told s m n note (GroupDeport site) fails said next below does =
+deport_keeps : (told : Type 0) (s : ℕ) (n : Node) (note : GroupNode) (site : List ℕ) (fails : Fails) (said : Said) (next : GroupNode)
+    → GroupDoes told s n note (GroupDeport site) fails said next → NoteKeepsRvg note next
+deport_keeps told s n note site fails said next does =
     mapped_by note next
     (λ c d x.
     keeps_then c (opened_again c) d (again_keeps c)
     (keeps_then (opened_again c) (opened_again d) d (loses_keeps (λ _. false) s fails (opened_again c) (opened_again d) x) (closed_keeps d))) does.0
-does_keeps told s m n note (GroupImport site) fails said next below does = absurd (never below)
-does_keeps told s m n note (Volume site volume blocks mirrors layout log map policy) fails said next below does = with_volume_more s fails volume _ note next does.0
-does_keeps told s m n note (PlexDetach site volume plex) fails said next below does =
-    mapped_by note next (λ c d x. puts_or (λ _. false) s fails (plain_number note volume) plex Stale c d (inr x)) does.0
-does_keeps told s m n note (PlexAttach site volume plex) fails said next below does =
-    mapped_by note next
-    (λ c d x. puts_or (lies_on_disk c (plain_number note volume) plex) s fails (plain_number note volume) plex Active c d (inr x)) does.0
-does_keeps told s m n note (Write site volume start count fill) fails said next below does = written s fails _ note next does.0
-does_keeps told s m n note (Put site volume start bytes) fails said next below does = written s fails _ note next does.0
-does_keeps told s m n note (Read site volume start count) fails said next below does = same_note note next does.0
-does_keeps told s m n note (Show site volume start count) fails said next below does = same_note note next does.0
-does_keeps told s m n note (Recover site) fails said next below does = absurd (never below)
-does_keeps told s m n note (Disk site disk state) fails said next below does = same_note note next does.0
-does_keeps told s m n note (Crash site pick) fails said next below does = same_note note next does.0
-does_keeps told s m n note (Fuse site calls pick) fails said next below does = same_note note next does.0
-does_keeps told s m n note (Status site) fails said next below does = same_note note next does.0
-does_keeps told s m n note other fails said next below does = absurd does
 
-spoils_keeps : (s : ℕ) (note : GroupNode) (line : ScriptLine) (fails : Fails) (next : GroupNode) → GroupSpoils s note line fails next → NoteKeepsRvg note next
-spoils_keeps s note (GroupDeport site) fails next spoils = loses_mapped s fails note next spoils
-spoils_keeps s note (GroupImport site) fails next spoils = same_config note next (refused_config note next spoils)
-spoils_keeps s note (Volume site volume blocks mirrors layout log map policy) fails next spoils = loses_mapped s fails note next spoils
-spoils_keeps s note (PlexDetach site volume plex) fails next spoils = mapped_by note next (λ c d x. loses_keeps (λ _. false) s fails c d x) spoils
-spoils_keeps s note (PlexAttach site volume plex) fails next spoils = mapped_by note next (λ c d x. loses_keeps (lies_on_disk c (plain_number note volume) plex) s fails c d x) spoils
-spoils_keeps s note (Write site volume start count fill) fails next spoils = doubtful s fails _ note next spoils
-spoils_keeps s note (Put site volume start bytes) fails next spoils = doubtful s fails _ note next spoils
-spoils_keeps s note (Read site volume start count) fails next spoils = same_note note next spoils.0
-spoils_keeps s note (Show site volume start count) fails next spoils = same_note note next spoils.0
-spoils_keeps s note (Recover site) fails next spoils = same_config note next (refused_config note next spoils)
-spoils_keeps s note other fails next spoils = absurd spoils
-
-cuts_keeps : (s : ℕ) (note : GroupNode) (line : ScriptLine) (fails : Fails) (next : GroupNode) → GroupCuts s note line fails next → NoteKeepsRvg note next
-cuts_keeps s note (GroupDeport site) fails next cuts = loses_mapped s fails note next cuts
-cuts_keeps s note (GroupImport site) fails next cuts = same_config note next (refused_config note next cuts)
-cuts_keeps s note (Volume site volume blocks mirrors layout log map policy) fails next cuts = loses_mapped s fails note next cuts
-cuts_keeps s note (PlexDetach site volume plex) fails next cuts =
-    mapped_by note next (λ c d x. puts_or (λ _. false) s fails (plain_number note volume) plex Stale c d x) cuts
-cuts_keeps s note (PlexAttach site volume plex) fails next cuts =
-    mapped_by note next (λ c d x. puts_or (lies_on_disk c (plain_number note volume) plex) s fails (plain_number note volume) plex Active c d x) cuts
-cuts_keeps s note (Write site volume start count fill) fails next cuts = cut_off s fails _ note next cuts
-cuts_keeps s note (Put site volume start bytes) fails next cuts = cut_off s fails _ note next cuts
-cuts_keeps s note other fails next cuts = absurd cuts
-
-module _ (told : Type 0) (d : Doubted) (line : ScriptLine) (s : ℕ) (fails : Fails) (said : Said) (new : Doubted) where
+module _ (told : Type 0) (d : Doubted) (site : List ℕ) (s : ℕ) (fails : Fails) (said : Said) (new : Doubted) where
   abbrev noted : GroupNode
   noted = note_at (d.world.nodes s)
 
   unchanged : IsAs d d.world new → NoteKeepsRvg (note_at (d.world.nodes s)) (note_at (new.world.nodes s))
   unchanged left = subst (λ (w : World). NoteKeepsRvg (note_at (d.world.nodes s)) (note_at (w.nodes s))) (sym left.world) (same_config noted noted refl)
 
-  worked_keeps : IsAs d (worked_on d.world s) new → NoteKeepsRvg (note_at (d.world.nodes s)) (note_at (new.world.nodes s))
-  worked_keeps left =
-      subst (λ (w : World). NoteKeepsRvg (note_at (d.world.nodes s)) (note_at (w.nodes s))) (sym left.world)
-      (subst (λ (k : GroupNode). NoteKeepsRvg (note_at (d.world.nodes s)) k) (sym (worked_note d.world s)) (same_config noted noted refl))
+  group_keeps : GroupEnds told d (GroupDeport site) s fails said new → NoteKeepsRvg (note_at (d.world.nodes s)) (note_at (new.world.nodes s))
+  group_keeps (GroupDone next are does left) =
+      by_note (new.world.nodes s) noted next (left_note s (GroupDeport site) next _ new left) (deport_keeps told s (d.world.nodes s) noted site fails said next does)
+  group_keeps (GroupLacks why wants none says left) = by_note (new.world.nodes s) noted noted (left_note s (GroupDeport site) noted d new left) (same_config noted noted refl)
+  group_keeps (GroupFails disk next are has spoils says left) =
+      by_note (new.world.nodes s) noted next (left_note s (GroupDeport site) next _ new left) (loses_mapped s fails noted next spoils)
+  group_keeps (InitFails disk at is are has says left) = unchanged left
+  group_keeps (ImportFails why next at is are refuses begun says left) = absurd (cc)
+  group_keeps (KeptUnread disk next at is are has back says left) = absurd (cc)
+  group_keeps (GroupCut next are fused cuts says left) =
+      by_note (new.world.nodes s) noted next (left_note s (GroupDeport site) next _ new left) (loses_mapped s fails noted next cuts)
+  group_keeps (GroupNotFound why next are brings not leaves says left) = absurd brings
+  group_keeps (FindsGroup next are brings unknown dark says left) = absurd brings
+  group_keeps (FindsNoGroup next why are brings unknown device refused says left) = absurd brings
 
-  group_keeps : (m : Node) → is_below m line ≡ true → GroupEnds told d line s fails said new
+  place_keeps : GroupEnds told d (GroupDeport site) s fails said new ⊎ CutBelow d (GroupDeport site) s fails said new
       → NoteKeepsRvg (note_at (d.world.nodes s)) (note_at (new.world.nodes s))
-  group_keeps m below (GroupDone next are does left) =
-      by_note (new.world.nodes s) noted next (left_note s line next _ new left) (does_keeps told s m (d.world.nodes s) noted line fails said next below does)
-  group_keeps m below (GroupLacks why wants none says left) = by_note (new.world.nodes s) noted noted (left_note s line noted d new left) (same_config noted noted refl)
-  group_keeps m below (GroupFails disk next are has spoils says left) =
-      by_note (new.world.nodes s) noted next (left_note s line next _ new left) (spoils_keeps s noted line fails next spoils)
-  group_keeps m below (InitFails disk site is are has says left) = unchanged left
-  group_keeps m below (ImportFails why next site is are refuses begun says left) = absurd (not_below m line (subst BringsUp (sym is) tt) below)
-  group_keeps m below (KeptUnread disk next site is are has back says left) = absurd (not_below m line (subst BringsUp (sym is) tt) below)
-  group_keeps m below (GroupCut next are fused cuts says left) =
-      by_note (new.world.nodes s) noted next (left_note s line next _ new left) (cuts_keeps s noted line fails next cuts)
-  group_keeps m below (GroupNotFound why next are brings not leaves says left) = absurd (not_below m line brings below)
-  group_keeps m below (FindsGroup next are brings unknown dark says left) = absurd (not_below m line brings below)
-  group_keeps m below (FindsNoGroup next why are brings unknown device refused says left) = absurd (not_below m line brings below)
+  place_keeps (inl ends) = group_keeps ends
+  place_keeps (inr cut) =
+      by_note (new.world.nodes s) noted cut.next (back_group s (GroupDeport site) cut.taken cut.next d _ new cut.left) (loses_mapped s fails noted cut.next cut.cuts)
 
 -- ---- recoveries and imports
-
--- the note that such a line leaves
-pub back_group : (s : ℕ) (line : ScriptLine) (taken : Bool) (next : GroupNode) (before last new : Doubted) → IsLeftBack s line taken next before last new
-    → (new.world.nodes s).group ≡ Some next
-back_group s line taken next before last new left =
-    let u : World = with_disks taken s before.world last.world in
-    ap (λ (w : World). (w.nodes s).group) left.world ∙ group_stays s line (noting u s next) ∙ noted_here u s next
 
 pub but_group : (lost : Bool) (s : ℕ) (line : ScriptLine) (taken : Bool) (next : GroupNode) (before last new : Doubted) → IsLeftBut lost s line taken next before last new
     → (new.world.nodes s).group ≡ Some next
@@ -295,22 +225,11 @@ module _ (told : Type 0) (d : Doubted) (line : ScriptLine) (s : ℕ) (fails : Fa
   line_keeps Off (Put site volume start bytes) next x = loses s fails here next x
   line_keeps Off (Read site volume start count) next x = loses s fails here next x
   line_keeps Off (Show site volume start count) next x = loses s fails here next x
-  line_keeps Off (Apply site to) next x = loses s fails here next x
   line_keeps Off other next same = same_note here next same
 
-  shows_keeps : (inside : Bool) → EndsOrShows inside told d line s fails said new → NoteKeepsRvg here (note_at (new.world.nodes s))
-  shows_keeps true (ShowsAny site volume start count bytes is are got size left) = worked_keeps told d line s fails said new left
-  shows_keeps true (ShowFails disk are has says left) = worked_keeps told d line s fails said new left
-  shows_keeps false h =
+  line_stays : EndsOver told d line s fails said new → NoteKeepsRvg here (note_at (new.world.nodes s))
+  line_stays h =
       by_note (new.world.nodes s) here h.next (ap (λ (w : World). (w.nodes s).group) h.left.world ∙ noted_over_here line d.world h.middle.world s h.next) (line_keeps (FuseRanOut (d.world.nodes s) h.inner) line h.next h.notes)
-
--- a line on the group alone, whose kind is known by any node
-place_keeps : (told : Type 0) (d : Doubted) (line : ScriptLine) (s : ℕ) (fails : Fails) (said : Said) (new : Doubted) (m : Node) → is_below m line ≡ true
-    → GroupEnds told d line s fails said new ⊎ CutBelow d line s fails said new → NoteKeepsRvg (note_at (d.world.nodes s)) (note_at (new.world.nodes s))
-place_keeps told d line s fails said new m is (inl ends) = group_keeps told d line s fails said new m is ends
-place_keeps told d line s fails said new m is (inr cut) =
-    by_note (new.world.nodes s) (note_at (d.world.nodes s)) cut.next (back_group s line cut.taken cut.next d _ new cut.left)
-    (cuts_keeps s (note_at (d.world.nodes s)) line fails cut.next cut.cuts)
 
 module _ (told : Type 0) (d : Doubted) (s : ℕ) (fails : Fails) (said : Said) (new : Doubted) (over : is_over_rvg (d.world.nodes s) ≡ true) where
   abbrev Stays : Type 0
@@ -320,19 +239,13 @@ module _ (told : Type 0) (d : Doubted) (s : ℕ) (fails : Fails) (said : Said) (
   back_or line (inl back) = inl (back_stays told d line s fails said new over back)
   back_or line (inr finds) = inr finds
 
-  takes_stays : (line : ScriptLine) → TakesOr told d line s fails said new → Stays ⊎ RvgFinds told d line s fails said new
-  takes_stays (GroupImport site) ends = back_or (GroupImport site) ends
-  takes_stays (Recover site) ends = back_or (Recover site) ends
-  takes_stays other ends = inl (shows_keeps told d other s fails said new over (is_inside (d.world.nodes s) other) ends)
-
-  by_place : (below : Bool) (line : ScriptLine) → is_below (d.world.nodes s) line ≡ below → OverRvgBy below told d line s fails said new
-      → Stays ⊎ RvgFinds told d line s fails said new
-  by_place true line is below = inl (missed_keeps below.missed d s (note_at (new.world.nodes s)) (place_keeps told (missed_in below.missed d s) line s fails said new (d.world.nodes s) is below.ends))
-  by_place false line is ends = takes_stays line ends
-
   -- the line left it noted so, or found something on disks of which nothing is known
   pub stays_or_finds : (line : ScriptLine) → OverRvg told d line s fails said new → Stays ⊎ RvgFinds told d line s fails said new
-  stays_or_finds line ends = by_place (is_below (d.world.nodes s) line) line refl ends
+  stays_or_finds (GroupDeport site) below =
+      inl (missed_keeps below.missed d s (note_at (new.world.nodes s)) (place_keeps told (missed_in below.missed d s) site s fails said new below.ends))
+  stays_or_finds (GroupImport site) ends = back_or (GroupImport site) ends
+  stays_or_finds (Recover site) ends = back_or (Recover site) ends
+  stays_or_finds other ends = inl (line_stays told d other s fails said new over ends)
 
   pub over_stays : told → (line : ScriptLine) → OverRvg told d line s fails said new → (note_at (new.world.nodes s)).dark ≡ false → Stays
   over_stays tells line ends known = by (stays_or_finds line ends)

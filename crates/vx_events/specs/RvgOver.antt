@@ -1,19 +1,19 @@
--- How a line ends at a site over a group of disks with a replicated volume group: as at a raw set, but that disks may fail which a mirror bears, and
--- that the site notes what the line made of its group.
-use Rattle.std.specs.Prelude.{◌≡◌, ◌⊎◌, ℕ, ◌*◌, ◌<◌, Bool, true, false, List, [], ◌∷◌, ◌++◌, Option, Some, None, length, slice_get, unwrap_or, Contains}
-use Rattle.vx_model.specs.declared.no.No.TheVariants.{Device, Down as IsOff}
+-- How a line that is not open ends at a site over a group of disks with a replicated volume group: as at a raw set, but that disks may fail which a mirror
+-- bears, and that the site notes what the line made of its group.
+use Rattle.std.specs.Prelude.{◌≡◌, ◌⊎◌, ℕ, ◌<◌, Bool, true, false, List, [], ◌∷◌, ◌++◌, Option, Some, None, slice_get, unwrap_or}
+use Rattle.vx_model.specs.declared.no.No.TheVariants.{Down as IsOff}
 use Rattle.vx_history.specs.Doubts.{Doubted}
 use Rattle.vx_history.specs.Groups.{GroupNode, MissedNote}
 use Rattle.vx_history.specs.Missing.{with_maps}
 use Rattle.vx_history.specs.Stops.{IsFused, IsOpen}
-use Rattle.vx_history.specs.Steps.{burned, worked_on}
+use Rattle.vx_history.specs.Steps.{burned}
 use Rattle.vx_history.specs.World.{Fuse, FuseLit, FuseSet, NoFuse, Node, World, with_node}
 use Rattle.vx_history.specs.declared.event.Event.TheVariants.{Crash as CrashAt}
 use Rattle.vx_order.specs.declared.facts.VolumeFacts.{VolumeFacts}
 use Rattle.vx_order.specs.declared.facts.VolumeKind.{VolumeKind}
 use Rattle.vx_order.specs.declared.facts.VolumeKind.TheVariants.{Data, Srl, Map, Plain}
 use Rattle.vx_script.specs.declared.line.ScriptLine.{ScriptLine}
-use Rattle.vx_script.specs.declared.line.ScriptLine.TheVariants.{Apply, Disk, Fuse as FuseLine, GroupDeport, GroupImport, PlexAttach, PlexDetach, Put, Read, Recover, Show, Status, Volume, Write}
+use Rattle.vx_script.specs.declared.line.ScriptLine.TheVariants.{Disk, Fuse as FuseLine, GroupDeport, GroupImport, Put, Read, Recover, Show, Status, Write}
 use Rattle.vx_events.specs.Doubts.{IsAs, run_as, with_disks}
 use Rattle.vx_events.specs.Ends.{Ends, place_of as site_of}
 use Rattle.vx_events.specs.Facts.{place_of, site_number}
@@ -26,7 +26,7 @@ use Rattle.vx_events.specs.RvgMakes.{noting_in}
 use Rattle.vx_events.specs.RvgViews.{over_disks, table_at}
 use Rattle.vx_events.specs.RvgWorks.{NotesWork, FuseRanOut}
 use Rattle.vx_events.specs.declared.said.Said.{Said}
-use Rattle.vx_events.specs.declared.said.Said.TheVariants.{Got, Refused, Shown}
+use Rattle.vx_events.specs.declared.said.Said.TheVariants.{Refused, Shown}
 
 -- ---- kinds of lines
 
@@ -44,31 +44,6 @@ is_plain_kind Srl = false
 is_plain_kind Map = false
 is_plain_kind Plain = true
 
--- of the log or of the maps
-abbrev pub is_inner_kind : VolumeKind → Bool
-is_inner_kind Data = false
-is_inner_kind Srl = true
-is_inner_kind Map = true
-is_inner_kind Plain = false
-
--- Whether the line works on the group alone: on its volumes and plexes, or on the blocks of a volume outside the replicated volume group. To the replicated
--- volume group a deport is a crash that keeps what is safe.
-abbrev pub is_below : Node → ScriptLine → Bool
-is_below n (GroupDeport site) = true
-is_below n (Volume site volume blocks mirrors layout log map policy) = true
-is_below n (PlexDetach site volume plex) = true
-is_below n (PlexAttach site volume plex) = true
-is_below n (Write site volume start count fill) = is_plain_kind (kind_named n volume)
-is_below n (Put site volume start bytes) = is_plain_kind (kind_named n volume)
-is_below n (Read site volume start count) = is_plain_kind (kind_named n volume)
-is_below n (Show site volume start count) = is_plain_kind (kind_named n volume)
-is_below n other = false
-
--- whether the line shows blocks of the log or of the maps
-abbrev pub is_inside : Node → ScriptLine → Bool
-is_inside n (Show site volume start count) = is_inner_kind (kind_named n volume)
-is_inside n other = false
-
 -- ---- notes
 
 -- what calls of a line leave of the note of a group
@@ -77,7 +52,6 @@ NotesLine Off s fails (Write site volume start count fill) note next = NotesWork
 NotesLine Off s fails (Put site volume start bytes) note next = NotesWork Off s fails note next
 NotesLine Off s fails (Read site volume start count) note next = NotesWork Off s fails note next
 NotesLine Off s fails (Show site volume start count) note next = NotesWork Off s fails note next
-NotesLine Off s fails (Apply site to) note next = NotesWork Off s fails note next
 NotesLine Off s fails other note next = next ≡ note
 
 -- ---- replies
@@ -122,7 +96,7 @@ pub record EndsOver (told : Type 0) (d : Doubted) (line : ScriptLine) (s : ℕ) 
   pub says : SaysOver (d.world.nodes s) next inner said
   pub left : IsAs middle (noting_over line d.world middle.world s next) new
 
--- The fuse of the disks ran out in a line on the group alone. Where a disk halted the replicated volume group, the crash may keep the write that it ended.
+-- The fuse of the disks ran out in a deport of the group. Where a disk halted the replicated volume group, the crash may keep the write that it ended.
 pub record CutBelow (d : Doubted) (line : ScriptLine) (s : ℕ) (fails : Fails) (said : Said) (new : Doubted) : Type 0 where
   pub are : AreOf s fails
   pub fused : IsFused (d.world.nodes s).fuse
@@ -133,41 +107,22 @@ pub record CutBelow (d : Doubted) (line : ScriptLine) (s : ℕ) (fails : Fails) 
   pub says : said ≡ Refused IsOff
   pub left : let last = run_as taken d (CrashAt s kept ∷ []) in IsAs last (group_noted s line (noting (with_disks taken s d.world last.world) s next)) new
 
--- Blocks of the log or of the maps are shown, of which nothing is said; or a disk failed.
-pub data ShowsInside (d : Doubted) (line : ScriptLine) (s : ℕ) (fails : Fails) (said : Said) (new : Doubted) : Type 0 where
-  ShowsAny : (site volume : List ℕ) (start count : ℕ) (bytes : List ℕ) → line ≡ Show site volume start count → AreOf s fails → said ≡ Got bytes
-      → length bytes ≡ 512 * count → IsAs d (worked_on d.world s) new → ShowsInside d line s fails said new
-  ShowFails : (disk : ℕ) → AreOf s fails → Contains fails (s, disk) → said ≡ Refused (Device disk) → IsAs d (worked_on d.world s) new → ShowsInside d line s fails said new
-
--- a line that shows such blocks, or another one on the replicated volume group or on the site
-abbrev pub EndsOrShows : (inside : Bool) → Type 0 → Doubted → ScriptLine → ℕ → Fails → Said → Doubted → Type 0
-EndsOrShows true told d line s fails said new = ShowsInside d line s fails said new
-EndsOrShows false told d line s fails said new = EndsOver told d line s fails said new
-
--- a line that takes the site up again, or another one
-abbrev pub TakesOr : Type 0 → Doubted → ScriptLine → ℕ → Fails → Said → Doubted → Type 0
-TakesOr told d (GroupImport site) s fails said new = RvgBack told d (GroupImport site) s fails said new ⊎ RvgFinds told d (GroupImport site) s fails said new
-TakesOr told d (Recover site) s fails said new = RvgBack told d (Recover site) s fails said new ⊎ RvgFinds told d (Recover site) s fails said new
-TakesOr told d other s fails said new = EndsOrShows (is_inside (d.world.nodes s) other) told d other s fails said new
-
 -- the worlds in which the site notes this of the regions that plexes of its group missed
 abbrev pub missed_in : MissedNote → Doubted → ℕ → Doubted
 missed_in w d s = noting_in d s (with_maps w (note_at (d.world.nodes s)))
 
--- A line on the group alone ends as at a group without a replicated volume group, or its fuse ran out. What plexes missed as it begins, and the serial, are not
--- noted where calls of a replicated volume group change them: it may be anything.
+-- A deport ends as one of a group without a replicated volume group, or its fuse ran out: to the replicated volume group it is a crash that keeps what is safe.
+-- What plexes missed as it begins, and the serial, are not noted where calls of a replicated volume group change them: it may be anything.
 pub record BelowEnds (told : Type 0) (d : Doubted) (line : ScriptLine) (s : ℕ) (fails : Fails) (said : Said) (new : Doubted) : Type 0 where
   pub missed : MissedNote
   pub ends : GroupEnds told (missed_in missed d s) line s fails said new ⊎ CutBelow (missed_in missed d s) line s fails said new
 
--- such a line, or another one
-abbrev pub OverRvgBy : (below : Bool) → Type 0 → Doubted → ScriptLine → ℕ → Fails → Said → Doubted → Type 0
-OverRvgBy true told d line s fails said new = BelowEnds told d line s fails said new
-OverRvgBy false told d line s fails said new = TakesOr told d line s fails said new
-
--- a line at site s over a group with a replicated volume group, but for those on links
+-- a line at site s over a group with a replicated volume group, but for those on links: a deport, one that takes the site up again, or another
 abbrev pub OverRvg : Type 0 → Doubted → ScriptLine → ℕ → Fails → Said → Doubted → Type 0
-OverRvg told d line s fails said new = OverRvgBy (is_below (d.world.nodes s) line) told d line s fails said new
+OverRvg told d (GroupDeport site) s fails said new = BelowEnds told d (GroupDeport site) s fails said new
+OverRvg told d (GroupImport site) s fails said new = RvgBack told d (GroupImport site) s fails said new ⊎ RvgFinds told d (GroupImport site) s fails said new
+OverRvg told d (Recover site) s fails said new = RvgBack told d (Recover site) s fails said new ⊎ RvgFinds told d (Recover site) s fails said new
+OverRvg told d other s fails said new = EndsOver told d other s fails said new
 
 -- where the line writes to the replicated volume group, its site is up and runs
 abbrev pub OpensFor : World → ScriptLine → Type 0

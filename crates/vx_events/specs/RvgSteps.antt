@@ -13,9 +13,9 @@ use Rattle.vx_events.specs.Fails.{Fails}
 use Rattle.vx_events.specs.GroupEnds.{BringsUp}
 use Rattle.vx_events.specs.GroupNotes.{note_at}
 use Rattle.vx_events.specs.Lines.{IsRefusedLine}
+use Rattle.vx_events.specs.OpenLines.{is_open}
 use Rattle.vx_events.specs.RvgBack.{RvgBack, RvgFinds}
 use Rattle.vx_events.specs.RvgFits.{rvg_noted}
-use Rattle.vx_events.specs.RvgLinks.{LinksOver, links_rvg}
 use Rattle.vx_events.specs.RvgMakes.{MakesRvg}
 use Rattle.vx_events.specs.RvgOver.{OverRvg}
 use Rattle.vx_events.specs.RvgViews.{is_over_rvg}
@@ -66,15 +66,15 @@ pub data WorksBeside (told : Type 0) (d : Doubted) (line : ScriptLine) (fails : 
   Gained : RvgBack told d line (group_place d.world line) fails said new → WorksBeside told d line fails said new
   FoundOne : RvgFinds told d line (group_place d.world line) fails said new → WorksBeside told d line fails said new
 
-abbrev pub WorksAbove : (links above : Bool) → Type 0 → Doubted → ScriptLine → Fails → Said → Doubted → Type 0
-WorksAbove true above told d line fails said new = LinksOver told d line fails said new
+abbrev pub WorksAbove : (halts above : Bool) → Type 0 → Doubted → ScriptLine → Fails → Said → Doubted → Type 0
+WorksAbove true above told d line fails said new = ⊥
 WorksAbove false true told d line fails said new = OverRvg told d line (rvg_place d.world line) fails said new
 WorksAbove false false told d line fails said new = WorksBeside told d line fails said new
 
--- a line that no test refuses: one that makes a replicated volume group, one on links of a site that has one over a group of disks, one at such a site, or another
+-- A line that no test refuses: one that makes a replicated volume group, one at a site that has one over a group of disks, or another. None goes past an open one.
 abbrev pub WorksFull : Type 0 → Doubted → ScriptLine → Fails → Said → Doubted → Type 0
 WorksFull told d (Rvg site srl maps volumes) fails said new = MakesRvg told d (Rvg site srl maps volumes) (site_number d.world site) fails said new
-WorksFull told d other fails said new = WorksAbove (links_rvg d.world other) (is_for_rvg d.world other) told d other fails said new
+WorksFull told d other fails said new = WorksAbove (is_open d.world other) (is_for_rvg d.world other) told d other fails said new
 
 abbrev pub FullBy : Option No → Type 0 → Doubted → ScriptLine → Fails → Said → Doubted → Type 0
 FullBy (Some why) told d line fails said new = IsRefusedLine why d fails said new

@@ -19,7 +19,7 @@ ghost use Rattle.vx_events.specs.Durables.{AreDurable};
 ghost use Rattle.vx_events.specs.Lines.{write_in};
 ghost use Rattle.vx_events.specs.Facts.{site_number};
 ghost use Rattle.vx_events.specs.LinkedFacts.{linked_facts, seen_facts};
-ghost use Rattle.vx_events.specs.RvgOver.{is_below};
+ghost use Rattle.vx_events.specs.RvgOver.{is_plain_kind, kind_named};
 ghost use Rattle.vx_events.specs.RvgViews.{is_over_rvg};
 ghost use Rattle.vx_events.specs.StepsOver.{is_for_group, refused_over};
 ghost use Rattle.vx_events.specs.LinksFit.{LinksFit};
@@ -54,10 +54,10 @@ pub fn link_tests_agree()
 /// A write to a raw set, or to a replicated volume group over a group of disks, that no test refuses is let in by the links of its site.
 pub fn links_let_in()
     ensures write { (w : World) (files : Bool) (name volume : List ℕ) (start count fill : ℕ) → is_for_group w (Write name volume start count fill) ≡ false
-        → (is_over_rvg (w.nodes (site_number w name)) ≡ true → is_below (w.nodes (site_number w name)) (Write name volume start count fill) ≡ false) → refused_over w files (Write name volume start count fill) ≡ None
+        → (is_over_rvg (w.nodes (site_number w name)) ≡ true → is_plain_kind (kind_named (w.nodes (site_number w name)) volume) ≡ false) → refused_over w files (Write name volume start count fill) ≡ None
         → (cs : List Change) × (admitted w (site_number w name) (write_in w name volume start (replicate (BLOCK * count) fill)) ≡ Goes cs) }
     ensures put { (w : World) (files : Bool) (name volume : List ℕ) (start : ℕ) (bytes : List ℕ) → is_for_group w (Put name volume start bytes) ≡ false
-        → (is_over_rvg (w.nodes (site_number w name)) ≡ true → is_below (w.nodes (site_number w name)) (Put name volume start bytes) ≡ false) → refused_over w files (Put name volume start bytes) ≡ None → length bytes ≡ BLOCK
+        → (is_over_rvg (w.nodes (site_number w name)) ≡ true → is_plain_kind (kind_named (w.nodes (site_number w name)) volume) ≡ false) → refused_over w files (Put name volume start bytes) ≡ None → length bytes ≡ BLOCK
         → (cs : List Change) × (admitted w (site_number w name) (write_in w name volume start bytes) ≡ Goes cs) }
 {}
 

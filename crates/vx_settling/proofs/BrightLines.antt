@@ -2,7 +2,6 @@
 use Rattle.std.proofs.Common.{◌≡◌, ◌∙◌, ◌⊎◌, inl, inr, ℕ, List, [], ◌∷◌, ◌++◌, Bool, true, false, ap, sym, subst}
 use Rattle.std.specs.Prelude.{Option, Some, None, unwrap_or}
 use Rattle.vx_model.specs.declared.no.No.{No}
-use Rattle.vx_history.proofs.Updates.{by_test}
 use Rattle.vx_history.specs.Doubts.{Doubted, crashed_as, halved}
 use Rattle.vx_history.specs.Groups.{GroupNode, MissedNote}
 use Rattle.vx_history.specs.Missing.{with_maps}
@@ -10,7 +9,7 @@ use Rattle.vx_history.specs.World.{Node, World}
 use Rattle.vx_history.specs.declared.event.Event.{Event}
 use Rattle.vx_history.specs.declared.event.Event.TheVariants.{Crash as CrashAt, Fault, Recover as RecoverAt}
 use Rattle.vx_script.specs.declared.line.ScriptLine.{ScriptLine}
-use Rattle.vx_script.specs.declared.line.ScriptLine.TheVariants.{GroupImport, Recover, Rvg}
+use Rattle.vx_script.specs.declared.line.ScriptLine.TheVariants.{GroupDeport, GroupImport, Recover, Rvg}
 use Rattle.vx_events.proofs.KnownLaws.{group_known, left_note}
 use Rattle.vx_events.proofs.RvgEnding.{never_found}
 use Rattle.vx_events.proofs.RvgFull.{brings_found}
@@ -30,21 +29,18 @@ use Rattle.vx_events.specs.LinkEnds.{AppliesCut, AppliesPart, AreLeft, LinkEnds,
 use Rattle.vx_events.specs.Lists.{events_of}
 use Rattle.vx_events.specs.LinkLists.{link_events}
 use Rattle.vx_events.specs.RvgBack.{GetsRvg, GroupCutOff, GroupHeld, GroupUnfound, HadRvg, IsLeftBack, KeptLost, LogCut, LogFails, LogLacks, RestsWithRvg, RvgBack, RvgUp}
-use Rattle.vx_events.specs.Brights.{AllBright, AllKnown, IsBright, told_for}
+use Rattle.vx_events.specs.Brights.{AllBright, IsBright, told_for}
 use Rattle.vx_events.proofs.Tolds.{told_now}
-use Rattle.vx_events.specs.RvgLinks.{LinksOver, NotesThere, links_rvg, noting_each, works_at, noted_there}
 use Rattle.vx_events.specs.RvgMakes.{IsLeftRvg, MakesRvg, RvgCut, RvgDone, RvgFails, RvgLacks, noting_in, units_at}
 use Rattle.vx_events.specs.RvgNotes.{volume_events}
-use Rattle.vx_events.specs.RvgOver.{CutBelow, EndsOrShows, OverRvg, OverRvgBy, ShowFails, ShowsAny, TakesOr, is_below, is_inside, missed_in, noting_over, fuse_behind}
+use Rattle.vx_events.specs.OpenLines.{is_open}
+use Rattle.vx_events.specs.RvgOver.{CutBelow, EndsOver, OverRvg, missed_in, noting_over, fuse_behind}
 use Rattle.vx_events.specs.RvgSteps.{AsBefore, FoundOne, FullBy, Gained, StepFull, WorksAbove, WorksBeside, WorksFull, is_for_rvg, rvg_place}
-use Rattle.vx_events.specs.RvgViews.{is_over_rvg}
-use Rattle.vx_events.specs.RvgWorks.{FuseRanOut}
 use Rattle.vx_events.specs.StepsOver.{WorksOver, group_place, is_for_group, refused_over}
 use Rattle.vx_events.specs.declared.said.Said.{Said}
 use Rattle.vx_events.specs.declared.said.Said.TheVariants.{Refused}
 use Rattle.vx_settling.specs.Brights.{IsHeldDown}
 use Rattle.vx_settling.proofs.Brights.{as_bright, crashed_bright, disks_bright, group_noted_bright, halved_bright, link_noted_bright, noted_bright, noting_bright, run_bright, runs_bright, worked_bright, node_bright}
-use Rattle.vx_history.specs.Steps.{worked_on}
 
 -- ---- what a line leaves
 
@@ -158,7 +154,7 @@ group_bright d b fails said new told line s held here (FindsGroup next are bring
 group_bright d b fails said new told line s held here (FindsNoGroup next why are brings unknown device notes says left) =
     over_bright s line next (run_as false d (refused_events (d.world.nodes s) s line)) new left here (run_bright false d (refused_events (d.world.nodes s) s line) b)
 
--- one on the group alone
+-- a deport
 place_bright : (d : Doubted) → AllBright d → (fails : Fails) (said : Said) (new : Doubted) (told : Type 0) (line : ScriptLine) (s : ℕ) → (IsHeldDown line said → ⊥) → IsBright (new.world.nodes s)
     → GroupEnds told d line s fails said new ⊎ CutBelow d line s fails said new → AllBright new
 place_bright d b fails said new told line s held here (inl ends) = group_bright d b fails said new told line s held here ends
@@ -198,10 +194,8 @@ module _ (told : Type 0) (tells : told) (d : Doubted) (b : AllBright d) (fails :
 
   -- ---- a site with a replicated volume group
 
-  shows_bright : (inside : Bool) (line : ScriptLine) (s : ℕ) → IsBright (new.world.nodes s) → EndsOrShows inside told d line s fails said new → AllBright new
-  shows_bright true line s here (ShowsAny site volume start count bytes is are got size left) = as_bright d (worked_on d.world s) new left (worked_bright d.world s b.sites) b
-  shows_bright true line s here (ShowFails disk are has says left) = as_bright d (worked_on d.world s) new left (worked_bright d.world s b.sites) b
-  shows_bright false line s here h =
+  line_bright : (line : ScriptLine) (s : ℕ) → IsBright (new.world.nodes s) → EndsOver told d line s fails said new → AllBright new
+  line_bright line s here h =
       let middle : AllBright h.middle = ends_bright (IsKnown told (note_at (d.world.nodes s))) (tells, b.sites s) d line (place_of d.world line) h.ending h.inner h.middle b h.ends in
       let known : h.next.dark ≡ false = next_bright (new.world.nodes s) h.next (over_group h.middle s h.next h.left) here in
       let u : World = h.middle.world in
@@ -211,28 +205,24 @@ module _ (told : Type 0) (tells : told) (d : Doubted) (b : AllBright d) (fails :
       over_group : (middle : Doubted) (s : ℕ) (next : GroupNode) → IsAs middle (noting_over line d.world middle.world s next) new → (new.world.nodes s).group ≡ Some next
       over_group middle s next left = ap (λ (w : World). (w.nodes s).group) left.world ∙ noted_over_here line d.world middle.world s next
 
-  takes_bright : (line : ScriptLine) (s : ℕ) → (IsHeldDown line said → ⊥) → (BringsUp line → (note_at (d.world.nodes s)).loose ≡ false) → IsBright (new.world.nodes s)
-      → TakesOr told d line s fails said new → AllBright new
-  takes_bright (GroupImport site) s held agree here (inl back) = rises_bright (GroupImport site) s held here back
-  takes_bright (GroupImport site) s held agree here (inr finds) = absurd (never_found told tells d s (b.sites s) fails said new (GroupImport site) (agree tt) finds)
-  takes_bright (Recover site) s held agree here (inl back) = rises_bright (Recover site) s held here back
-  takes_bright (Recover site) s held agree here (inr finds) = absurd (never_found told tells d s (b.sites s) fails said new (Recover site) (agree tt) finds)
-  takes_bright other s held agree here ends = shows_bright (is_inside (d.world.nodes s) other) other s here ends
-
-  place_or : (below : Bool) (line : ScriptLine) (s : ℕ) → (IsHeldDown line said → ⊥) → (BringsUp line → (note_at (d.world.nodes s)).loose ≡ false)
-      → IsBright (new.world.nodes s) → OverRvgBy below told d line s fails said new → AllBright new
-  place_or true line s held agree here below =
+  place_or : (line : ScriptLine) (s : ℕ) → (IsHeldDown line said → ⊥) → (BringsUp line → (note_at (d.world.nodes s)).loose ≡ false)
+      → IsBright (new.world.nodes s) → OverRvg told d line s fails said new → AllBright new
+  place_or (GroupDeport site) s held agree here below =
       let w : MissedNote = below.missed in
-      place_bright (missed_in w d s) (in_bright d s (with_maps w (note_at (d.world.nodes s))) (b.sites s) b) fails said new told line s held here below.ends
-  place_or false line s held agree here ends = takes_bright line s held agree here ends
+      place_bright (missed_in w d s) (in_bright d s (with_maps w (note_at (d.world.nodes s))) (b.sites s) b) fails said new told (GroupDeport site) s held here below.ends
+  place_or (GroupImport site) s held agree here (inl back) = rises_bright (GroupImport site) s held here back
+  place_or (GroupImport site) s held agree here (inr finds) = absurd (never_found told tells d s (b.sites s) fails said new (GroupImport site) (agree tt) finds)
+  place_or (Recover site) s held agree here (inl back) = rises_bright (Recover site) s held here back
+  place_or (Recover site) s held agree here (inr finds) = absurd (never_found told tells d s (b.sites s) fails said new (Recover site) (agree tt) finds)
+  place_or other s held agree here ends = line_bright other s here ends
 
   over_rvg_bright : (line : ScriptLine) (s : ℕ) → (IsHeldDown line said → ⊥) → (BringsUp line → (note_at (d.world.nodes s)).loose ≡ false)
       → OverRvg told d line s fails said new → AllBright new
   over_rvg_bright line s held agree ends =
       let here : IsBright (new.world.nodes s) = over_known told tells d s (b.sites s) fails said new line (dim line s agree held) ends in
-      place_or (is_below (d.world.nodes s) line) line s held agree here ends
+      place_or line s held agree here ends
 
-  -- ---- a line that makes one, and lines of links
+  -- ---- a line that makes one
 
   makes_bright : (line : ScriptLine) (s : ℕ) → IsBright (new.world.nodes s) → MakesRvg told d line s fails said new → AllBright new
   makes_bright line s here (RvgDone site srl maps volumes middle next is are x says left) =
@@ -243,17 +233,6 @@ module _ (told : Type 0) (tells : told) (d : Doubted) (b : AllBright d) (fails :
   makes_bright line s here (RvgFails site srl maps volumes disk next is are has x says left) = made_bright s next d new left here b
   makes_bright line s here (RvgCut site srl maps volumes next is are fused x says left) =
       made_bright s next (run_as false d (CrashAt s 0 ∷ [])) new left here (run_bright false d (CrashAt s 0 ∷ []) b)
-
-  there_bright : (works : Bool) (Off : Type 0) (i : ℕ) (fs : Fails) (note next : GroupNode) → note.dark ≡ false → NotesThere works Off i fs note next → next.dark ≡ false
-  there_bright true Off i fs note next known x = works_dark Off i fs note next x ∙ known
-  there_bright false Off i fs note next known same = ap (λ (g : GroupNode). g.dark) same ∙ known
-
-  each_bright : (line : ScriptLine) → LinksOver told d line fails said new → AllBright new
-  each_bright line h =
-      let middle : AllBright h.middle = links_bright (AllKnown told d.world) (tells, b.sites) d line h.ending said h.middle b h.ends in
-      as_bright h.middle (noting_each line d.world h.next h.middle.world) new h.left
-      (λ i. by_test IsBright (is_over_rvg (d.world.nodes i)) (noted_there d.world line i (h.next i) (h.middle.world.nodes i)) (h.middle.world.nodes i)
-      (λ over. there_bright (works_at d.world line i) (FuseRanOut (d.world.nodes i) said) i fails (note_at (d.world.nodes i)) (h.next i) (b.sites i) (h.notes i over)) (λ _. middle.sites i)) middle
 
   -- ---- any line
 
@@ -283,9 +262,9 @@ module _ (told : Type 0) (tells : told) (d : Doubted) (b : AllBright d) (fails :
   agree_at (Recover site) agree brings = agree tt
   agree_at other agree brings = absurd brings
 
-  above_bright : (links above : Bool) (line : ScriptLine) → (IsHeldDown line said → ⊥)
-      → (BringsUp line → (note_at (d.world.nodes (group_place d.world line))).loose ≡ false) → WorksAbove links above told d line fails said new → AllBright new
-  above_bright true above line held agree ends = each_bright line ends
+  above_bright : (halts above : Bool) (line : ScriptLine) → (IsHeldDown line said → ⊥)
+      → (BringsUp line → (note_at (d.world.nodes (group_place d.world line))).loose ≡ false) → WorksAbove halts above told d line fails said new → AllBright new
+  above_bright true above line held agree ends = absurd ends
   above_bright false true line held agree ends = over_rvg_bright line (rvg_place d.world line) held (agree_at line agree) ends
   above_bright false false line held agree ends = beside_bright line held agree ends
 
@@ -294,7 +273,7 @@ module _ (told : Type 0) (tells : told) (d : Doubted) (b : AllBright d) (fails :
   full_bright (Rvg site srl maps volumes) held agree ends =
       let s : ℕ = site_number d.world site in
       makes_bright (Rvg site srl maps volumes) s (making_known told d (Rvg site srl maps volumes) s fails said new ends (b.sites s)) ends
-  full_bright other held agree ends = above_bright (links_rvg d.world other) (is_for_rvg d.world other) other held agree ends
+  full_bright other held agree ends = above_bright (is_open d.world other) (is_for_rvg d.world other) other held agree ends
 
   refusal_bright : (o : Option No) (line : ScriptLine) → (IsHeldDown line said → ⊥) → (BringsUp line → (note_at (d.world.nodes (group_place d.world line))).loose ≡ false)
       → FullBy o told d line fails said new → AllBright new

@@ -1,6 +1,6 @@
 -- However a line ends, a site that is more than bare and at which it does not work notes of its group what it noted.
 use Rattle.std.proofs.Common.{◌≡◌, ◌∙◌, ◌⊎◌, inl, inr, ℕ, List, [], ◌∷◌, ◌++◌, Bool, true, false, refl, ap, sym, subst}
-use Rattle.std.specs.Prelude.{eqb, not, length, is_some, ◌&&◌, ◌||◌, Option, Some, None, unwrap_or}
+use Rattle.std.specs.Prelude.{eqb, not, ◌||◌, Option, Some, None}
 use Rattle.vx_model.specs.declared.no.No.{No}
 use Rattle.vx_history.proofs.Updates.{by_test, eqb_apart}
 use Rattle.vx_history.specs.Doubts.{Doubted, crashed_as, halved}
@@ -8,12 +8,12 @@ use Rattle.vx_history.specs.Events.{with_write}
 use Rattle.vx_history.specs.Good.{IsMade}
 use Rattle.vx_history.specs.Groups.{GroupNode, MissedNote}
 use Rattle.vx_history.specs.Missing.{with_maps}
-use Rattle.vx_history.specs.Steps.{group_set, worked_on}
+use Rattle.vx_history.specs.Steps.{group_set}
 use Rattle.vx_history.specs.World.{Link as LinkRecord, Node, World, no_link}
 use Rattle.vx_history.specs.declared.event.Event.{Event}
 use Rattle.vx_history.specs.declared.event.Event.TheVariants.{Crash as CrashAt, Deliver as DeliverAt, Fall as FallAt, Fault, Pump as PumpAt, Recover as RecoverAt}
 use Rattle.vx_script.specs.declared.line.ScriptLine.{ScriptLine}
-use Rattle.vx_script.specs.declared.line.ScriptLine.TheVariants.{Apply, Crash, Deliver, Disk, Fuse, GroupDeport, GroupImport, GroupInit, Link, PlexAttach, PlexDetach, Pump, Put, Read, Recover, Rvg, Set, Settle, Show, Status, Volume, Write}
+use Rattle.vx_script.specs.declared.line.ScriptLine.TheVariants.{Apply, Crash, Disk, Fuse, GroupDeport, GroupImport, GroupInit, PlexAttach, PlexDetach, Put, Read, Recover, Rvg, Show, Status, Volume, Write}
 use Rattle.vx_world.proofs.Doubting.{like_good}
 use Rattle.vx_events.proofs.RvgFull.{brings_back, brings_found}
 use Rattle.vx_events.proofs.RvgStopping.{noted_doubted}
@@ -23,21 +23,19 @@ use Rattle.vx_events.specs.Facts.{site_number}
 use Rattle.vx_events.specs.Fails.{Fails}
 use Rattle.vx_events.specs.GroupEnds.{BringsUp, FindsGroup, FindsNoGroup, GroupCut, GroupDone, GroupEnds, GroupFails, GroupLacks, GroupNotFound, ImportFails, InitFails, IsLeftOver, KeptUnread}
 use Rattle.vx_events.specs.GroupLines.{cut_events, fuse_lost, group_events, group_noted, noting, refused_events, unread_events}
-use Rattle.vx_events.specs.GroupNotes.{IsKnown, no_note, note_at}
+use Rattle.vx_events.specs.GroupNotes.{IsKnown, note_at}
 use Rattle.vx_events.specs.Lines.{EndsBy, is_of_links}
 use Rattle.vx_events.specs.LinkEnds.{AppliesCut, AppliesPart, AreLeft, LinkEnds, LinksCut, LinksDone, LinksFind, LinksHalt, LogUnread, NoHeader, link_noted}
 use Rattle.vx_events.specs.Lists.{Choice, crash_count, events_of}
 use Rattle.vx_events.specs.LinkFinds.{ApplyCut, ApplyHalts, EndsBetween, FindsOther, GivesUp, HeaderCut, HeaderHalts, IsStored, IsUnread, KeepsOther, LosesOther, MovesBetween, ReadsNone, SendsOther, SettlesOther, TakesOther}
 use Rattle.vx_events.specs.LinkLists.{link_events}
 use Rattle.vx_events.specs.RvgBack.{FindsNoRvg, FindsPlain, FindsRvg, GetsRvg, GroupCutOff, GroupHeld, GroupUnfound, HadRvg, IsLeftBack, IsLeftBut, KeptLost, LogCut, LogFails, LogLacks, RestsWithRvg, RvgBack, RvgFinds, RvgUp, fall_first, fuse_left}
-use Rattle.vx_events.specs.Brights.{AllKnown, told_for}
-use Rattle.vx_events.specs.RvgLinks.{LinksOver, NotesThere, links_rvg, noting_each, works_at, noted_there}
+use Rattle.vx_events.specs.Brights.{told_for}
 use Rattle.vx_events.specs.RvgMakes.{IsLeftRvg, MakesRvg, RvgCut, RvgDone, RvgFails, RvgLacks, noting_in, units_at}
 use Rattle.vx_events.specs.RvgNotes.{volume_events}
-use Rattle.vx_events.specs.RvgOver.{CutBelow, EndsOrShows, OverRvgBy, ShowFails, ShowsAny, TakesOr, is_below, is_inside, missed_in, noting_over, fuse_behind}
+use Rattle.vx_events.specs.OpenLines.{is_open}
+use Rattle.vx_events.specs.RvgOver.{CutBelow, EndsOver, OverRvg, missed_in, noting_over, fuse_behind}
 use Rattle.vx_events.specs.RvgSteps.{AsBefore, FoundOne, FullBy, Gained, StepFull, WorksAbove, WorksBeside, WorksFull, is_for_rvg, rvg_place}
-use Rattle.vx_events.specs.RvgViews.{is_over_rvg}
-use Rattle.vx_events.specs.RvgWorks.{FuseRanOut}
 use Rattle.vx_events.specs.StepsOver.{WorksOver, group_place, is_for_group, refused_over}
 use Rattle.vx_events.specs.declared.said.Said.{Said}
 use Rattle.vx_settling.specs.OtherNotes.{HasNote, may_note}
@@ -86,14 +84,6 @@ brings_apart w (GroupImport site) i off brings = off
 brings_apart w (Recover site) i off brings = off
 brings_apart w other i off brings = absurd brings
 
-links_apart : (w : World) (line : ScriptLine) (i : ℕ) → may_note w line i ≡ false → links_rvg w line ≡ true → works_at w line i ≡ false
-links_apart w (Link p s sync prot) i off is = off
-links_apart w (Set p s sync prot) i off is = off
-links_apart w (Pump p s) i off is = off
-links_apart w (Deliver number) i off is = off
-links_apart w (Settle p s) i off is = off
-links_apart w other i off is = absurd (let f : false ≡ true = is in cc)
-
 -- a recovery of another site
 recover_apart : (w : World) (line : ScriptLine) (i : ℕ) → may_note w line i ≡ false → (site : List ℕ) → line ≡ Recover site → eqb i (place_of w line) ≡ false
 recover_apart w line i off site is =
@@ -102,11 +92,6 @@ recover_apart w line i off site is =
 pub neither : (a b : Bool) → (a || b) ≡ false → (a ≡ false) × (b ≡ false)
 neither true b off = absurd (let f : true ≡ false = off in cc)
 neither false b off = (refl, off)
-
--- a site over such a group notes something
-some_note : (g : Option GroupNode) (b : Bool) → (is_some g && b) ≡ true → g ≡ Some (unwrap_or g no_note)
-some_note None b over = absurd (let f : false ≡ true = over in cc)
-some_note (Some g) b over = refl
 
 module _ (i : ℕ) (o : Option GroupNode) where
   -- ---- what a line leaves
@@ -361,31 +346,25 @@ module _ (i : ℕ) (o : Option GroupNode) where
       finds_notes line s apart (FindsNoRvg kept taken lost next why has are brings unknown device notes says left) =
           but_notes lost s line taken next d _ new apart left x.has (ran taken (fall_first (d.world.nodes s).state s kept))
 
-      shows_notes : (inside : Bool) (line : ScriptLine) (s : ℕ) → may_note d.world line i ≡ false → eqb i s ≡ false → EndsOrShows inside told d line s fails said new
-          → HasNote i o new
-      shows_notes true line s off apart (ShowsAny site volume start count bytes is are got size left) = OtherNotes.as_notes i o d (worked_on d.world s) new left (OtherNotes.worked_notes i o d.world s x.has.note) x.has
-      shows_notes true line s off apart (ShowFails disk are has says left) = OtherNotes.as_notes i o d (worked_on d.world s) new left (OtherNotes.worked_notes i o d.world s x.has.note) x.has
-      shows_notes false line s off apart h =
+      line_notes : (line : ScriptLine) (s : ℕ) → may_note d.world line i ≡ false → eqb i s ≡ false → EndsOver told d line s fails said new → HasNote i o new
+      line_notes line s off apart h =
           let middle : HasNote i o h.middle =
           ends_notes (IsKnown told (note_at (d.world.nodes s))) line (place_of d.world line) h.ending h.inner h.middle (recover_apart d.world line i off) h.ends in
           let u : World = h.middle.world in
           OtherNotes.as_notes i o h.middle (noting_over line d.world u s h.next) new h.left
           (OtherNotes.apart_notes i o u s (record (u.nodes s) { group = Some h.next; fuse = fuse_behind line (d.world.nodes s).fuse (u.nodes s).fuse }) apart middle.note) middle
 
-      takes_notes : (line : ScriptLine) (s : ℕ) → may_note d.world line i ≡ false → eqb i s ≡ false → TakesOr told d line s fails said new → HasNote i o new
-      takes_notes (GroupImport site) s off apart (inl back) = rises_notes (GroupImport site) s apart back
-      takes_notes (GroupImport site) s off apart (inr finds) = finds_notes (GroupImport site) s apart finds
-      takes_notes (Recover site) s off apart (inl back) = rises_notes (Recover site) s apart back
-      takes_notes (Recover site) s off apart (inr finds) = finds_notes (Recover site) s apart finds
-      takes_notes other s off apart ends = shows_notes (is_inside (d.world.nodes s) other) other s off apart ends
-
-      place_or : (below : Bool) (line : ScriptLine) (s : ℕ) → may_note d.world line i ≡ false → eqb i s ≡ false → OverRvgBy below told d line s fails said new → HasNote i o new
-      place_or true line s off apart below =
+      place_or : (line : ScriptLine) (s : ℕ) → may_note d.world line i ≡ false → eqb i s ≡ false → OverRvg told d line s fails said new → HasNote i o new
+      place_or (GroupDeport site) s off apart below =
           let w : MissedNote = below.missed in
-          place_notes (missed_in w d s) (in_stands d s (with_maps w (note_at (d.world.nodes s))) apart x) told fails said new line s apart below.ends
-      place_or false line s off apart ends = takes_notes line s off apart ends
+          place_notes (missed_in w d s) (in_stands d s (with_maps w (note_at (d.world.nodes s))) apart x) told fails said new (GroupDeport site) s apart below.ends
+      place_or (GroupImport site) s off apart (inl back) = rises_notes (GroupImport site) s apart back
+      place_or (GroupImport site) s off apart (inr finds) = finds_notes (GroupImport site) s apart finds
+      place_or (Recover site) s off apart (inl back) = rises_notes (Recover site) s apart back
+      place_or (Recover site) s off apart (inr finds) = finds_notes (Recover site) s apart finds
+      place_or other s off apart ends = line_notes other s off apart ends
 
-      -- ---- a line that makes one, and lines of links
+      -- ---- a line that makes one
 
       makes_notes : (line : ScriptLine) (s : ℕ) → eqb i s ≡ false → MakesRvg told d line s fails said new → HasNote i o new
       makes_notes line s apart (RvgDone site srl maps volumes middle next is are notes says left) =
@@ -396,21 +375,6 @@ module _ (i : ℕ) (o : Option GroupNode) where
       makes_notes line s apart (RvgFails site srl maps volumes disk next is are has notes says left) = made_notes s next d new apart left x.has
       makes_notes line s apart (RvgCut site srl maps volumes next is are fused notes says left) =
           made_notes s next (run_as false d (CrashAt s 0 ∷ [])) new apart left (ran false (CrashAt s 0 ∷ []))
-
-      -- the site itself is over such a group, and the line does not work at it
-      kept_note : (works : Bool) (Off : Type 0) (next : GroupNode) → works ≡ false → is_over_rvg (d.world.nodes i) ≡ true
-          → NotesThere works Off i fails (note_at (d.world.nodes i)) next → Some next ≡ o
-      kept_note true Off next off over there = absurd (let f : true ≡ false = off in cc)
-      kept_note false Off next off over there =
-          ap (λ (g : GroupNode). Some g) there
-          ∙ sym (some_note (d.world.nodes i).group (not (eqb (length (d.world.nodes i).volumes) 0)) over) ∙ x.has.note
-
-      each_notes : (line : ScriptLine) → may_note d.world line i ≡ false → works_at d.world line i ≡ false → LinksOver told d line fails said new → HasNote i o new
-      each_notes line off rests h =
-          let middle : HasNote i o h.middle = links_notes (AllKnown told d.world) line h.ending said h.middle off h.ends in
-          OtherNotes.as_notes i o h.middle (noting_each line d.world h.next h.middle.world) new h.left
-          (by_test (λ (m : Node). m.group ≡ o) (is_over_rvg (d.world.nodes i)) (noted_there d.world line i (h.next i) (h.middle.world.nodes i)) (h.middle.world.nodes i)
-          (λ over. kept_note (works_at d.world line i) (FuseRanOut (d.world.nodes i) said) (h.next i) rests over (h.notes i over)) (λ _. middle.note)) middle
 
       -- ---- any line
 
@@ -429,17 +393,15 @@ module _ (i : ℕ) (o : Option GroupNode) where
           let s : ℕ = group_place d.world line in
           finds_notes line s (brings_apart d.world line i off (brings_found told d line s fails said new finds)) finds
 
-      above_notes : (links above : Bool) (line : ScriptLine) → links_rvg d.world line ≡ links → is_for_rvg d.world line ≡ above → may_note d.world line i ≡ false
-          → WorksAbove links above told d line fails said new → HasNote i o new
-      above_notes true above line links_is is off ends = each_notes line off (links_apart d.world line i off links_is) ends
-      above_notes false true line links_is is off ends =
-          let s : ℕ = rvg_place d.world line in
-          place_or (is_below (d.world.nodes s) line) line s off (rvg_apart d.world line i off is) ends
-      above_notes false false line links_is is off ends = beside_notes line off ends
+      above_notes : (halts above : Bool) (line : ScriptLine) → is_for_rvg d.world line ≡ above → may_note d.world line i ≡ false
+          → WorksAbove halts above told d line fails said new → HasNote i o new
+      above_notes true above line is off ends = absurd ends
+      above_notes false true line is off ends = place_or line (rvg_place d.world line) off (rvg_apart d.world line i off is) ends
+      above_notes false false line is off ends = beside_notes line off ends
 
       full_notes : (line : ScriptLine) → may_note d.world line i ≡ false → WorksFull told d line fails said new → HasNote i o new
       full_notes (Rvg site srl maps volumes) off ends = makes_notes (Rvg site srl maps volumes) (site_number d.world site) off ends
-      full_notes other off ends = above_notes (links_rvg d.world other) (is_for_rvg d.world other) other refl refl off ends
+      full_notes other off ends = above_notes (is_open d.world other) (is_for_rvg d.world other) other refl off ends
 
       refusal_notes : (why : Option No) (line : ScriptLine) → may_note d.world line i ≡ false → FullBy why told d line fails said new → HasNote i o new
       refusal_notes (Some why) line off step = subst (λ (e : Doubted). HasNote i o e) (sym step.stays) x.has

@@ -1,19 +1,18 @@
 -- What a line notes of groups: of those of its own sites alone.
-use Rattle.std.specs.Prelude.{◌≡◌, ◌==◌, ℕ, Bool, Option, Some}
+use Rattle.std.specs.Prelude.{◌≡◌, ◌==◌, ◌||◌, ℕ, Bool, false, Option, Some}
 use Rattle.vx_history.specs.Doubts.{After, Doubted}
 use Rattle.vx_history.specs.Groups.{GroupNode}
 use Rattle.vx_history.specs.World.{World}
 use Rattle.vx_script.specs.declared.line.ScriptLine.{ScriptLine}
-use Rattle.vx_script.specs.declared.line.ScriptLine.TheVariants.{Apply, Crash, Disk, Fuse, GroupDeport, GroupImport, GroupInit, PlexAttach, PlexDetach, Put, Read, Recover, Rvg, Show, Status, Volume, Write}
+use Rattle.vx_script.specs.declared.line.ScriptLine.TheVariants.{Apply, Crash, Disk, Fuse, GroupDeport, GroupImport, GroupInit, PlexAttach, PlexDetach, Put, Read, Recover, Rvg, Settle, Show, Status, Volume, Write}
 use Rattle.vx_events.specs.Facts.{site_number}
-use Rattle.vx_events.specs.RvgLinks.{works_at}
 
 -- site i notes this of its group of disks, or nothing, also where it is as it may be on its disks
 pub record HasNote (i : ℕ) (o : Option GroupNode) (d : Doubted) : Type 0 where
   pub note : (d.world.nodes i).group ≡ o
   pub doubt : (a : After) → d.after i ≡ Some a → a.node.group ≡ o
 
--- the line is one at site i, or one of links that may write or read disks of it
+-- the line is one at site i, or settles a link of it
 abbrev pub may_note : World → ScriptLine → (i : ℕ) → Bool
 may_note w (GroupInit site) i = i == site_number w site
 may_note w (GroupDeport site) i = i == site_number w site
@@ -32,4 +31,5 @@ may_note w (Read site volume start count) i = i == site_number w site
 may_note w (Show site volume start count) i = i == site_number w site
 may_note w (Apply site to) i = i == site_number w site
 may_note w (Status site) i = i == site_number w site
-may_note w other i = works_at w other i
+may_note w (Settle p s) i = (i == site_number w p) || (i == site_number w s)
+may_note w other i = false

@@ -42,7 +42,7 @@ use Rattle.vx_events.specs.Facts.{place_of, seat_of, site_number, volume_number}
 use Rattle.vx_events.specs.GroupNotes.{IsKnown, note_at}
 use Rattle.vx_events.specs.LinkedFacts.{linked_fact}
 use Rattle.vx_events.specs.Lists.{Choice, events_of}
-use Rattle.vx_events.specs.RvgOver.{SaysOver, is_inner_kind, is_plain_kind, kind_named}
+use Rattle.vx_events.specs.RvgOver.{SaysOver, is_plain_kind, kind_named}
 use Rattle.vx_events.specs.RvgSteps.{over_rvg_at}
 use Rattle.vx_events.specs.RvgViews.{is_over_rvg}
 use Rattle.vx_events.specs.Sayings.{received_content}
@@ -91,13 +91,13 @@ read_so : (told : Type 0) (d : Doubted) (line : ScriptLine) (name volume : List 
     → kind_named (d.world.nodes s) volume ≡ Data → ReadSo told d s v start count line
 read_so told d line name volume start count s v (inl is) number place kind =
     subst (λ (l : ScriptLine). ReadSo told d s v start count l) (sym is) (record {
-      over = line_read told d name volume s number (ap (λ (k : VolumeKind). is_plain_kind k) kind) start count;
+      over = line_read told d name volume s number start count;
       events = λ c. read_events d.world name volume start count s v number place;
       notes = λ u. refl;
     })
 read_so told d line name volume start count s v (inr is) number place kind =
     subst (λ (l : ScriptLine). ReadSo told d s v start count l) (sym is) (record {
-      over = line_show told d name volume s number (ap (λ (k : VolumeKind). is_plain_kind k) kind) start count (ap (λ (k : VolumeKind). is_inner_kind k) kind);
+      over = line_show told d name volume s number start count;
       events = λ c. read_events d.world name volume start count s v number place;
       notes = λ u. refl;
     })

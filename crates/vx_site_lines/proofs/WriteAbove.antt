@@ -92,13 +92,13 @@ write_so : (told : Type 0) (d : Doubted) (line : ScriptLine) (name volume : List
     → is_plain_kind (kind_named (d.world.nodes s) volume) ≡ false → WriteSo told d s v start bytes line
 write_so told d line name volume start bytes s v (OfWrite count fill is filled) number place plain =
     subst (λ (l : ScriptLine). WriteSo told d s v start bytes l) (sym is) (record {
-      over = line_write told d name volume s number plain start count fill;
+      over = line_write told d name volume s number start count fill;
       events = λ c. write_events d.world name volume start (replicate (512 * count) fill) s v number place ∙ ap (λ (bs : List ℕ). let es : List Event = WriteAt s v start bs None ∷ [] in es) (sym filled);
       notes = λ u. refl;
     })
 write_so told d line name volume start bytes s v (OfPut is one) number place plain =
     subst (λ (l : ScriptLine). WriteSo told d s v start bytes l) (sym is) (record {
-      over = line_put told d name volume s number plain start bytes;
+      over = line_put told d name volume s number start bytes;
       events = λ c. write_events d.world name volume start bytes s v number place;
       notes = λ u. refl;
     })
