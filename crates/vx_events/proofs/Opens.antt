@@ -1,19 +1,19 @@
 -- What is left of a line that is not open: it works on no link of a site with a replicated volume group over its group of disks, and at such a site on blocks of data
 -- volumes alone. Where there is no such site no line is open.
-use Rattle.std.proofs.Common.{◌≡◌, ℕ, Bool, true, false, List, refl, ap}
-use Rattle.std.specs.Prelude.{◌&&◌, not}
-use Rattle.vx_history.specs.World.{Node, World}
+use Rattle.std.proofs.Common.{◌≡◌, ◌∙◌, ℕ, Bool, true, false, List, Option, Some, None, refl, ap}
+use Rattle.std.specs.Prelude.{◌&&◌, ◌||◌, ltb, not}
+use Rattle.vx_history.specs.Events.{packet_at}
+use Rattle.vx_history.specs.World.{Node, Packet, World}
 use Rattle.vx_order.specs.Calls.{is_data}
 use Rattle.vx_order.specs.declared.facts.VolumeKind.{VolumeKind}
 use Rattle.vx_order.specs.declared.facts.VolumeKind.TheVariants.{Data, Map, Plain, Srl}
 use Rattle.vx_script.specs.declared.line.ScriptLine.{ScriptLine}
-use Rattle.vx_script.specs.declared.line.ScriptLine.TheVariants.{Apply, PlexAttach, PlexDetach, Put, Read, Show, Volume, Write}
-use Rattle.vx_events.proofs.RvgFull.{links_none}
+use Rattle.vx_script.specs.declared.line.ScriptLine.TheVariants.{Apply, Crash, Deliver, Disk, Fuse, GroupDeport, GroupImport, Link, PlexAttach, PlexDetach, Pump, Put, Read, Recover, Set, Settle, Show, Status, Volume, Write}
 use Rattle.vx_events.specs.Facts.{site_number}
 use Rattle.vx_events.specs.OpenLines.{HasNoOpen, is_open, is_open_volume}
-use Rattle.vx_events.specs.RvgLinks.{links_rvg}
+use Rattle.vx_events.specs.RvgLinks.{links_rvg, rvg_target}
 use Rattle.vx_events.specs.RvgOver.{is_plain_kind, kind_named}
-use Rattle.vx_events.specs.RvgSteps.{HasNoRvgs}
+use Rattle.vx_events.specs.RvgSteps.{HasNoRvgs, is_for_rvg}
 use Rattle.vx_events.specs.RvgViews.{is_over_rvg}
 
 pub open_links : (w : World) (line : ScriptLine) → is_open w line ≡ false → links_rvg w line ≡ false
@@ -42,6 +42,43 @@ pub open_inside : (n : Node) (volume : List ℕ) → is_open_volume n volume ≡
 open_inside n volume closed over = ap is_plain_kind (open_data n volume over closed)
 
 module _ (w : World) (none : HasNoRvgs w) where
+  either_none : (a b : Bool) → a ≡ false → b ≡ false → (a || b) ≡ false
+  either_none a b e f = ap (λ (x : Bool). x || b) e ∙ f
+
+  target_none : (o : Option Packet) → rvg_target w o ≡ false
+  target_none None = refl
+  target_none (Some p) = by (ltb p.target w.sites) (is_over_rvg (w.nodes p.target)) (none p.target)
+    where
+      by : (a b : Bool) → b ≡ false → (a && b) ≡ false
+      by true b is = is
+      by false b is = refl
+
+  links_none : (line : ScriptLine) → links_rvg w line ≡ false
+  links_none (Link p s sync prot) = either_none (is_over_rvg (w.nodes (site_number w p))) (is_over_rvg (w.nodes (site_number w s))) (none (site_number w p)) (none (site_number w s))
+  links_none (Set p s sync prot) = none (site_number w p)
+  links_none (Pump p s) = none (site_number w p)
+  links_none (Deliver number) = target_none (packet_at w.packets number)
+  links_none (Settle p s) = either_none (is_over_rvg (w.nodes (site_number w p))) (is_over_rvg (w.nodes (site_number w s))) (none (site_number w p)) (none (site_number w s))
+  links_none other = refl
+
+  pub for_none : (line : ScriptLine) → is_for_rvg w line ≡ false
+  for_none (GroupDeport site) = none (site_number w site)
+  for_none (GroupImport site) = none (site_number w site)
+  for_none (Volume site volume blocks mirrors layout log map policy) = none (site_number w site)
+  for_none (PlexDetach site volume plex) = none (site_number w site)
+  for_none (PlexAttach site volume plex) = none (site_number w site)
+  for_none (Disk site disk state) = none (site_number w site)
+  for_none (Crash site pick) = none (site_number w site)
+  for_none (Fuse site calls pick) = none (site_number w site)
+  for_none (Recover site) = none (site_number w site)
+  for_none (Write site volume start count fill) = none (site_number w site)
+  for_none (Put site volume start bytes) = none (site_number w site)
+  for_none (Read site volume start count) = none (site_number w site)
+  for_none (Show site volume start count) = none (site_number w site)
+  for_none (Apply site to) = none (site_number w site)
+  for_none (Status site) = none (site_number w site)
+  for_none other = refl
+
   volume_none : (site volume : List ℕ) → is_open_volume (w.nodes (site_number w site)) volume ≡ false
   volume_none site volume = ap (λ (b : Bool). b && not (is_data (kind_named (w.nodes (site_number w site)) volume))) (none (site_number w site))
 

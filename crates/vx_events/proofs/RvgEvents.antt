@@ -10,7 +10,7 @@ use Rattle.vx_script.specs.declared.line.ScriptLine.TheVariants.{GroupImport, Pu
 use Rattle.vx_events.proofs.GroupStopping.{group_stops}
 use Rattle.vx_events.proofs.LinkStopping.{link_stops}
 use Rattle.vx_events.proofs.Noting.{same_like}
-use Rattle.vx_events.proofs.RvgEnding.{back_stops, finds_stops, links_over_stop, opens_at, over_rvg_stops}
+use Rattle.vx_events.proofs.RvgEnding.{back_stops, finds_stops, opens_at, over_rvg_stops}
 use Rattle.vx_events.proofs.RvgFull.{brings_found}
 use Rattle.vx_events.proofs.RefusedCalls.{put_may, write_may}
 use Rattle.vx_events.proofs.Stopping.{writes_open}
@@ -23,7 +23,7 @@ use Rattle.vx_events.specs.GroupLines.{is_over_group}
 use Rattle.vx_events.specs.GroupNotes.{note_at}
 use Rattle.vx_events.specs.Brights.{told_for}
 use Rattle.vx_events.specs.Lines.{EndsBy, IsRefusedLine, is_of_links}
-use Rattle.vx_events.specs.RvgLinks.{links_rvg}
+use Rattle.vx_events.specs.OpenLines.{is_open}
 use Rattle.vx_events.specs.RvgMakes.{RvgStops}
 use Rattle.vx_events.specs.RvgOver.{OpensFor}
 use Rattle.vx_events.specs.RvgSteps.{AgreeFor, AsBefore, FoundOne, FullBy, Gained, StepFull, WorksAbove, WorksBeside, WorksFull, is_for_rvg, rvg_place}
@@ -101,9 +101,9 @@ module _ (told : Type 0) (is_told : told) (files : Bool) (d : Doubted) (fails : 
       let s : ℕ = group_place d.world line in
       finds_stops told is_told d s (all.known s) fails said new line (all.agree (brings_found told d line s fails said new finds)) finds
 
-  above_stops : (links above : Bool) (line : ScriptLine) → AgreeFor d.world line new.world → is_for_rvg d.world line ≡ above → refused_over d.world files line ≡ None
-      → WorksAbove links above told d line fails said new → RvgStops d new
-  above_stops true above line all is free ends = links_over_stop told d line fails said new (is_told, all.known) ends
+  above_stops : (halts above : Bool) (line : ScriptLine) → AgreeFor d.world line new.world → is_for_rvg d.world line ≡ above → refused_over d.world files line ≡ None
+      → WorksAbove halts above told d line fails said new → RvgStops d new
+  above_stops true above line all is free ends = absurd ends
   above_stops false true line all is free ends =
       let s : ℕ = rvg_place d.world line in
       over_rvg_stops told is_told d s (all.known s) fails said new line (agrees_at d.world line new.world all) (opens_above told is_told files d fails said new line is free) ends
@@ -111,7 +111,7 @@ module _ (told : Type 0) (is_told : told) (files : Bool) (d : Doubted) (fails : 
 
   full_stops : (line : ScriptLine) → AgreeFor d.world line new.world → refused_over d.world files line ≡ None → WorksFull told d line fails said new → RvgStops d new
   full_stops (Rvg site srl maps volumes) all free ends = rvg_stops told d (Rvg site srl maps volumes) (site_number d.world site) fails said new ends
-  full_stops other all free ends = above_stops (links_rvg d.world other) (is_for_rvg d.world other) other all refl free ends
+  full_stops other all free ends = above_stops (is_open d.world other) (is_for_rvg d.world other) other all refl free ends
 
   by_refusal : (line : ScriptLine) (o : Option No) → AgreeFor d.world line new.world → refused_over d.world files line ≡ o → FullBy o told d line fails said new → RvgStops d new
   by_refusal line (Some why) all is step = refused_stops told is_told files d fails said new why step

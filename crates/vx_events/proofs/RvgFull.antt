@@ -1,63 +1,21 @@
 -- In a world in which no site is over a group of disks with a replicated volume group, a line that makes none does what it does there, but where it brings a
 -- group up and finds one.
-use Rattle.std.proofs.Common.{◌≡◌, ◌∙◌, ℕ, Bool, true, false, refl, ap, sym, subst}
-use Rattle.std.specs.Prelude.{Option, Some, None, ltb, ◌||◌, ◌&&◌}
+use Rattle.std.proofs.Common.{ℕ, Bool, false, sym, subst}
+use Rattle.std.specs.Prelude.{Option, Some, None}
 use Rattle.vx_model.specs.declared.no.No.{No}
 use Rattle.vx_history.specs.Doubts.{Doubted}
-use Rattle.vx_history.specs.Events.{packet_at}
-use Rattle.vx_history.specs.World.{Packet, World}
 use Rattle.vx_script.specs.declared.line.ScriptLine.{ScriptLine}
-use Rattle.vx_script.specs.declared.line.ScriptLine.TheVariants.{GroupDeport, GroupImport, Volume, PlexDetach, PlexAttach, Rvg, Disk, Crash, Fuse, Recover, Write, Put, Read, Show, Apply, Status, Deliver, Link, Pump, Set, Settle}
-use Rattle.vx_events.specs.Facts.{site_number}
+use Rattle.vx_script.specs.declared.line.ScriptLine.TheVariants.{Rvg}
 use Rattle.vx_events.specs.Fails.{Fails}
 use Rattle.vx_events.specs.GroupEnds.{BringsUp}
 use Rattle.vx_events.specs.RvgBack.{FindsNoRvg, FindsPlain, FindsRvg, GroupCutOff, GroupHeld, GroupUnfound, KeptLost, LogCut, LogFails, LogLacks, RvgBack, RvgFinds, RvgUp}
-use Rattle.vx_events.specs.RvgLinks.{links_rvg, rvg_target}
 use Rattle.vx_events.specs.Brights.{SitesBright, told_for}
 use Rattle.vx_events.specs.Lines.{is_of_links}
+use Rattle.vx_events.proofs.Opens.{for_none, open_none}
 use Rattle.vx_events.proofs.Tolds.{told_less, told_now, works_told}
 use Rattle.vx_events.specs.RvgSteps.{AsBefore, FoundOne, FoundPlain, FullBy, Gained, HasNoRvgs, MakesNoRvg, StepFull, WorksAbove, WorksBeside, WorksFull, is_for_rvg}
-use Rattle.vx_events.specs.RvgViews.{is_over_rvg}
 use Rattle.vx_events.specs.StepsOver.{OverBy, StepOver, WorksOver, group_place, is_for_group, refused_over}
 use Rattle.vx_events.specs.declared.said.Said.{Said}
-
-module _ (w : World) (none : HasNoRvgs w) where
-  either_none : (a b : Bool) → a ≡ false → b ≡ false → (a || b) ≡ false
-  either_none a b e f = ap (λ (x : Bool). x || b) e ∙ f
-
-  target_none : (o : Option Packet) → rvg_target w o ≡ false
-  target_none None = refl
-  target_none (Some p) = by (ltb p.target w.sites) (is_over_rvg (w.nodes p.target)) (none p.target)
-    where
-      by : (a b : Bool) → b ≡ false → (a && b) ≡ false
-      by true b is = is
-      by false b is = refl
-
-  pub links_none : (line : ScriptLine) → links_rvg w line ≡ false
-  links_none (Link p s sync prot) = either_none (is_over_rvg (w.nodes (site_number w p))) (is_over_rvg (w.nodes (site_number w s))) (none (site_number w p)) (none (site_number w s))
-  links_none (Set p s sync prot) = none (site_number w p)
-  links_none (Pump p s) = none (site_number w p)
-  links_none (Deliver number) = target_none (packet_at w.packets number)
-  links_none (Settle p s) = either_none (is_over_rvg (w.nodes (site_number w p))) (is_over_rvg (w.nodes (site_number w s))) (none (site_number w p)) (none (site_number w s))
-  links_none other = refl
-
-  for_none : (line : ScriptLine) → is_for_rvg w line ≡ false
-  for_none (GroupDeport site) = none (site_number w site)
-  for_none (GroupImport site) = none (site_number w site)
-  for_none (Volume site volume blocks mirrors layout log map policy) = none (site_number w site)
-  for_none (PlexDetach site volume plex) = none (site_number w site)
-  for_none (PlexAttach site volume plex) = none (site_number w site)
-  for_none (Disk site disk state) = none (site_number w site)
-  for_none (Crash site pick) = none (site_number w site)
-  for_none (Fuse site calls pick) = none (site_number w site)
-  for_none (Recover site) = none (site_number w site)
-  for_none (Write site volume start count fill) = none (site_number w site)
-  for_none (Put site volume start bytes) = none (site_number w site)
-  for_none (Read site volume start count) = none (site_number w site)
-  for_none (Show site volume start count) = none (site_number w site)
-  for_none (Apply site to) = none (site_number w site)
-  for_none (Status site) = none (site_number w site)
-  for_none other = refl
 
 -- what finds a replicated volume group brings a group up
 pub brings_back : (told : Type 0) (d : Doubted) (line : ScriptLine) (s : ℕ) (fails : Fails) (said : Said) (new : Doubted) → RvgBack told d line s fails said new → BringsUp line
@@ -85,14 +43,14 @@ module _ (told : Type 0) (files : Bool) (d : Doubted) (none : HasNoRvgs d.world)
   beside_full : (line : ScriptLine) → MakesNoRvg line → WorksBeside told d line fails said new → Full line
   beside_full (Rvg site srl maps volumes) makes works = absurd makes
   beside_full other makes works =
-      subst (λ (b : Bool). WorksAbove b (is_for_rvg d.world other) told d other fails said new) (sym (links_none d.world none other))
+      subst (λ (b : Bool). WorksAbove b (is_for_rvg d.world other) told d other fails said new) (sym (open_none d.world none other))
       (subst (λ (b : Bool). WorksAbove false b told d other fails said new) (sym (for_none d.world none other)) works)
 
   full_beside : (line : ScriptLine) → MakesNoRvg line → Full line → WorksBeside told d line fails said new
   full_beside (Rvg site srl maps volumes) makes works = absurd makes
   full_beside other makes works =
       subst (λ (b : Bool). WorksAbove false b told d other fails said new) (for_none d.world none other)
-      (subst (λ (b : Bool). WorksAbove b (is_for_rvg d.world other) told d other fails said new) (links_none d.world none other) works)
+      (subst (λ (b : Bool). WorksAbove b (is_for_rvg d.world other) told d other fails said new) (open_none d.world none other) works)
 
   over_by : (line : ScriptLine) → MakesNoRvg line → FoundPlain line (group_place d.world line) new → (o : Option No) → OverBy o (is_for_group d.world line) told d line fails said new
       → FullBy o told d line fails said new
