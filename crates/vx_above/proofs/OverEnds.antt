@@ -129,6 +129,7 @@ module _ {R : Type 0} {g : Ghosts R} where
             world = ap (λ (x : Fuse). with_node e.world s (noted_node m next x)) (sym lit)
                 ∙ ap (λ (y : Node). with_node e.world s (noted_node y next (fuse_behind line n.fuse y.fuse))) (sym reach.here);
             after = λ i. refl;
+            strayed = refl;
           }
 
           ends_over : (borne ending fails : Fails) (inner said : Said) → fails ≡ borne ++ ending → AreOf s borne → Ends (IsKnown (IsTold new) note) d line (site_of d.world line) ending inner e

@@ -178,7 +178,7 @@ resolved_changes d s false = record {
 }
 resolved_changes d s true = by_doubt (d.after s)
   where
-    by_doubt : (o : Option After) → ChangesAt s d (record { world = taken_up d.world s o; after = updated d.after s None })
+    by_doubt : (o : Option After) → ChangesAt s d (record { world = taken_up d.world s o; after = updated d.after s None; strayed = d.strayed })
     by_doubt None = record {
       site = record {
         sites = refl;

@@ -51,7 +51,7 @@ fit_without d s fit =
     fit_moves d (record d { after = updated d.after s None }) (moves_same All d.world) (λ p _. refl) (λ p a e. ((left_doubts d.after s p a e).0, tt)) fit
 
 -- a site that turns out to be what it was in doubt of
-pub fit_taken : (d : Doubted) (s : ℕ) (a : After) → d.after s ≡ Some a → LinksFit d → LinksFit (record { world = resolved d.world s a; after = updated d.after s None })
+pub fit_taken : (d : Doubted) (s : ℕ) (a : After) → d.after s ≡ Some a → LinksFit d → LinksFit (record { world = resolved d.world s a; after = updated d.after s None; strayed = d.strayed })
 fit_taken d s a is fit = record {
   rows = all_updated (λ (p : ℕ) (row : ℕ → LinkOf). RowFits p d.world.sites row) d.world.links s a.row f.row (λ p _. fit.rows p);
   later = all_updated (λ (p : ℕ) (n : Node). d.world.sites ≤ p → n.state ≡ Bare) d.world.nodes s a.node
@@ -105,7 +105,7 @@ pub fit_resolved : (d : Doubted) (s : ℕ) (taken : Bool) → LinksFit d → Lin
 fit_resolved d s false fit = fit_without d s fit
 fit_resolved d s true fit = by_doubt (d.after s) refl
   where
-    by_doubt : (o : Option After) → d.after s ≡ o → LinksFit (record { world = taken_up d.world s o; after = updated d.after s None })
+    by_doubt : (o : Option After) → d.after s ≡ o → LinksFit (record { world = taken_up d.world s o; after = updated d.after s None; strayed = d.strayed })
     by_doubt None e = fit_without d s fit
     by_doubt (Some a) e = fit_taken d s a e fit
 

@@ -14,6 +14,7 @@ use Rattle.vx_report.specs.declared.view.LinkView.{LinkView}
 use Rattle.vx_report.specs.declared.view.SiteView.{SiteView}
 use Rattle.vx_script.specs.declared.line.ScriptLine.{ScriptLine}
 use Rattle.vx_events.proofs.Steps.{no_sites}
+use Rattle.vx_events.proofs.Straying.{run_strays}
 use Rattle.vx_events.specs.Doubts.{sure, doubt_chosen, run_as}
 use Rattle.vx_events.specs.Ends.{IsLeft, noted}
 use Rattle.vx_events.specs.LinkViews.{link_views, linked_view, views_by}
@@ -51,6 +52,7 @@ pub left_sure : (s : ℕ) (line : ScriptLine) (w : World) (es : List Event) (new
 left_sure s line w es new is = record {
   world = is ∙ ap (λ (v : World). noted s line v) (sym (run_world (sure w) es));
   after = λ i. sym (run_calm (sure w) es (λ _. refl) i);
+  strayed = sym (run_strays false (sure w) es);
 }
 
 -- ---- what is said

@@ -45,6 +45,7 @@ pub mod Rows
 pub mod Steps
 pub mod Stopping
 pub mod StoppingCuts
+pub mod Straying
 pub mod Testing
 pub mod Tolds
 pub mod Values

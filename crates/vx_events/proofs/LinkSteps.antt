@@ -46,7 +46,7 @@ link_line = Link a b NeverWaits FailsWhenFull
 links : LineStep (Unit {0}) false two link_line [] Done (behind two link_line)
 unfolding line_refusal first_said_no first_name second_name need_of halt_of line_role line_unknown taken over_limit wrong_size span_of ask_of is_raw_shape
 links = record {
-  ends = LinksDone (run_as false two (link_events two.world link_line)) (runs_as false two (link_events two.world link_line)) refl refl refl (record { world = refl; after = λ s. refl });
+  ends = LinksDone (run_as false two (link_events two.world link_line)) (runs_as false two (link_events two.world link_line)) refl refl refl (record { world = refl; after = λ s. refl; strayed = refl });
   counts = tt;
   works = λ said. (refl, refl);
   calls = λ said. (tt, tt);
@@ -65,7 +65,7 @@ sets : LineStep (Unit {0}) false (behind two link_line) set_line ((0, 0) ∷ [])
 unfolding line_refusal first_said_no first_name second_name need_of halt_of line_role line_unknown taken over_limit wrong_size span_of ask_of is_raw_shape
 sets = record {
   ends = LinksHalt (SetAt 0 1 FailsIfNotLive FailsWhenFull) 0 0 (behind two link_line)
-      (record { before = []; rest = []; split = refl; runs = refl; fails = refl; opens = (refl, refl); writes = refl }) (λ none. refl) refl refl (record { world = refl; after = λ s. refl });
+      (record { before = []; rest = []; split = refl; runs = refl; fails = refl; opens = (refl, refl); writes = refl }) (λ none. refl) refl refl (record { world = refl; after = λ s. refl; strayed = refl });
   counts = tt;
   works = λ said. refl;
   calls = λ said. tt;
@@ -82,13 +82,13 @@ crashed taken =
 crashes : (taken : Bool) → LineStep (Unit {0}) false doubt crash_line [] Done (crashed taken)
 unfolding line_refusal first_said_no first_name second_name need_of halt_of line_role line_unknown taken over_limit wrong_size span_of ask_of is_raw_shape
 crashes true = record {
-  ends = AllDone (record { kept = 0; reached = 0 }) true tt refl (record { world = refl; after = λ s. refl });
+  ends = AllDone (record { kept = 0; reached = 0 }) true tt refl (record { world = refl; after = λ s. refl; strayed = refl });
   counts = tt;
   works = tt;
   calls = tt;
 }
 crashes false = record {
-  ends = AllDone (record { kept = 0; reached = 0 }) false tt refl (record { world = refl; after = λ s. refl });
+  ends = AllDone (record { kept = 0; reached = 0 }) false tt refl (record { world = refl; after = λ s. refl; strayed = refl });
   counts = tt;
   works = tt;
   calls = tt;

@@ -31,7 +31,7 @@ first_and_rest (suc k) (e ∷ es) = ap (λ (t : List Event). e ∷ t) (first_and
 
 is_left : (line : ScriptLine) (d : Doubted) (es : List Event) → PartLeft line d es (part_left line d es)
 is_left line d [] = refl
-is_left line d (e ∷ es) = record { world = refl; after = λ s. refl }
+is_left line d (e ∷ es) = record { world = refl; after = λ s. refl; strayed = refl }
 
 pub part_stops : (d : Doubted) (line : ScriptLine) (c : Choice) (k : ℕ) → goes_in_parts line ≡ true → DonePart d line (first_part d line c k)
 part_stops d line c k parts =

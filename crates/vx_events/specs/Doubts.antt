@@ -4,9 +4,9 @@ use Rattle.vx_history.specs.Doubts.{Doubted, crashed_by, happened, resolved_for}
 use Rattle.vx_history.specs.World.{World, with_node}
 use Rattle.vx_history.specs.declared.event.Event.{Event}
 
--- a world of which no site is in doubt
+-- a world of which no site is in doubt, and of which all is known
 abbrev pub sure : World → Doubted
-sure w = record { world = w; after = λ s. None }
+sure w = record { world = w; after = λ s. None; strayed = false }
 
 -- what an event begins with: where it crashes a site in doubt, that site is first one of the two
 abbrev pub doubt_chosen : (taken : Bool) → Doubted → Event → Doubted
@@ -27,3 +27,4 @@ with_disks false s w v = v
 pub record IsAs (d : Doubted) (v : World) (new : Doubted) : Type 0 where
   pub world : new.world ≡ v
   pub after : (s : ℕ) → new.after s ≡ d.after s
+  pub strayed : new.strayed ≡ d.strayed

@@ -338,7 +338,7 @@ module _ {R : Type 0} {g : Ghosts R} where
                 (like_named s many fails a b names goes.was go.config (λ u j. logs_low goes.was many u j (omega arith)) note.maps go.maps go.by),
             refl,
           )
-              (record { world = refl; after = λ i. refl }));
+              (record { world = refl; after = λ i. refl; strayed = refl }));
           stands = follows.stands;
           carries = follows.carries;
           rose = rose d (GroupDeport name) old new s before after stands it many;

@@ -127,14 +127,14 @@ module _ {R : Type 0} {g : Ghosts R} where
       not_there : (why : No) → IsNoDevice why → SiteStands (beside_of d s) n after → new.facts.items ≡ old.facts.items → LeadsFound d (Recover name) (SaidNo why) old new
       not_there why other here facts =
           ended [] (SaidNo why) here facts
-          (FindsNone never first_choice false name d (raw_set s n) why refl (FromBare site.bare refl refl) other refl refl (record { world = refl; after = λ i. refl })) rose_here
+          (FindsNone never first_choice false name d (raw_set s n) why refl (FromBare site.bare refl refl) other refl refl (record { world = refl; after = λ i. refl; strayed = refl })) rose_here
 
       by_why : (why : No) → ImportWhy ⊥ ⊥ (bare_disks before) (bare_disks after) (Refused why) → SiteStands (beside_of d s) n after → new.facts.items ≡ old.facts.items → LeadsFound d (Recover name) (SaidNo why) old new
       by_why (Device disk) because here facts =
           let rose : Rose (faults_at before disk) (faults_at after disk) = subst (λ (k : ℕ). Rose k (faults_at after disk)) (bare_counts (beside_of d s) n before site.stood site.bare disk)
           (subst (λ (k : ℕ). Rose ((bare_disks before).disk_faults disk) k) (bare_counts (beside_of d s) n after here site.bare disk) because) in
           ended ((s, disk) ∷ []) (SaidNo (Device disk)) here facts
-          (DiskFails first_choice false [] (RecoverAt s None) [] [] disk (bare_events d s name site.number site.bare) (inl refl) tt refl refl (record { world = refl; after = λ i. refl }))
+          (DiskFails first_choice false [] (RecoverAt s None) [] [] disk (bare_events d s name site.number site.bare) (inl refl) tt refl refl (record { world = refl; after = λ i. refl; strayed = refl }))
           (rose_at old new s disk before after changed rose)
       by_why (Lacks disk) because here facts = not_there (Lacks disk) tt here facts
       by_why NoConfig because here facts = not_there NoConfig tt here facts
@@ -232,7 +232,7 @@ module _ {R : Type 0} {g : Ghosts R} where
           ends =
               subst (λ (x : Doubted). GroupEnds (IsTold new) d (Recover name) s [] (Resumed view None) (noted_at x s note))
               (ap (λ (t : SiteState). run_as false d (group_recovery t s)) site.bare)
-              (FindsGroup note tt tt (inl never) (λ told. absurd (never told)) (None, ap (λ (v : SiteView). Resumed v None) shown) (record { world = refl; after = λ i. refl }))
+              (FindsGroup note tt tt (inl never) (λ told. absurd (never told)) (None, ap (λ (v : SiteView). Resumed v None) shown) (record { world = refl; after = λ i. refl; strayed = refl }))
 
   -- ---- the site of the line
 

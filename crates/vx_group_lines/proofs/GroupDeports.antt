@@ -143,7 +143,7 @@ module _ {R : Type 0} {g : Ghosts R} where
               (like_named s many fails (site_disks was_site) (site_disks then.set.site) names goes.was go.config (λ u j. logs_low goes.was many u j (omega arith)) note.maps go.maps go.by),
           refl,
         )
-        (record { world = refl; after = λ i. refl }))
+        (record { world = refl; after = λ i. refl; strayed = refl }))
         (follows_off d last s m k (deported_facts (fact_of_group n note)) old new before then.set stands it.call.at.below
         (subst (λ (x : DiskSet R g). Changed old new s before x) then.is it.call.changed)
         (arrives_worked d e s _ k None (arrives_away d d s n (d.world.gathering s) (begins_at d old name s before stands it.call.at) it.call.at.below it.up none.running none.log none.safe))

@@ -168,7 +168,7 @@ module _ {R : Type 0} {g : Ghosts R} where
           },
           refl,
         )
-        (record { world = refl; after = λ i. refl }))
+        (record { world = refl; after = λ i. refl; strayed = refl }))
         (follows_on d last s m next f old new before then.set stands call.at.below (called_to d old new name s before after stands call then.set then.is)
         (arrives_worked d e s (group_up n) next (d.world.gathering s)
         (arrives_up d d s n (d.world.gathering s) (begins_at d old name s before stands call.at) call.at.below (ap (λ t. is_at_rest t) away) none.role none.volumes none.log))
@@ -233,7 +233,7 @@ module _ {R : Type 0} {g : Ghosts R} where
         = arrives_up d d s n (d.world.gathering s) (begins_at d old name s before stands call.at) call.at.below (ap (λ t. is_at_rest t) away) none.role none.volumes none.log in
         let clear : cut_value next.cut ≡ None = cut_of d old new name s before after stands call next is None (cut ∙ ap (λ (x : DiskSet R g). cut_in x) call.at.is_set ∙ set_clear) in
         leads_by d last (GroupImport name) s (calls s old new n.disks) (Refused IsOff) old new place
-        (GroupCut k (calls_are d old new name s before after stands call n.disks) fused (notes_refused true dims note) refl (record { world = refl; after = λ i. refl }))
+        (GroupCut k (calls_are d old new name s before after stands call n.disks) fused (notes_refused true dims note) refl (record { world = refl; after = λ i. refl; strayed = refl }))
         (follows_off d last s m k (down_fact (fact_of_group n note)) old new before next stands call.at.below (called_to d old new name s before after stands call next is)
         (arrives_worked d e s (crashed (group_up n) 0) k None (arrives_crash d first s (group_up n) (d.world.gathering s) risen (omega (arith, call.at.below, risen.site.sites)) refl none.log none.safe))
         (λ up. let w : IsDown ≡ IsUp = up in absurd (cc))
@@ -266,8 +266,8 @@ module _ {R : Type 0} {g : Ghosts R} where
 
       known_ends : (why : No) (fails : Fails) → AreOf s fails → KnownBy (IsTold new) (is_late why) dims s note fails why
           → GroupEnds (IsTold new) d (GroupImport name) s fails (Refused why) (record d { world = worked_on (noting d.world s (left (is_late why))) s })
-      known_ends why fails of (inl (none, leaves)) = GroupNotFound why (left (is_late why)) of tt none leaves refl (record { world = refl; after = λ i. refl })
-      known_ends why fails of (inr (nothing, device)) = FindsNoGroup (left (is_late why)) why of tt nothing device (notes_refused (is_late why) dims note) refl (record { world = refl; after = λ i. refl })
+      known_ends why fails of (inl (none, leaves)) = GroupNotFound why (left (is_late why)) of tt none leaves refl (record { world = refl; after = λ i. refl; strayed = refl })
+      known_ends why fails of (inr (nothing, device)) = FindsNoGroup (left (is_late why)) why of tt nothing device (notes_refused (is_late why) dims note) refl (record { world = refl; after = λ i. refl; strayed = refl })
 
       by_case : (why : No) (next : GroupSet R g) → after ≡ OfGroup next → ImportCases dims n note (as_imported was_site) next.site why → CameMapped was_site next.site (Err (StopsBy why))
           → IsNotedRefusal s (fact_of_group (d.world.nodes s) (note_at (d.world.nodes s))) why mid new result → LeadsOverIs d (GroupImport name) old new result
@@ -278,8 +278,8 @@ module _ {R : Type 0} {g : Ghosts R} where
           let has : Contains (calls s old new many) (s, disk) = names_at next is many disk (omega arith) rose in
           subst (λ (x : Result Said OutOfMemory). LeadsOverIs d (GroupImport name) old new x) (sym r.said)
           (away_leads true (Device disk) many next is stays (left_stands true (StopsBy why) next (ap (λ (w : No). is_late w) (sym device)) stays.0 came) (facts_still (below_facts (Device disk) (fact_of_group n note)) refl r.facts) (load_on old mid new half r.same r.assemblies)
-          (GroupFails disk (left true) of has (notes_refused true dims note) refl (record { world = refl; after = λ i. refl }))
-          (ImportFails (Device disk) (left true) name refl of has (notes_refused true dims note) refl (record { world = refl; after = λ i. refl })))
+          (GroupFails disk (left true) of has (notes_refused true dims note) refl (record { world = refl; after = λ i. refl; strayed = refl }))
+          (ImportFails (Device disk) (left true) name refl of has (notes_refused true dims note) refl (record { world = refl; after = λ i. refl; strayed = refl })))
       by_case why next is (inr (inl (off, down, fused))) came refusal =
           let r : IsNotedRefusal s (fact_of_group n note) IsOff mid new result = subst (λ (w : No). IsNotedRefusal s (fact_of_group n note) w mid new result) off refusal in
           subst (λ (x : Result Said OutOfMemory). LeadsOverIs d (GroupImport name) old new x) (sym r.said)
@@ -296,7 +296,7 @@ module _ {R : Type 0} {g : Ghosts R} where
           (away_leads (is_late why) why many next is stays (left_stands (is_late why) (StopsBy why) next refl stays.0 came) (facts_still (below_facts why (fact_of_group n note)) (w.quiet.facts (fact_of_group n note)) refusal.facts)
           (load_on old mid new half refusal.same (w.quiet.loads s mid.assemblies.items new.assemblies.items refusal.assemblies))
           (known_ends why (calls s old new many) of w.known)
-          (ImportFails why (left (is_late why)) name refl of w.refuses (notes_refused (is_late why) dims note) refl (record { world = refl; after = λ i. refl })))
+          (ImportFails why (left (is_late why)) name refl of w.refuses (notes_refused (is_late why) dims note) refl (record { world = refl; after = λ i. refl; strayed = refl })))
 
       -- memory ran out: nothing was done, but the fuse may have burned, or be lost, and it may not be known any more what the disks hold
       memory_part : (new_is : Doubted) → over_group_at d.world name ≡ true
@@ -314,7 +314,7 @@ module _ {R : Type 0} {g : Ghosts R} where
           let e : Doubted = record d { world = fuse_lost (noting d.world s (left false)) s } in
           record {
             next = e;
-            part = memory_part e over (inr (record { world = refl; after = λ i. refl }));
+            part = memory_part e over (inr (record { world = refl; after = λ i. refl; strayed = refl }));
             stands = follows.stands;
             carries = follows.carries;
             rose = calls_none d old new name s before after stands call;
@@ -324,7 +324,7 @@ module _ {R : Type 0} {g : Ghosts R} where
           let e : Doubted = record d { world = worked_on (noting d.world s (left false)) s } in
           record {
             next = e;
-            part = memory_part e over (inl (record { world = refl; after = λ i. refl }));
+            part = memory_part e over (inl (record { world = refl; after = λ i. refl; strayed = refl }));
             stands = follows.stands;
             carries = follows.carries;
             rose = calls_none d old new name s before after stands call;

@@ -200,7 +200,7 @@ module _ {R : Type 0} {g : Ghosts R} where
         let cut : cut_value to.set.cut ≡ None = ap (λ (x : DiskSet R g). cut_in x) (sym to.is) ∙ begun.1 in
         let fails : FailsAs m (OfGroup to.set) = subst (λ (x : DiskSet R g). FailsAs m x) to.is (fails_then n m before after refl failing (stands.failing s before site.at.below changed.there)) in
         leads_by d e (GroupInit name) s fails_here Done old new site.at.number
-        (GroupDone note (calls_of s (count_of old s) (count_of new s) n.disks) (first.0, refl) (record { world = refl; after = λ i. refl }))
+        (GroupDone note (calls_of s (count_of old s) (count_of new s) n.disks) (first.0, refl) (record { world = refl; after = λ i. refl; strayed = refl }))
         (follows_on d e s m note (group_up_facts [] (linked_fact d.world s)) old new before to.set stands site.at.below
         (subst (λ (x : DiskSet R g). Changed old new s before x) to.is changed)
         (arrives_noted d h s (group_set s n) note (d.world.gathering s)
@@ -232,7 +232,7 @@ module _ {R : Type 0} {g : Ghosts R} where
             let rose : Rose (faults_at before disk) (faults_at after disk) = subst (λ (x : DiskSet R g). Rose (faults_at before disk) (faults_at x disk)) (sym to.is)
             (subst (λ (k : ℕ). Rose k ((site_disks to.set.site).disk_faults disk)) (bare_counts (beside_of d s) n before site.at.stood site.at.bare disk) to.holds.1) in
             leads_by d d (GroupInit name) s ((s, disk) ∷ []) (SaidNo (Device disk)) old new site.at.number
-            (InitFails disk name refl (refl, tt) (0, omega arith, refl) refl (record { world = refl; after = λ i. refl }))
+            (InitFails disk name refl (refl, tt) (0, omega arith, refl) refl (record { world = refl; after = λ i. refl; strayed = refl }))
             (record { stands = still (λ e. BeginsGroup s n (bare_disks before) e (Err (Refused (Device disk)))) begun.0 here facts; carries = carries_same d old new load (told_by old new s before after changed) })
             (rose_at old new s disk before after changed rose)
         by (Refused other) begun = absurd (set_then (λ e. BeginsGroup s n (bare_disks before) e (Err (Refused other))) after begun.0).holds

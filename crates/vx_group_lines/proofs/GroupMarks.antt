@@ -167,7 +167,7 @@ module _ {R : Type 0} {g : Ghosts R} where
       let m : Node = record n { failing = updated n.failing disk on } in
       still_leads d old new name (Disk name disk state) s before after m stands at changed (place_at d old name s stands seat).number
       (GroupDone (note_at n) tt (refl, refl, refl)
-      (record { world = sym (ap (λ (v : World). made_fail v s disk on) (noting_same d.world s (note_at n) (group_noted_at d old name s before at))); after = λ i. refl }))
+      (record { world = sym (ap (λ (v : World). made_fail v s disk on) (noting_same d.world s (note_at n) (group_noted_at d old name s before at))); after = λ i. refl; strayed = refl }))
       (stands_failing (beside_of d s) n (updated n.failing disk on) after (keeps (beside_of d s) n (stands.disk_sets.sites s before at.below changed.there))) at.over
       (record { state = refl; halted = refl; role = refl; rests = record { quiet = λ q. q; rests = λ q. q }; first = λ site was. begins_like site n m (λ bare. bare) refl refl refl refl was }) refl
       (none_as n m refl refl refl refl refl (none_at d old name s before at)) refl
@@ -195,7 +195,7 @@ module _ {R : Type 0} {g : Ghosts R} where
       let sets = asked (beside_of d s) n there up in
       still_leads d old new name (Fuse name calls pick) s before after m stands at changed (place_at d old name s stands seat).number
       (GroupDone (note_at n) tt (refl, refl, refl)
-      (record { world = sym (ap (λ (v : World). fused v s calls) (noting_same d.world s (note_at n) (group_noted_at d old name s before at))); after = λ i. refl }))
+      (record { world = sym (ap (λ (v : World). fused v s calls) (noting_same d.world s (note_at n) (group_noted_at d old name s before at))); after = λ i. refl; strayed = refl }))
       (fuses (beside_of d s) n there up) at.over (record { state = refl; halted = refl; role = refl; rests = record { quiet = λ q. q; rests = λ q. q }; first = λ site was. begins_like site n m (λ bare. bare) refl refl refl refl was }) refl
       (none_as n m refl refl refl refl refl (none_at d old name s before at)) refl
       (fails_then n m before after refl (fuse_keeps calls pick before after sets) (stands.failing s before at.below changed.there))
@@ -224,5 +224,5 @@ module _ {R : Type 0} {g : Ghosts R} where
       let noted : (last.world.nodes s).group ≡ Some (note_at n) = ap (λ (x : Doubted). (x.world.nodes s).group) is ∙ f.group ∙ group_noted_at d old name s before at in
       leads_by d (crash_of d s f.count f.taken) (Crash name pick) s [] Done old new (place_at d old name s stands seat).number
       (subst (λ (x : Doubted). GroupEnds (IsTold new) d (Crash name pick) s [] Done x) is
-      (GroupDone (note_at n) tt (refl, refl, refl) (record { world = sym (noting_same last.world s (note_at n) noted); after = λ i. refl })))
+      (GroupDone (note_at n) tt (refl, refl, refl) (record { world = sym (noting_same last.world s (note_at n) noted); after = λ i. refl; strayed = refl })))
       (record { stands = f.stands; carries = f.carries }) f.rose

@@ -165,7 +165,7 @@ module _ {R : Type 0} {g : Ghosts R} where
         } in
         leads_by d behind line s (calls s old new many) (Got bytes) old new place_is
         (got_ends (IsTold new) d behind line name volume start count s (calls s old new many) (Got bytes) is (calls_are d old new name s before after stands called many)
-        (subst (λ (v : ℕ). GivesPlain (IsTold new) note v start count (Got bytes)) (sym plain.volume_is) gives) (record { world = refl; after = λ i. refl }))
+        (subst (λ (v : ℕ). GivesPlain (IsTold new) note v start count (Got bytes)) (sym plain.volume_is) gives) (record { world = refl; after = λ i. refl; strayed = refl }))
         (follows to.set to.is to.holds.1 (on_both (λ o e. StaysMapped o e) before after called.at.set to.set called.at.is_set to.is maps) cut) (calls_all d old new name s before after stands called many)
 
     pub read_stops : (no : No) → OnSites (λ o e. GavePlain n note place start o e (Err no)) before after → OnSites (λ o e. StaysMapped o e) before after → cut_in after ≡ cut_in before → LeadsOver d line (Refused no) old new
@@ -178,7 +178,7 @@ module _ {R : Type 0} {g : Ghosts R} where
         (unread_ends (IsTold new) d behind line name volume start count s disk (calls s old new many) is (calls_are d old new name s before after stands called many)
         (calls_named d old new name s before after stands called called.at.set to.set called.at.is_set to.is many disk (omega arith) to.holds.1)
         (subst (λ (v : ℕ). VolumeOut s (calls s old new many) note v) (sym plain.volume_is)
-        (volume_out n note called.at.set.site place s many (calls s old new many) (site_disks to.set.site) (up_noted n called.at.set.site called.at.stands.stands plain.up) names to.holds.2)) (record { world = refl; after = λ i. refl }))
+        (volume_out n note called.at.set.site place s many (calls s old new many) (site_disks to.set.site) (up_noted n called.at.set.site called.at.stands.stands plain.up) names to.holds.2)) (record { world = refl; after = λ i. refl; strayed = refl }))
         (follows to.set to.is to.holds.0 (on_both (λ o e. StaysMapped o e) before after called.at.set to.set called.at.is_set to.is maps) cut) (calls_all d old new name s before after stands called many)
     read_stops other gave maps cut = absurd (sets_then (λ o e. GavePlain n note place start o e (Err other)) before after called.at.set called.at.is_set gave).holds
 

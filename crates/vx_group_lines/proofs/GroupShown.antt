@@ -109,5 +109,5 @@ module _ {R : Type 0} {g : Ghosts R} where
       let at : GroupAt d y name s e = group_at d y name s e stands seat over there in
       leads_by d d (Status name) s [] (Shown view) y y (place_at d y name s stands seat).number
       (GroupDone (note_at n) tt (refl, refl, ap (λ (x : SiteView). Shown x) (shows_group d y name s e view at there up off))
-      (record { world = sym (noting_same d.world s (note_at n) (group_noted_at d y name s e at)); after = λ i. refl }))
+      (record { world = sym (noting_same d.world s (note_at n) (group_noted_at d y name s e at)); after = λ i. refl; strayed = refl }))
       (record { stands = stands; carries = λ was. was }) (rose_none (count_of y) (count_of y) (λ i u. omega arith))

@@ -228,7 +228,7 @@ module _ {R : Type 0} {g : Ghosts R} where
               (write_named s many (fails many) (site_disks called.at.set.site) (site_disks to.set.site) (named to.set to.is many (omega arith)) goes.was goes.now (λ u j. logs_low goes.was many u j (omega arith)) note.maps go.maps x go.by);
           is = refl;
         })
-        (record { world = refl; after = λ i. refl }))
+        (record { world = refl; after = λ i. refl; strayed = refl }))
         (up_follows d old new name s before after stands called k to.set plain.up to.is up (stand_as (with_maps go.maps middle) k to.set.site refl refl refl go.stands)
         (rvg_goes note middle goes.was goes.now goes.noted goes.noted_now goes.change.parts.rvg ∙ plain_were d old new name s before after stands called) settles.same.cut cut (fuse_on k to.set to.is up) (fact_of_group n note)
         (seen_as n (with_note k n) note k refl refl refl refl (table to.set to.is middle to.holds.3)) (facts_still facts) load)
@@ -256,7 +256,7 @@ module _ {R : Type 0} {g : Ghosts R} where
               (doubt_named s many (fails many) (site_disks called.at.set.site) (site_disks to.set.site) (named to.set to.is many (omega arith)) goes.was goes.now (λ u j. logs_low goes.was many u j (omega arith)) note.maps go.maps x go.by);
           is = refl;
         })
-        (record { world = refl; after = λ i. refl }))
+        (record { world = refl; after = λ i. refl; strayed = refl }))
         (up_follows d old new name s before after stands called k to.set plain.up to.is up (stand_as (with_maps go.maps middle) k to.set.site refl refl refl go.stands)
         (rvg_goes note middle goes.was goes.now goes.noted goes.noted_now goes.change.parts.rvg ∙ plain_were d old new name s before after stands called) unsettles.same.cut cut (fuse_on k to.set to.is up) (fact_of_group n note)
         (seen_as n (with_note k n) note k refl refl refl refl (table to.set to.is middle to.holds.4)) facts load)
@@ -291,7 +291,7 @@ module _ {R : Type 0} {g : Ghosts R} where
           moves = with_goes (Reconfigures (ConfigLoses s (fails many)) (NoteUnsettles false)) MapsLost note middle goes.was goes.now no_maps goes.noted goes.noted_now (moves to.set to.is middle (NoteUnsettles false) goes unsettles many (omega arith) (omega arith)) (record { none = λ v. refl });
           is = refl;
         })
-        (record { world = refl; after = λ i. refl }))
+        (record { world = refl; after = λ i. refl; strayed = refl }))
         (off_follows d old new name s before after stands called k to.set plain.up to.is down (stand_as (with_maps no_maps middle) k to.set.site refl refl refl lost)
         (rvg_goes note middle goes.was goes.now goes.noted goes.noted_now goes.change.parts.rvg ∙ plain_were d old new name s before after stands called) cut
         (cut_fits k to.set.cut (record { some = fits.some; whole = fits.whole; within = omega (arith, fits.within, ap (λ c. c.size place) unsettles.same.bytes) })

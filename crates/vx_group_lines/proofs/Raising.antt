@@ -169,7 +169,7 @@ module _ {R : Type 0} {g : Ghosts R} where
     -- what a recovery notes that is refused
     left_last : (late : Bool) (d : Doubted) (comes : ComesDown d e s)
         → let last = run_as false d (crash_first (d.world.nodes s).state s) in IsAs last (noting last.world s (left_note late)) (noted_at e s (left_note late))
-    left_last late d comes = subst (λ (x : Doubted). IsAs x (noting x.world s (left_note late)) (noted_at e s (left_note late))) (sym (refused_as d e s comes)) (record { world = refl; after = λ i. refl })
+    left_last late d comes = subst (λ (x : Doubted). IsAs x (noting x.world s (left_note late)) (noted_at e s (left_note late))) (sym (refused_as d e s comes)) (record { world = refl; after = λ i. refl; strayed = refl })
 
     left_notes : (late : Bool) (d : Doubted) → ComesDown d e s → NotesRefused (note_at (d.world.nodes s)) (left_note late)
     left_notes late d comes = subst (λ (k : GroupNode). NotesRefused k (left_note late)) comes.note (notes_refused late dims note)

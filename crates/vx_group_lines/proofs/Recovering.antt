@@ -97,7 +97,7 @@ module _ (told : Type 0) (d e : Doubted) (name : List ℕ) (s : ℕ) (next : Gro
     next = next;
     notes = subst (λ (k : ℕ). NotesShort (note_at (d.world.nodes k)) next) (sym place) (subst (λ (k : GroupNode). NotesShort k next) comes.note notes);
     leads = subst (λ (k : ℕ). let last = run_as false d (crash_first (d.world.nodes k).state k) in IsAs last (noting last.world k next) (noted_at e s next)) (sym place)
-        (subst (λ (x : Doubted). IsAs x (noting x.world s next) (noted_at e s next)) (sym (refused_as d e s comes)) (record { world = refl; after = λ i. refl }));
+        (subst (λ (x : Doubted). IsAs x (noting x.world s next) (noted_at e s next)) (sym (refused_as d e s comes)) (record { world = refl; after = λ i. refl; strayed = refl }));
   })
 
   -- a site that was down is as it was

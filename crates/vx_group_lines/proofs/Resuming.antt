@@ -258,13 +258,13 @@ module _ {R : Type 0} {g : Ghosts R} where
                   back_for t.set t.is MOST_DISKS (omega arith) d comes,
                   maps_for t.set t.is d comes,
                   record { kept = shown; says = ap (λ (v : SiteView). Resumed v shown) (seen d comes); shows = shows yes_ d comes },
-                ) (record { world = refl; after = λ i. refl }))
+                ) (record { world = refl; after = λ i. refl; strayed = refl }))
                 (λ no_.
                 let nothing : NoneKnown (IsTold new) note next =
                 none_known (IsTold new) note next (site_disks m).tells no_ (λ told bright. known t.set t.is (told, bright)) (dark_moves (is_dimmed call.at.set.site) note next loose back.dark) in
                 FindsGroup next (calls_are e old new [] s before after begin.stands call MOST_DISKS) tt
                 (subst (λ (k : GroupNode). KnowsNothing (IsTold new) k) comes.note nothing.before) nothing.dark
-                (shown, ap (λ (v : SiteView). Resumed v shown) (seen d comes)) (record { world = refl; after = λ i. refl })))
+                (shown, ap (λ (v : SiteView). Resumed v shown) (seen d comes)) (record { world = refl; after = λ i. refl; strayed = refl })))
 
         -- it went down again
         unread : (disk : ℕ) → AtPlain (DownNoted (crashed (with_note (still_cut cut next) (returned_with next (e.world.nodes s))) 0) (still_cut cut next)) after → cut_in after ≡ cut_value cut
@@ -331,7 +331,7 @@ module _ {R : Type 0} {g : Ghosts R} where
                   cut = λ none. some (cut_for d comes ∙ none);
                   is = ap (λ (w : Option Write). let q : GroupNode = record next { cut = w } in q) (cut_for d comes);
                 })
-                refl (record { world = refl; after = λ i. refl }))
+                refl (record { world = refl; after = λ i. refl; strayed = refl }))
 
         pub looked : (answer : Result (Option KeptWrite) Stop) → RisesWith (returned_with next (e.world.nodes s)) next cut m after answer
             → StandsSo s (fact_of_group (e.world.nodes s) (note_at (e.world.nodes s))) c after answer mid new result → RisesIs e s old new result

@@ -102,13 +102,13 @@ module _ {R : Type 0} {g : Ghosts R} (d : Doubted) (old new : Yard R g) (name sr
     next = rvg_next d old new name srl maps volumes s before after stands at changed failing since middle settled
 
     makes : MakesRvg (IsTold new) d (Rvg name srl maps volumes) s fails Done next
-    makes = RvgDone name srl maps volumes middle (note_gained units settled) refl (calls_of s (count_of old s) (count_of new s) many) notes refl (record { world = refl; after = λ i. refl })
+    makes = RvgDone name srl maps volumes middle (note_gained units settled) refl (calls_of s (count_of old s) (count_of new s) many) notes refl (record { world = refl; after = λ i. refl; strayed = refl })
 
     fits : (c : Config) → config_of (note_gained units settled).config ≡ Some c → FitsSome (next.world.nodes s) c
     fits c is =
         made_fits (IsTold new) d (Rvg name srl maps volumes) s fails Done next c
         (record { below = at.group.below; up = at.up; running = none.running; role = none.role; volumes = none.volumes; log = none.log }) makes refl
-        (ap (λ (x : GroupNode). config_of x.config) (gained_note s (note_gained units settled) (run_as false (noting_in d s middle) (volume_events note s units)) next (record { world = refl; after = λ i. refl })) ∙ is)
+        (ap (λ (x : GroupNode). config_of x.config) (gained_note s (note_gained units settled) (run_as false (noting_in d s middle) (volume_events note s units)) next (record { world = refl; after = λ i. refl; strayed = refl })) ∙ is)
 
     pub gained_leads : ((core : Core) (c : Config) → core_in after ≡ Some core → AtSite (λ x. site_config x ≡ Some c) after → new.facts.items ≡ slice_set old.facts.items s (made_facts core c (fact_of_group (d.world.nodes s) (note_at (d.world.nodes s)))))
         → SameLoad old new → LeadsRvg d name srl maps volumes Done old new

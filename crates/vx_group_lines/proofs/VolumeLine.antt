@@ -89,10 +89,10 @@ module _ {R : Type 0} {g : Ghosts R} where
       call = behind d old mid new name s before after (record { at = at; changed = changed; failing = failing }) rest;
       is_line = record {
         place = (place_at d old name s stands seat).number;
-        done = λ k. record { world = refl; after = λ i. refl };
-        broke = λ k. record { world = refl; after = λ i. refl };
-        lacks = λ k. record { world = refl; after = λ i. refl };
-        off = λ k. record { world = refl; after = λ i. refl };
+        done = λ k. record { world = refl; after = λ i. refl; strayed = refl };
+        broke = λ k. record { world = refl; after = λ i. refl; strayed = refl };
+        lacks = λ k. record { world = refl; after = λ i. refl; strayed = refl };
+        off = λ k. record { world = refl; after = λ i. refl; strayed = refl };
       };
       up = up;
       cut = cut;

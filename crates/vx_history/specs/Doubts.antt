@@ -12,10 +12,12 @@ pub record After : Type 0 where
   pub node : Node
   pub row : ℕ → Link
 
--- a world, and for each halted site what it may be on its disks
+-- A world, and for each halted site what it may be on its disks. Where a log came up from disks of which nothing was known, the world may have strayed: what it notes
+-- of the site is what was found there, and no law of what went before holds of it.
 pub record Doubted : Type 0 where
   pub world : World
   pub after : ℕ → Option After
+  pub strayed : Bool
 
 -- the world with such a site and its links in place of its own
 abbrev pub resolved : World → ℕ → After → World
@@ -32,11 +34,12 @@ halved d e site disk =
     record {
       world = record (stopped_by d.world site disk) { headers = done.headers };
       after = updated d.after site (Some (record { node = (stopped_by done site disk).nodes site; row = done.links site }));
+      strayed = d.strayed;
     }
 
 -- the site is what it was before the event that failed, or behind it, and nothing of it is in doubt
 abbrev pub resolved_at : Doubted → (site : ℕ) → (taken : Bool) → Doubted
-resolved_at d site taken = record { world = if taken then taken_up d.world site (d.after site) else d.world; after = updated d.after site None }
+resolved_at d site taken = record { world = if taken then taken_up d.world site (d.after site) else d.world; after = updated d.after site None; strayed = d.strayed }
 
 -- a crash keeps one of the two, by what stands on the site's disks
 abbrev pub crashed_as : Doubted → (site kept : ℕ) → (taken : Bool) → Doubted

@@ -38,7 +38,7 @@ pub record IsBehind (d : Doubted) (line : ScriptLine) (note : (ℕ → Node) →
 
 module _ (told : Type 0) (d : Doubted) (line : ScriptLine) (note : (ℕ → Node) → ℕ → Node) (e : Event) (s : ℕ) (middle : Doubted) (b : IsBehind d line note e s middle) where
   left : (last : Doubted) → AreLeft line d last (noted_by note last)
-  left last = record { world = sym (b.notes last.world); after = λ i. refl }
+  left last = record { world = sym (b.notes last.world); after = λ i. refl; strayed = refl }
 
   comes : ComesTo d (link_events d.world line) e s middle
   comes = record { before = b.before; rest = b.rest; split = b.split; runs = b.runs; fails = b.none; opens = b.opens; writes = b.writes }

@@ -325,7 +325,7 @@ module _ {R : Type 0} {g : Ghosts R} where
         done = record {
           ends = LinksDone (behind d (DeliverAt number)) (false, refl) refl refl
               (subst (λ (o : Outcome). RepeatsSaid (behind d (DeliverAt number)).world 0 o.said Ignored) (sym is) refl)
-              (record { world = sym (unnoted d number p v at past); after = λ i. refl });
+              (record { world = sym (unnoted d number p v at past); after = λ i. refl; strayed = refl });
           counts = tt;
           works = tt;
           calls = tt;

@@ -49,7 +49,7 @@ module _ (line : ScriptLine) (d : Doubted) (i : ℕ) (note : GroupNode) (is : no
 -- the same by nodes
 pub left_each : (line : ScriptLine) (d middle : Doubted) (next : ℕ → GroupNode) (nodes : ℕ → Node) → ((i : ℕ) → nodes i ≡ (noting_each line d.world next middle.world).nodes i)
     → IsAs middle (noting_each line d.world next middle.world) (record middle { world = record middle.world { nodes = nodes } })
-left_each line d middle next nodes each = record { world = ap (λ (f : ℕ → Node). record middle.world { nodes = f }) (fun_ext each); after = λ i. refl }
+left_each line d middle next nodes each = record { world = ap (λ (f : ℕ → Node). record middle.world { nodes = f }) (fun_ext each); after = λ i. refl; strayed = refl }
 
 -- ---- one site
 

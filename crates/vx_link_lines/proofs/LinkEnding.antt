@@ -321,7 +321,7 @@ module _ {R : Type 0} {g : Ghosts R} where
         leads_by {fails = []} new
         (LinksDone four (subst (λ (es : List Event). Runs d es four) (sym numbers) (false, (false, (false, (false, refl))))) (ap (λ (es : List Event). all_fails es) numbers) refl
         (subst (λ (es : List Event). LinkReplies line d four es Done) (sym numbers) (subst (λ (o : EventSaid). RepeatsSaid four.world 0 o Done) (sym (chain.said_four d p s sync fit l.said)) refl))
-        (record { world = sym (notes four.world); after = λ i. refl }))
+        (record { world = sym (notes four.world); after = λ i. refl; strayed = refl }))
         (λ is. (ready racks p l.below both.first both.first_new both.there both.did.0, ready racks s l.below_too both.second both.second_new both.there_too both.did.1))
         (next_then [] (noted_by note d) (noted_by note three) (noted_by note four) old mid new before (called_four mid new (Ok tt) before call))
 

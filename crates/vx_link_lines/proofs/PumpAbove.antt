@@ -284,7 +284,7 @@ module _ {R : Type 0} {g : Ghosts R} (d : Doubted) (old new : Yard R g) (p q : L
         record {
           next = with_one d s k;
           part = inr (subst (λ (i : ℕ). RvgShort (IsTold new) d (Pump p q) i (with_one d s k)) (sym number)
-              (ShortPump p q (done_calls d old mid s o e call extra) next refl over (done_are d old mid s o e call extra) (done_up d old mid s o e call agrees ⊥) (record { world = world_noted; after = λ i. refl })));
+              (ShortPump p q (done_calls d old mid s o e call extra) next refl over (done_are d old mid s o e call extra) (done_up d old mid s o e call agrees ⊥) (record { world = world_noted; after = λ i. refl; strayed = refl })));
           stands = stands_left d.world unmoved stands.links [] sent facts flies;
           carries = carries_left d.world unmoved stands.links [] sent facts flies;
           rose = rose_still old new s (Over o) (Over e) changed.there changed.later changed.disk_sets;

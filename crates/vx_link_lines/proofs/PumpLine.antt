@@ -87,7 +87,7 @@ pub pump_done : (told : Type 0) (d : Doubted) (p s : List ℕ) → (step d.world
 pump_done told d p s is =
     let v : World = (step d.world (PumpAt (site_number d.world p) (site_number d.world s))).world in
     record {
-      ends = LinksDone (record d { world = v }) (false, refl) refl refl (subst (λ (x : EventSaid). RepeatsSaid v 0 x Done) (sym is) refl) (record { world = refl; after = λ i. refl });
+      ends = LinksDone (record d { world = v }) (false, refl) refl refl (subst (λ (x : EventSaid). RepeatsSaid v 0 x Done) (sym is) refl) (record { world = refl; after = λ i. refl; strayed = refl });
       counts = tt;
       works = tt;
       calls = tt;
@@ -108,19 +108,19 @@ pump_told w s to l f one two (RefusedSo any) is why same other = absurd is
 pub pump_other : (told : Type 0) (d : Doubted) (p s : List ℕ) (more : List Packet) → PumpSends d.world (site_number d.world p) (site_number d.world s) more → (told → ⊥) → IsDone told d (Pump p s) [] Done (record d { world = pumped_with d.world (site_number d.world p) (site_number d.world s) more })
 pump_other told d p s more any untold =
     let v : World = pumped_with d.world (site_number d.world p) (site_number d.world s) more in
-    record { ends = LinksFind untold (record d { world = v }) (SendsOther p s more refl any refl refl refl) (record { world = refl; after = λ i. refl }); counts = tt; works = tt; calls = tt }
+    record { ends = LinksFind untold (record d { world = v }) (SendsOther p s more refl any refl refl refl) (record { world = refl; after = λ i. refl; strayed = refl }); counts = tt; works = tt; calls = tt }
 
 -- and of one of which nothing could be read
 pub pump_none : (told : Type 0) (d : Doubted) (p s : List ℕ) (why : No) → (told → ⊥) → IsUnreadable why → IsDone told d (Pump p s) [] (Refused why) d
 pump_none told d p s why untold other =
-    record { ends = LinksFind untold d (ReadsNone p s why refl other refl refl refl) (record { world = refl; after = λ i. refl }); counts = tt; works = tt; calls = tt }
+    record { ends = LinksFind untold d (ReadsNone p s why refl other refl refl refl) (record { world = refl; after = λ i. refl; strayed = refl }); counts = tt; works = tt; calls = tt }
 
 -- one whose log could not be read
 pub pump_unread : (told : Type 0) (d : Doubted) (p s : List ℕ) (disk : ℕ) → (link_step d.world (site_number d.world p) (site_number d.world s) PumpLink).action ≢ Nothing → IsLogDisk (d.world.nodes (site_number d.world p)) disk → IsDone told d (Pump p s) ((site_number d.world p, disk) ∷ []) (Refused (Device disk)) d
 pump_unread told d p s disk asks here =
     let a : ℕ = site_number d.world p in
     record {
-      ends = LogUnread [] [] (PumpAt a (site_number d.world s)) a disk d refl (refl, asks) refl refl here refl refl (record { world = refl; after = λ i. refl });
+      ends = LogUnread [] [] (PumpAt a (site_number d.world s)) a disk d refl (refl, asks) refl refl here refl refl (record { world = refl; after = λ i. refl; strayed = refl });
       counts = tt;
       works = tt;
       calls = tt;

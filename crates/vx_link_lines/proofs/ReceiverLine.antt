@@ -142,7 +142,7 @@ none_ends told d name count s number why is receives lacks =
     let e : Doubted = with_one d s (worked (d.world.nodes s)) in
     subst (λ (i : ℕ). Ends told d (Apply name count) i [] (Refused why) e) (sym number)
     (subst (λ (x : No). Ends told d (Apply name count) s [] (Refused x) e) (sym is)
-    (NoNumber c false [] (ApplyAt s count 0) [] (ap (λ (i : ℕ). let es : List Event = ApplyAt i count 0 ∷ [] in es) number) tt (λ t. (receives, lacks t)) refl refl (record { world = refl; after = λ i. refl })))
+    (NoNumber c false [] (ApplyAt s count 0) [] (ap (λ (i : ℕ). let es : List Event = ApplyAt i count 0 ∷ [] in es) number) tt (λ t. (receives, lacks t)) refl refl (record { world = refl; after = λ i. refl; strayed = refl })))
 
 -- none of its links needs a number of its log, as it has none
 pub can_receive : (d : Doubted) (s : ℕ) → LinksFit d → is_origin (d.world.nodes s).role ≡ false → (d.world.nodes s).state ≡ IsUp → (d.world.nodes s).halted ≡ None → CanReceive (beside_of d s) (d.world.nodes s)

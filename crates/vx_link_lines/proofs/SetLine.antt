@@ -172,7 +172,7 @@ module _ {R : Type 0} {g : Ghosts R} (d : Doubted) (old : Yard R g) (first secon
   set_ends told prot =
       LinksDone (behind d event) (subst (λ (es : List Event). Runs d es (behind d event)) (sym (set_numbers prot)) (false, refl)) (ap (λ (es : List Event). all_fails es) (set_numbers prot)) refl
       (subst (λ (es : List Event). LinkReplies (Set first second sync prot) d (behind d event) es Done) (sym (set_numbers prot)) (subst (λ (o : EventSaid). RepeatsSaid (step w event).world 0 o Done) (sym set_said) refl))
-      (record { world = sym (set_notes prot (behind d event).world); after = λ i. refl })
+      (record { world = sym (set_notes prot (behind d event).world); after = λ i. refl; strayed = refl })
 
   -- ---- the call on the disks
 

@@ -77,7 +77,7 @@ noted_at d number p v at below =
     ap (λ (o : Option Packet). target_noted d.world.sites o v) at ∙ ap (λ (b : Bool). if b then worked_on v p.target else v) (below_true p.target d.world.sites below)
 
 pub left_at : (d h : Doubted) (number : ℕ) (p : Packet) → packet_at d.world.packets number ≡ Some p → p.target < d.world.sites → AreLeft (Deliver number) d h (worked_for h p.target)
-left_at d h number p at below = record { world = sym (noted_at d number p h.world at below); after = λ i. refl }
+left_at d h number p at below = record { world = sym (noted_at d number p h.world at below); after = λ i. refl; strayed = refl }
 
 -- the line was done
 pub done_as : (told : Type 0) (d : Doubted) (number : ℕ) (p : Packet) (said : Said) (event : EventSaid) → packet_at d.world.packets number ≡ Some p → p.target < d.world.sites

@@ -87,7 +87,7 @@ module _ {R : Type 0} {g : Ghosts R} where
           next = noted_two a b e;
           fails = [];
           done = record {
-            ends = line_done (IsTold new) (all_told new.disk_sets.items) d p s e (noted_two a b e) origin on.works stored (record { world = refl; after = λ i. refl });
+            ends = line_done (IsTold new) (all_told new.disk_sets.items) d p s e (noted_two a b e) origin on.works stored (record { world = refl; after = λ i. refl; strayed = refl });
             counts = tt;
             works = tt;
             calls = tt;
@@ -106,7 +106,7 @@ module _ {R : Type 0} {g : Ghosts R} where
           next = noted_two a b e;
           fails = end.fails;
           done = record {
-            ends = line_stopped (IsTold new) (all_told new.disk_sets.items) d p s end.fails (Refused why) e (noted_two a b e) end.stops (record { world = refl; after = λ i. refl });
+            ends = line_stopped (IsTold new) (all_told new.disk_sets.items) d p s end.fails (Refused why) e (noted_two a b e) end.stops (record { world = refl; after = λ i. refl; strayed = refl });
             counts = tt;
             works = tt;
             calls = tt;
@@ -127,9 +127,9 @@ module _ {R : Type 0} {g : Ghosts R} where
           let more : link_events d.world (Settle p s) ≡ (x ∷ first.before) ++ first.rest = split tells ∙ ap (λ (es : List Event). x ∷ es) first.split in
           let are = are_parts (x ∷ first.before) first.rest (subst AreSettling more (are_all d.world (site_number d.world p) (site_number d.world s))) in
           let same = runs_only d last (x ∷ first.before) are.0 runs ∙ sym (run_is d (x ∷ first.before) are.0) in
-          StopsInPart (settle_part d p s (x ∷ first.before) first.rest (noted_two a b last) more (subst (λ (q : Doubted). AreLeft (Settle p s) d q (noted_two a b last)) same (record { world = refl; after = λ i. refl }))))
+          StopsInPart (settle_part d p s (x ∷ first.before) first.rest (noted_two a b last) more (subst (λ (q : Doubted). AreLeft (Settle p s) d q (noted_two a b last)) same (record { world = refl; after = λ i. refl; strayed = refl }))))
           (λ (untold : IsTold new → ⊥).
-          line_short (IsTold new) d last p s (passes_then a b d m last one.moves short.moves) (noted_two a b last) untold (record { world = refl; after = λ i. refl }))
+          line_short (IsTold new) d last p s (passes_then a b d m last one.moves short.moves) (noted_two a b last) untold (record { world = refl; after = λ i. refl; strayed = refl }))
           (all_told new.disk_sets.items)
 
       pub settle_short : (IsTold new → link_events d.world (Settle p s) ≡ x ∷ rest) → SettleWorks (IsTold new) (site_number d.world p) (site_number d.world s) d (x ∷ []) m → RoseAll [] (count_of old) (count_of mid)

@@ -282,10 +282,10 @@ module _ (fuses : ℕ → Fuse) (d : Doubted) (fit : LinksFit (noted_as fuses d)
   halved_burnt =
       let n : Node = d.world.nodes site in
       let same : (step (burnt_world fuses d.world) e).world ≡ burnt_world fuses (step d.world e).world = step_burnt fuses d fit e is in
-      ap (λ (x : World). let q : Doubted = record { world = record (stopped_by (burnt_world fuses d.world) site disk) { headers = x.headers }; after = updated d.after site (may_of x) } in q) same
-      ∙ ap (λ (ns : ℕ → Node). let q : Doubted = record { world = record (burnt_world fuses d.world) { nodes = ns; headers = (step d.world e).world.headers }; after = updated d.after site (may_of (burnt_world fuses (step d.world e).world)) } in q)
+      ap (λ (x : World). let q : Doubted = record { world = record (stopped_by (burnt_world fuses d.world) site disk) { headers = x.headers }; after = updated d.after site (may_of x); strayed = d.strayed } in q) same
+      ∙ ap (λ (ns : ℕ → Node). let q : Doubted = record { world = record (burnt_world fuses d.world) { nodes = ns; headers = (step d.world e).world.headers }; after = updated d.after site (may_of (burnt_world fuses (step d.world e).world)); strayed = d.strayed } in q)
       (nodes_at fuses d.world.nodes site (record n { halted = Some disk; fuse = burned n.fuse }) (record n { halted = Some disk; fuse = burned (fuses site) }) (burned (fuses site)) refl)
-      ∙ ap (λ (k : Node). let q : Doubted = record { world = burnt_world (noted_at fuses site) (halved d e site disk).world; after = updated d.after site (Some (record { node = k; row = (step d.world e).world.links site })) } in q) stopped_same
+      ∙ ap (λ (k : Node). let q : Doubted = record { world = burnt_world (noted_at fuses site) (halved d e site disk).world; after = updated d.after site (Some (record { node = k; row = (step d.world e).world.links site })); strayed = d.strayed } in q) stopped_same
 
 -- a crash takes the fuse away
 crash_by : (fuses : ℕ → Fuse) (w : World) (s k : ℕ) (b : Bool)
@@ -307,20 +307,20 @@ twice_at fuses s f g = fun_ext (λ i. by i (eqb i s))
 
 pub crashed_burnt : (fuses : ℕ → Fuse) (d : Doubted) (site kept : ℕ) (taken : Bool) → crashed_as (noted_as fuses d) site kept taken ≡ noted_as (updated fuses site NoFuse) (crashed_as d site kept taken)
 crashed_burnt fuses d site kept false =
-    ap (λ (x : World). let q : Doubted = record { world = x; after = updated d.after site None } in q) (crash_burnt fuses d.world site (kept_of (d.world.nodes site) kept))
+    ap (λ (x : World). let q : Doubted = record { world = x; after = updated d.after site None; strayed = d.strayed } in q) (crash_burnt fuses d.world site (kept_of (d.world.nodes site) kept))
 crashed_burnt fuses d site kept true = by (d.after site)
   where
-    by : (o : Option After) → (let w : World = taken_up (burnt_world fuses d.world) site o in let q : Doubted = record { world = crash_at w site (kept_of (w.nodes site) kept); after = updated d.after site None } in q)
-        ≡ (let w : World = taken_up d.world site o in let q : Doubted = record { world = burnt_world (updated fuses site NoFuse) (crash_at w site (kept_of (w.nodes site) kept)); after = updated d.after site None } in q)
-    by None = ap (λ (x : World). let q : Doubted = record { world = x; after = updated d.after site None } in q) (crash_burnt fuses d.world site (kept_of (d.world.nodes site) kept))
+    by : (o : Option After) → (let w : World = taken_up (burnt_world fuses d.world) site o in let q : Doubted = record { world = crash_at w site (kept_of (w.nodes site) kept); after = updated d.after site None; strayed = d.strayed } in q)
+        ≡ (let w : World = taken_up d.world site o in let q : Doubted = record { world = burnt_world (updated fuses site NoFuse) (crash_at w site (kept_of (w.nodes site) kept)); after = updated d.after site None; strayed = d.strayed } in q)
+    by None = ap (λ (x : World). let q : Doubted = record { world = x; after = updated d.after site None; strayed = d.strayed } in q) (crash_burnt fuses d.world site (kept_of (d.world.nodes site) kept))
     by (Some a) =
         let w : World = resolved d.world site a in
         let more : ℕ → Fuse = updated fuses site a.node.fuse in
         let there : resolved (burnt_world fuses d.world) site a ≡ burnt_world more w
         = ap (λ (ns : ℕ → Node). let x : World = record w { nodes = ns } in x) (nodes_at fuses d.world.nodes site a.node a.node a.node.fuse refl) in
-        ap (λ (x : World). let q : Doubted = record { world = crash_at x site (kept_of (x.nodes site) kept); after = updated d.after site None } in q) there
-        ∙ ap (λ (x : World). let q : Doubted = record { world = x; after = updated d.after site None } in q) (crash_burnt more w site (kept_of (w.nodes site) kept))
-        ∙ ap (λ (f : ℕ → Fuse). let q : Doubted = record { world = burnt_world f (crash_at w site (kept_of (w.nodes site) kept)); after = updated d.after site None } in q) (twice_at fuses site a.node.fuse NoFuse)
+        ap (λ (x : World). let q : Doubted = record { world = crash_at x site (kept_of (x.nodes site) kept); after = updated d.after site None; strayed = d.strayed } in q) there
+        ∙ ap (λ (x : World). let q : Doubted = record { world = x; after = updated d.after site None; strayed = d.strayed } in q) (crash_burnt more w site (kept_of (w.nodes site) kept))
+        ∙ ap (λ (f : ℕ → Fuse). let q : Doubted = record { world = burnt_world f (crash_at w site (kept_of (w.nodes site) kept)); after = updated d.after site None; strayed = d.strayed } in q) (twice_at fuses site a.node.fuse NoFuse)
 
 -- ---- what may be noted behind that
 

@@ -149,11 +149,12 @@ module _ (told : Type 0) (a b : ℕ) (d : Doubted) (may : MayMove a b d.world) (
         fuses = noted_at f b;
         burns = burns_noted a b f m.world b (inr refl) some;
         is =
-            ap (λ (x : World). let q : Doubted = record { world = x; after = new.after } in q) left.world
-            ∙ ap (λ (g : ℕ → Option After). let q : Doubted = record { world = worked_on (with_disks taken b (burnt_world fuses d.world) last.world) b; after = g } in q) (fun_ext (λ s. left.after s))
-            ∙ ap (λ (x : Doubted). let q : Doubted = record { world = worked_on (with_disks taken b (burnt_world fuses d.world) x.world) b; after = x.after } in q) is
-            ∙ ap (λ (x : World). let q : Doubted = record { world = worked_on x b; after = m.after } in q) disks
-            ∙ ap (λ (x : World). let q : Doubted = record { world = x; after = m.after } in q) (worked_burnt f m.world b);
+            ap (λ (x : World). let q : Doubted = record new { world = x } in q) left.world
+            ∙ ap (λ (g : ℕ → Option After). let q : Doubted = record { world = worked_on (with_disks taken b (burnt_world fuses d.world) last.world) b; after = g; strayed = new.strayed } in q) (fun_ext (λ s. left.after s))
+            ∙ ap (λ (c : Bool). let q : Doubted = record { world = worked_on (with_disks taken b (burnt_world fuses d.world) last.world) b; after = last.after; strayed = c } in q) left.strayed
+            ∙ ap (λ (x : Doubted). let q : Doubted = record x { world = worked_on (with_disks taken b (burnt_world fuses d.world) x.world) b } in q) is
+            ∙ ap (λ (x : World). let q : Doubted = record m { world = worked_on x b } in q) disks
+            ∙ ap (λ (x : World). let q : Doubted = record m { world = x } in q) (worked_burnt f m.world b);
       }
 
   -- ---- a crash of a site that a fuse stopped is a crash of the site
@@ -179,15 +180,15 @@ module _ (told : Type 0) (a b : ℕ) (d : Doubted) (may : MayMove a b d.world) (
       by false = ap (λ (ns : ℕ → Node). let x : World = record d.world { nodes = ns; headers = h } in x)
           (twice_any d.world.nodes b (record (d.world.nodes b) { halted = Some 0; fuse = burned (d.world.nodes b).fuse }) (crashed (d.world.nodes b) (kept_of (d.world.nodes b) kept)))
 
-  cut_is : (kept : ℕ) → crashed_as (halved d (Fault b 0) b 0) b kept false ≡ record { world = record (crash_at d.world b (kept_of (d.world.nodes b) kept)) { headers = λ i. d.world.headers i + 0 }; after = updated d.after b None }
+  cut_is : (kept : ℕ) → crashed_as (halved d (Fault b 0) b 0) b kept false ≡ record { world = record (crash_at d.world b (kept_of (d.world.nodes b) kept)) { headers = λ i. d.world.headers i + 0 }; after = updated d.after b None; strayed = d.strayed }
   cut_is kept =
-      ap (λ (x : World). let q : Doubted = record { world = x; after = (crashed_as (halved d (Fault b 0) b 0) b kept false).after } in q) (crash_stopped (λ i. d.world.headers i + 0) kept)
-      ∙ ap (λ (f : ℕ → Option After). let q : Doubted = record { world = record (crash_at d.world b (kept_of (d.world.nodes b) kept)) { headers = λ i. d.world.headers i + 0 }; after = f } in q)
+      ap (λ (x : World). let q : Doubted = record { world = x; after = (crashed_as (halved d (Fault b 0) b 0) b kept false).after; strayed = d.strayed } in q) (crash_stopped (λ i. d.world.headers i + 0) kept)
+      ∙ ap (λ (f : ℕ → Option After). let q : Doubted = record { world = record (crash_at d.world b (kept_of (d.world.nodes b) kept)) { headers = λ i. d.world.headers i + 0 }; after = f; strayed = d.strayed } in q)
       (twice_any d.after b (Some (record { node = (stopped_by (step d.world (Fault b 0)).world b 0).nodes b; row = (step d.world (Fault b 0)).world.links b })) None)
 
   cut_noted : (kept : ℕ) → happened (noted_as fuses d) (CrashAt b kept) false ≡ noted_as (updated fuses b NoFuse) (crashed_as (halved d (Fault b 0) b 0) b kept false)
   cut_noted kept =
-      ap (λ (x : World). let q : Doubted = record { world = record x { headers = λ i. d.world.headers i + 0 }; after = updated d.after b None } in q)
+      ap (λ (x : World). let q : Doubted = record { world = record x { headers = λ i. d.world.headers i + 0 }; after = updated d.after b None; strayed = d.strayed } in q)
       (crash_is (burnt_world fuses d.world) b kept below up ∙ crash_burnt fuses d.world b (kept_of (d.world.nodes b) kept))
       ∙ sym (ap (λ (q : Doubted). noted_as (updated fuses b NoFuse) q) (cut_is kept))
 

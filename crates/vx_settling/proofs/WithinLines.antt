@@ -55,9 +55,11 @@ module _ (told : Type 0) (a b : ℕ) (d : Doubted) (may : MayMove a b d.world) (
   abbrev D : Doubted
   D = noted_as fuses d
 
-  after_is : (v : World) (new : Doubted) (m : Doubted) → IsAs m v new → new ≡ record { world = v; after = m.after }
+  after_is : (v : World) (new : Doubted) (m : Doubted) → IsAs m v new → new ≡ record m { world = v }
   after_is v new m left =
-      ap (λ (x : World). let q : Doubted = record { world = x; after = new.after } in q) left.world ∙ ap (λ (f : ℕ → Option After). let q : Doubted = record { world = v; after = f } in q) (fun_ext (λ s. left.after s))
+      ap (λ (x : World). let q : Doubted = record new { world = x } in q) left.world
+      ∙ ap (λ (f : ℕ → Option After). let q : Doubted = record { world = v; after = f; strayed = new.strayed } in q) (fun_ext (λ s. left.after s))
+      ∙ ap (λ (b : Bool). let q : Doubted = record { world = v; after = m.after; strayed = b } in q) left.strayed
 
   -- an event that is done
   done_noted : (e : Event) → is_settling e ≡ true → happened (noted_as fuses d) e false ≡ noted_as fuses (happened d e false)
@@ -197,11 +199,11 @@ module _ (told : Type 0) (a b : ℕ) (d : Doubted) (may : MayMove a b d.world) (
       target_one = target_of a b q between
 
       -- what the line notes
-      noted_on : (m : Doubted) (f : ℕ → Fuse) → MayBurn a b f m.world → (c : Bool) → (e : Doubted) → e ≡ record { world = if c then worked_on (burnt_world f m.world) q.target else burnt_world f m.world; after = m.after } → NotedAs a b m e
+      noted_on : (m : Doubted) (f : ℕ → Fuse) → MayBurn a b f m.world → (c : Bool) → (e : Doubted) → e ≡ record m { world = if c then worked_on (burnt_world f m.world) q.target else burnt_world f m.world } → NotedAs a b m e
       noted_on m f some true e is = record {
         fuses = noted_at f q.target;
         burns = burns_noted a b f m.world q.target target_one some;
-        is = is ∙ ap (λ (x : World). let y : Doubted = record { world = x; after = m.after } in y) (worked_burnt f m.world q.target);
+        is = is ∙ ap (λ (x : World). let y : Doubted = record m { world = x } in y) (worked_burnt f m.world q.target);
       }
       noted_on m f some false e is = record { fuses = f; burns = some; is = is }
 
@@ -209,8 +211,8 @@ module _ (told : Type 0) (a b : ℕ) (d : Doubted) (may : MayMove a b d.world) (
       left_noted m f last some is left =
           noted_on m f some (ltb q.target d.world.sites) new
           (after_is (link_noted (burnt_world fuses d.world) (Deliver number) last.world) new last left
-          ∙ ap (λ (x : Doubted). let y : Doubted = record { world = link_noted (burnt_world fuses d.world) (Deliver number) x.world; after = x.after } in y) is
-          ∙ ap (λ (o : Option Packet). let y : Doubted = record { world = target_noted d.world.sites o (burnt_world f m.world); after = m.after } in y) at)
+          ∙ ap (λ (x : Doubted). let y : Doubted = record x { world = link_noted (burnt_world fuses d.world) (Deliver number) x.world } in y) is
+          ∙ ap (λ (o : Option Packet). let y : Doubted = record m { world = target_noted d.world.sites o (burnt_world f m.world) } in y) at)
 
       -- one that is heard of a link is heard at the first site
       site_is : (site : ℕ) → WritesAt (burnt_world fuses d.world) (DeliverAt number) site → site ≡ a

@@ -48,7 +48,7 @@ stays_over told d line s inner said e ends notes says over group lit = record {
   next = note_at (d.world.nodes s);
   notes = notes;
   says = says;
-  left = record { world = noted_over_same line d.world e.world s (note_at (d.world.nodes s)) (group ∙ note_is (d.world.nodes s) over) lit; after = λ i. refl };
+  left = record { world = noted_over_same line d.world e.world s (note_at (d.world.nodes s)) (group ∙ note_is (d.world.nodes s) over) lit; after = λ i. refl; strayed = refl };
 }
 
 module _ {R : Type 0} {g : Ghosts R} where

@@ -237,7 +237,7 @@ module _ {R : Type 0} {g : Ghosts R} (d : Doubted) (old new : Yard R g) (name vo
           size = size;
           is = λ lit. ap (λ bs. HasGot bs) (shown_are (received_content (d.world.nodes k)) place start count bytes size (λ j inside. (shows_k (told_here lit)).each j inside));
         })
-        tt (record { world = refl; after = λ i. refl })))
+        tt (record { world = refl; after = λ i. refl; strayed = refl })))
 
     -- ---- a disk failed
 

@@ -151,14 +151,14 @@ module _ {R : Type 0} {g : Ghosts R} where
       pub unread_leads : (disk : ℕ) → RoseAt before after disk → Leads d (Recover name) (Refused (Device disk)) old new
       unread_leads disk rose =
           bare_leads ((s, disk) ∷ []) (Refused (Device disk))
-          (DiskFails first_choice false [] (RecoverAt s None) [] [] disk (bare_events d s name number bare) (inl refl) tt refl refl (record { world = refl; after = λ i. refl }))
+          (DiskFails first_choice false [] (RecoverAt s None) [] [] disk (bare_events d s name number bare) (inl refl) tt refl refl (record { world = refl; after = λ i. refl; strayed = refl }))
           (rose_at old new s disk before after changed rose)
 
       pub untold_none : (why : No) → IsNoDevice why → (IsToldAt after → ⊥) → Leads d (Recover name) (Refused why) old new
       untold_none why other untold =
           bare_leads [] (Refused why)
           (FindsNone (never_told old.disk_sets.items new.disk_sets.items s before after there replaced.disk_sets (bare_set (beside_of d s) n after at bare) untold) first_choice false name d (raw_set s n) why refl (FromBare bare refl refl) other refl refl
-          (record { world = refl; after = λ i. refl })) rose_here
+          (record { world = refl; after = λ i. refl; strayed = refl })) rose_here
 
     pub stays_bare : (new : Yard R g) → Replaced old new s after → (why : No) → BareUpIs n before after (Err why) → Leads d (Recover name) (Refused why) old new
     stays_bare new replaced (Device disk) x = unread_leads new replaced (x.0 (beside_of d s)) disk x.1
@@ -311,7 +311,7 @@ module _ {R : Type 0} {g : Ghosts R} where
         done = recover_done (IsTold new) d next s name [] said number
             (FindsLinks (never_told old.disk_sets.items new.disk_sets.items s before after there changed_up.disk_sets (raw_site beside_now k after none stands_now) found.untold) first_choice false name d (raw_set s n) k row refl (FromBare bare refl refl) comes_as tt
             (rises.says ∙ ap (λ (v : SiteView). Recovered rises.last v) (rises.shows next stands_next below (over_is k (next.world.nodes s) effect_now.is.node apart)) ∙ ap (λ (x : ℕ). Recovered x (linked_view next.world s)) last_is)
-            (record { world = refl; after = λ i. refl }));
+            (record { world = refl; after = λ i. refl; strayed = refl }));
         stands = stands_next;
         carries = λ carries. up_carries d next old new s ring k row raw state used before after stands below changed_up up sees state_is needs rises.session rises.last session_is last_is flies
             (rises.assemblies ∙ assemblies) (rises.feeders ∙ ap (λ fs. slice_set fs.items s state.other) feeders) (omega (arith, below, stands.disk_sets.few, carries.numbers)) carries;

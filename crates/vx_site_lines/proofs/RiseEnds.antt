@@ -79,10 +79,10 @@ module _ (T : Type 0) (d h : Doubted) (s : ℕ) (c : Choice) (taken : Bool) (nam
   -- what the line leaves of these events
   left_by : (es : List Event) → IsLeft s line taken d (run_as taken d (opens.before ++ es)) (own_disks taken s d.world (run_as taken h es))
   left_by es =
-      subst (λ (x : Doubted). IsLeft s line taken d x (own_disks taken s d.world (run_as taken h es))) (sym (opens.more es)) (record { world = refl; after = λ i. refl })
+      subst (λ (x : Doubted). IsLeft s line taken d x (own_disks taken s d.world (run_as taken h es))) (sym (opens.more es)) (record { world = refl; after = λ i. refl; strayed = refl })
 
   left_first : IsLeft s line taken d (run_as taken d opens.before) (own_disks taken s d.world h)
-  left_first = subst (λ (x : Doubted). IsLeft s line taken d x (own_disks taken s d.world h)) (sym opens.runs) (record { world = refl; after = λ i. refl })
+  left_first = subst (λ (x : Doubted). IsLeft s line taken d x (own_disks taken s d.world h)) (sym opens.runs) (record { world = refl; after = λ i. refl; strayed = refl })
 
   -- the site came up
   pub rose_ends : (last : ℕ) (said : Said) → s < h.world.sites → (h.world.nodes s).state ≡ Down → (h.world.nodes s).session < MOST_NUMBER → last ≡ length (h.world.nodes s).log
@@ -111,7 +111,7 @@ module _ (T : Type 0) (d h : Doubted) (s : ℕ) (c : Choice) (taken : Bool) (nam
   -- disks that tell nothing came up, or were refused
   pub found_ends : (T → ⊥) → (k : Node) (row : ℕ → Link) (said : Said) → ComesUpAs s h.world.sites (h.world.nodes s) k row → said ≡ Recovered k.safe (linked_view (found_linked h s k row).world s)
       → Ends T d line s [] said (own_disks taken s d.world (found_linked h s k row))
-  found_ends never k row said comes says = FindsLinks never c taken name h (h.world.nodes s) k row refl recovering comes tt says (record { world = refl; after = λ i. refl })
+  found_ends never k row said comes says = FindsLinks never c taken name h (h.world.nodes s) k row refl recovering comes tt says (record { world = refl; after = λ i. refl; strayed = refl })
 
   pub refused_ends : (T → ⊥) → (why : No) → IsNoDevice why → Ends T d line s [] (Refused why) (own_disks taken s d.world h)
-  refused_ends never why other = FindsNone never c taken name h (h.world.nodes s) why refl recovering other refl refl (record { world = refl; after = λ i. refl })
+  refused_ends never why other = FindsNone never c taken name h (h.world.nodes s) why refl recovering other refl refl (record { world = refl; after = λ i. refl; strayed = refl })

@@ -109,7 +109,7 @@ module _ {R : Type 0} {g : Ghosts R} where
                   size = gave.size;
                   is = λ told. ap (λ bs. HasGot bs) (shown_are (received_content (d.world.nodes k)) v start count bytes gave.size (λ j inside. (shows (raw_told after (raw_site (beside_of d s) (d.world.nodes s) after read.none gave.stands) (told.each s after there))).each j inside));
                 })
-                tt (record { world = refl; after = λ i. refl });
+                tt (record { world = refl; after = λ i. refl; strayed = refl });
             counts = tt;
             works = tt;
             calls = tt;

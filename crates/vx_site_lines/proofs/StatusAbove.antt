@@ -145,7 +145,7 @@ module _ {R : Type 0} {g : Ghosts R} where
         fails = [];
         works = subst (λ (i : ℕ). EndsOver (IsTold y) d (Status name) i [] (Shown view) d) (sym seat.number)
             (stays_over (IsTold y) d (Status name) s (Shown inner) (Shown view) d
-            (AllDone first_choice false tt (ap (λ (i : ℕ). Shown (linked_view d.world i)) (sym seat.number)) (record { world = refl; after = λ i. refl }))
+            (AllDone first_choice false tt (ap (λ (i : ℕ). Shown (linked_view d.world i)) (sym seat.number)) (record { world = refl; after = λ i. refl; strayed = refl }))
             refl (ap (λ (v : SiteView). Shown v) (is seat.below over)) over refl refl);
         carries = λ was. was;
         stands = stands;

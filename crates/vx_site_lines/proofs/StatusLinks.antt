@@ -148,7 +148,7 @@ module _ {R : Type 0} {g : Ghosts R} where
         next = d;
         fails = [];
         done = record {
-          ends = AllDone first_choice false tt (ap (λ (v : SiteView). Shown v) (is seat.below (apart_at d y name s stands apart at) (subst (λ (i : ℕ). is_over_rvg (d.world.nodes i) ≡ false) seat.number off) ∙ ap (λ (i : ℕ). linked_view d.world i) (sym seat.number))) (record { world = refl; after = λ i. refl });
+          ends = AllDone first_choice false tt (ap (λ (v : SiteView). Shown v) (is seat.below (apart_at d y name s stands apart at) (subst (λ (i : ℕ). is_over_rvg (d.world.nodes i) ≡ false) seat.number off) ∙ ap (λ (i : ℕ). linked_view d.world i) (sym seat.number))) (record { world = refl; after = λ i. refl; strayed = refl });
           counts = tt;
           works = tt;
           calls = tt;

@@ -68,19 +68,19 @@ module _ (told : Type 0) (d : Doubted) (line : ScriptLine) (s : ℕ) (x : Write)
       AllDone c false tt
       (subst (λ (es : List Event). Replies told line s false d es said) (sym events)
       (subst (λ (o : EventSaid). RepeatsSaid (step d.world event).world s o said) (sym (write_said d.world s x fit can)) (repeats_by (step d.world event).world s waited ((d.world.nodes s).safe + 1))))
-      (subst (λ (es : List Event). IsLeft s line false d (run_as false d es) e) (sym events) (record { world = sym (notes (step d.world event).world); after = λ i. refl }))
+      (subst (λ (es : List Event). IsLeft s line false d (run_as false d es) e) (sym events) (record { world = sym (notes (step d.world event).world); after = λ i. refl; strayed = refl }))
 
   -- a disk failed in it
   pub half_ends : (disk : ℕ) → IsSiteDisk (d.world.nodes s) disk → Ends told d line s ((s, disk) ∷ []) (Refused (Device disk)) (written_for d s x (Some disk))
   half_ends disk names =
       DiskFails c false [] event [] (WriteAt s x.volume x.start x.bytes (Some disk) ∷ []) disk events refl names refl refl
-      (record { world = sym (notes (step d.world (WriteAt s x.volume x.start x.bytes (Some disk))).world); after = λ i. refl })
+      (record { world = sym (notes (step d.world (WriteAt s x.volume x.start x.bytes (Some disk))).world); after = λ i. refl; strayed = refl })
 
   -- no number is left
   pub none_ends : (told → MOST_NUMBER ≤ most_stamp_at d.world s) → Ends told d line s [] (Refused (Limit Number MOST_NUMBER)) (record d { world = worked_on d.world s })
-  none_ends least = NoNumber c false [] event [] events tt least refl refl (record { world = sym (notes d.world); after = λ i. refl })
+  none_ends least = NoNumber c false [] event [] events tt least refl refl (record { world = sym (notes d.world); after = λ i. refl; strayed = refl })
 
   -- the fuse of its site ran out in it
   pub cut_ends : IsFused (d.world.nodes s).fuse → Ends told d line s [] (Refused Off) (cut_for d s x c.kept)
   cut_ends fused =
-      FuseRunsOut c event (WriteAt s x.volume x.start x.bytes (Some 0) ∷ []) events (inl refl) tt fused refl refl (record { world = sym (notes _); after = λ i. refl })
+      FuseRunsOut c event (WriteAt s x.volume x.start x.bytes (Some 0) ∷ []) events (inl refl) tt fused refl refl (record { world = sym (notes _); after = λ i. refl; strayed = refl })

@@ -114,7 +114,7 @@ others after s t a =
     all_updated (λ k (o : Option After). o ≡ Some a → (k ≡ s → ⊥) × (after k ≡ Some a)) after s None
     (λ e. absurd (let f : None ≡ Some a = e in cc)) (λ k apart e. (apart, e)) t
 
-left_good : (d : Doubted) (s : ℕ) → GoodDoubted d → GoodDoubted (record { world = d.world; after = updated d.after s None })
+left_good : (d : Doubted) (s : ℕ) → GoodDoubted d → GoodDoubted (record { world = d.world; after = updated d.after s None; strayed = d.strayed })
 left_good d s g = record {
   doubts = λ t a is. g.doubts t a (others d.after s t a is).1;
   good = λ c. good_like (resolved_as d.world d.after (updated c s false)) (resolved_as d.world (updated d.after s None) c) (g.good (updated c s false))
@@ -132,7 +132,7 @@ left_good d s g = record {
     row_is c i r false = refl
 
 taken_good : (d : Doubted) (s : ℕ) (a : After) → d.after s ≡ Some a → GoodDoubted d
-    → GoodDoubted (record { world = resolved d.world s a; after = updated d.after s None })
+    → GoodDoubted (record { world = resolved d.world s a; after = updated d.after s None; strayed = d.strayed })
 taken_good d s a is g = record {
   doubts = λ t b other. let o = others d.after s t b other in
       doubt_moved d.world (resolved d.world s a) t b refl (aside d.world.nodes s a.node t o.0) (g.doubts t b o.1);
@@ -160,14 +160,14 @@ pub resolve_good : (d : Doubted) (s : ℕ) (taken : Bool) → GoodDoubted d → 
 resolve_good d s false g = left_good d s g
 resolve_good d s true g = by_after (d.after s) refl
   where
-    by_after : (o : Option After) → d.after s ≡ o → GoodDoubted (record { world = taken_up d.world s o; after = updated d.after s None })
+    by_after : (o : Option After) → d.after s ≡ o → GoodDoubted (record { world = taken_up d.world s o; after = updated d.after s None; strayed = d.strayed })
     by_after None is = left_good d s g
     by_after (Some a) is = taken_good d s a is g
 
 -- ## An event that is done
 
 calm_good : (d : Doubted) (e : Event) → GoodDoubted d → ((s : ℕ) (a : After) → d.after s ≡ Some a → IsElsewhere s e)
-    → GoodDoubted (record { world = (step d.world e).world; after = d.after })
+    → GoodDoubted (record { world = (step d.world e).world; after = d.after; strayed = d.strayed })
 calm_good d e g calm = record {
   doubts = λ s a is. doubt_stays d.world s a e (g.doubts s a is) (calm s a is);
   good = λ c. step_as_good d.world d.after g.doubts e c (λ s a is _. calm s a is) (g.good c);
@@ -185,17 +185,17 @@ up_stays w p fails up =
     (ap (λ (s : SiteState). (recover_from s w p fails).world) up)
 
 recover_good : (d : Doubted) (p : ℕ) (fails : Option ℕ) (a : After) → d.after p ≡ Some a → GoodDoubted d
-    → GoodDoubted (record { world = (step d.world (Recover p fails)).world; after = d.after })
+    → GoodDoubted (record { world = (step d.world (Recover p fails)).world; after = d.after; strayed = d.strayed })
 recover_good d p fails a is g =
     let w : World = d.world in
     let h : ℕ → ℕ = (step w (Recover p fails)).world.headers in
     let like : IsLike w (step w (Recover p fails)).world =
     subst (λ (v : World). IsLike w (record v { headers = h })) (sym (up_stays w p fails (g.doubts p a is).up)) (like_counted w h) in
-    like_good d (record { world = (step w (Recover p fails)).world; after = d.after }) g (record { worlds = like; after = λ _. refl })
+    like_good d (record { world = (step w (Recover p fails)).world; after = d.after; strayed = d.strayed }) g (record { worlds = like; after = λ _. refl })
 
 -- a disk that halts a site again
 again_good : (d : Doubted) (p disk : ℕ) (a : After) → d.after p ≡ Some a → GoodDoubted d
-    → GoodDoubted (record { world = (step d.world (Fault p disk)).world; after = d.after })
+    → GoodDoubted (record { world = (step d.world (Fault p disk)).world; after = d.after; strayed = d.strayed })
 again_good d p disk a is g = record {
   doubts = λ s b other. doubts s b other;
   good = λ c. by_choice c (c p) refl;
@@ -252,7 +252,7 @@ again_good d p disk a is g = record {
         covered n = ap (λ (b : Bool). node_as b (d.after p) n) chosen ∙ ap (λ (o : Option After). node_as true o n) is
 
 pub step_good_as : (d : Doubted) (e : Event) → GoodDoubted d → ((s : ℕ) (a : After) → d.after s ≡ Some a → crashed_by e ≡ Some s → ⊥)
-    → GoodDoubted (record { world = (step d.world e).world; after = d.after })
+    → GoodDoubted (record { world = (step d.world e).world; after = d.after; strayed = d.strayed })
 step_good_as d (Site name disks blocks) g calm = calm_good d (Site name disks blocks) g (λ _ _ _. tt)
 step_good_as d (Raw p) g calm = calm_good d (Raw p) g (λ _ _ _. tt)
 step_good_as d (Group p) g calm = calm_good d (Group p) g (λ _ _ _. tt)
@@ -277,13 +277,13 @@ step_good_as d (Deport p) g calm = calm_good d (Deport p) g (λ _ _ _. tt)
 step_good_as d (Fall p) g calm = calm_good d (Fall p) g (λ _ _ _. tt)
 step_good_as d (Recover p fails) g calm = by_doubt (d.after p) refl
   where
-    by_doubt : (o : Option After) → d.after p ≡ o → GoodDoubted (record { world = (step d.world (Recover p fails)).world; after = d.after })
+    by_doubt : (o : Option After) → d.after p ≡ o → GoodDoubted (record { world = (step d.world (Recover p fails)).world; after = d.after; strayed = d.strayed })
     by_doubt (Some a) is = recover_good d p fails a is g
     by_doubt None none = calm_good d (Recover p fails) g
         (λ s a is here. let f : None ≡ Some a = sym none ∙ ap d.after here ∙ is in absurd (cc))
 step_good_as d (Fault p disk) g calm = by_doubt (d.after p) refl
   where
-    by_doubt : (o : Option After) → d.after p ≡ o → GoodDoubted (record { world = (step d.world (Fault p disk)).world; after = d.after })
+    by_doubt : (o : Option After) → d.after p ≡ o → GoodDoubted (record { world = (step d.world (Fault p disk)).world; after = d.after; strayed = d.strayed })
     by_doubt (Some a) is = again_good d p disk a is g
     by_doubt None none = calm_good d (Fault p disk) g
         (λ s a is here. let f : None ≡ Some a = sym none ∙ ap d.after here ∙ is in absurd (cc))

@@ -161,7 +161,7 @@ module _ (d : Doubted) (e : Event) (site disk : ℕ) (g : GoodDoubted d) (opens 
   -- the site is as it may be, and so are those others that are chosen
   module _ (c : ℕ → Bool) (chosen : c site ≡ true) where
     abbrev one : Doubted
-    one = record { world = resolved_as d.world d.after c; after = λ _. None }
+    one = record { world = resolved_as d.world d.after c; after = λ _. None; strayed = d.strayed }
 
     abbrev theirs : After
     theirs = after_of one e site disk
@@ -263,7 +263,7 @@ crashed_all d s kept taken a is g =
     let v : World = crash_at r.world s (kept_of (r.world.nodes s) kept) in
     let u : World = (step r.world (Crash s kept)).world in
     let stands = standing taken in
-    like_good (record { world = u; after = r.after }) (crashed_as d s kept taken)
+    like_good (record { world = u; after = r.after; strayed = r.strayed }) (crashed_as d s kept taken)
     (step_good_as r (Crash s kept) (resolve_good d s taken g) (λ t b other crash. (others d.after s t b other).0 (same_Some t s (sym crash))))
     (record {
       worlds = like_sym v u (subst (λ (x : World). IsLike v (record x { headers = u.headers })) (sym (crash_is r.world s kept stands.0 stands.1))

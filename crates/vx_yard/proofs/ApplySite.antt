@@ -125,21 +125,21 @@ module _ (told : Type 0) (d : Doubted) (name : List ℕ) (to s : ℕ) (number_is
       (AllDone c false tt
       (subst (λ (es : List Event). Replies told (Apply name to) s false d es (DoneAt number)) (sym (event_is number))
       (subst (λ (o : EventSaid). RepeatsSaid (step d.world (ApplyAt s to number)).world s o (DoneAt number)) (sym said) refl))
-      (subst (λ (es : List Event). IsLeft s (Apply name to) false d (run_as false d es) e) (sym (event_is number)) (record { world = refl; after = λ i. refl })))
+      (subst (λ (es : List Event). IsLeft s (Apply name to) false d (run_as false d es) e) (sym (event_is number)) (record { world = refl; after = λ i. refl; strayed = refl })))
 
   -- a disk failed
   pub apply_halts : (disk : ℕ) → IsSiteDisk (d.world.nodes s) disk → Ends told d (Apply name to) (site_number d.world name) ((s, disk) ∷ []) (Refused (Device disk)) (worked_for (happened d (Fault s disk) false) s)
   apply_halts disk names =
       let e : Doubted = worked_for (happened d (Fault s disk) false) s in
       subst (λ (i : ℕ). Ends told d (Apply name to) i ((s, disk) ∷ []) (Refused (Device disk)) e) (sym number_is)
-      (DiskFails first_choice false [] (ApplyAt s to 0) [] (Fault s disk ∷ []) disk (event_is 0) refl names refl refl (record { world = refl; after = λ i. refl }))
+      (DiskFails first_choice false [] (ApplyAt s to 0) [] (Fault s disk ∷ []) disk (event_is 0) refl names refl refl (record { world = refl; after = λ i. refl; strayed = refl }))
 
   -- the fuse ran out
   pub apply_off : (count : ℕ) → count ≤ (d.world.nodes s).safe + to → IsFused (d.world.nodes s).fuse → Ends told d (Apply name to) (site_number d.world name) [] (Refused Off) (worked_for (crash_of d s count false) s)
   apply_off count few fused =
       let e : Doubted = worked_for (crash_of d s count false) s in
       subst (λ (i : ℕ). Ends told d (Apply name to) i [] (Refused Off) e) (sym number_is)
-      (FuseRunsOut (keeps_k count) (ApplyAt s to 0) [] (event_is 0) refl few fused refl refl (record { world = refl; after = λ i. refl }))
+      (FuseRunsOut (keeps_k count) (ApplyAt s to 0) [] (event_is 0) refl few fused refl refl (record { world = refl; after = λ i. refl; strayed = refl }))
 
 -- the site, whose fuse ran out in it
 module _ (d : Doubted) (s count : ℕ) (below : s < d.world.sites) (up : (d.world.nodes s).state ≡ IsUp) (least : (d.world.nodes s).safe ≤ count) (most : count ≤ length (d.world.nodes s).log) where

@@ -323,7 +323,7 @@ module _ {R : Type 0} {g : Ghosts R} where
       (AllDone (keeps_k f.count) f.taken tt
       (subst (λ (es : List Event). Replies told (Crash name pick) s f.taken d es Done) (sym ev)
       (subst (λ (o : EventSaid). RepeatsSaid (step (doubt_chosen f.taken d (CrashAt s f.count)).world (CrashAt s f.count)).world s o Done) (sym f.said) refl))
-      (subst (λ (es : List Event). IsLeft s (Crash name pick) f.taken d (run_as f.taken d es) e) (sym ev) (record { world = refl; after = λ i. refl })))
+      (subst (λ (es : List Event). IsLeft s (Crash name pick) f.taken d (run_as f.taken d es) e) (sym ev) (record { world = refl; after = λ i. refl; strayed = refl })))
 
   pub crash_leads : (d : Doubted) (old new : Yard R g) (name : List ℕ) (pick s : ℕ) → StandsFor d old → IsFree old (Crash name pick) → seat_of old.facts.items name ≡ Some s
       → ((d : Doubted) → StandsFor d old → s < d.world.sites → (d.world.nodes s).state ≡ Up → Falls d s old new) → Leads d (Crash name pick) Done old new

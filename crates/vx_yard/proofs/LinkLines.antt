@@ -73,7 +73,7 @@ pub connect_done : (told : Type 0) (d : Doubted) (p s : List ℕ) → (step d.wo
 connect_done told d p s is =
     let v : World = (step d.world (ConnectAt (site_number d.world p) (site_number d.world s))).world in
     record {
-      ends = LinksDone (record d { world = v }) (false, refl) refl refl (subst (λ (x : EventSaid). RepeatsSaid v 0 x Done) (sym is) refl) (record { world = refl; after = λ i. refl });
+      ends = LinksDone (record d { world = v }) (false, refl) refl refl (subst (λ (x : EventSaid). RepeatsSaid v 0 x Done) (sym is) refl) (record { world = refl; after = λ i. refl; strayed = refl });
       counts = tt;
       works = tt;
       calls = tt;
@@ -84,7 +84,7 @@ pub cut_done : (told : Type 0) (d : Doubted) (p s : List ℕ) → (step d.world 
 cut_done told d p s is =
     let v : World = (step d.world (CutAt (site_number d.world p) (site_number d.world s))).world in
     record {
-      ends = LinksDone (record d { world = v }) (false, refl) refl refl (subst (λ (x : EventSaid). RepeatsSaid v 0 x Done) (sym is) refl) (record { world = refl; after = λ i. refl });
+      ends = LinksDone (record d { world = v }) (false, refl) refl refl (subst (λ (x : EventSaid). RepeatsSaid v 0 x Done) (sym is) refl) (record { world = refl; after = λ i. refl; strayed = refl });
       counts = tt;
       works = tt;
       calls = tt;
@@ -95,7 +95,7 @@ pub pause_done : (told : Type 0) (d : Doubted) (p s : List ℕ) → (step d.worl
 pause_done told d p s is =
     let v : World = (step d.world (PauseAt (site_number d.world p) (site_number d.world s))).world in
     record {
-      ends = LinksDone (record d { world = v }) (false, refl) refl refl (subst (λ (x : EventSaid). RepeatsSaid v 0 x Done) (sym is) refl) (record { world = refl; after = λ i. refl });
+      ends = LinksDone (record d { world = v }) (false, refl) refl refl (subst (λ (x : EventSaid). RepeatsSaid v 0 x Done) (sym is) refl) (record { world = refl; after = λ i. refl; strayed = refl });
       counts = tt;
       works = tt;
       calls = tt;
@@ -106,7 +106,7 @@ pub resume_done : (told : Type 0) (d : Doubted) (p s : List ℕ) → (step d.wor
 resume_done told d p s is =
     let v : World = (step d.world (ResumeAt (site_number d.world p) (site_number d.world s))).world in
     record {
-      ends = LinksDone (record d { world = v }) (false, refl) refl refl (subst (λ (x : EventSaid). RepeatsSaid v 0 x Done) (sym is) refl) (record { world = refl; after = λ i. refl });
+      ends = LinksDone (record d { world = v }) (false, refl) refl refl (subst (λ (x : EventSaid). RepeatsSaid v 0 x Done) (sym is) refl) (record { world = refl; after = λ i. refl; strayed = refl });
       counts = tt;
       works = tt;
       calls = tt;
@@ -117,7 +117,7 @@ pub tick_done : (told : Type 0) (d : Doubted) (p s : List ℕ) → (step d.world
 tick_done told d p s is =
     let v : World = (step d.world (TickAt (site_number d.world p) (site_number d.world s))).world in
     record {
-      ends = LinksDone (record d { world = v }) (false, refl) refl refl (subst (λ (x : EventSaid). RepeatsSaid v 0 x Done) (sym is) refl) (record { world = refl; after = λ i. refl });
+      ends = LinksDone (record d { world = v }) (false, refl) refl refl (subst (λ (x : EventSaid). RepeatsSaid v 0 x Done) (sym is) refl) (record { world = refl; after = λ i. refl; strayed = refl });
       counts = tt;
       works = tt;
       calls = tt;
@@ -138,7 +138,7 @@ wait_done told files d p number listed free =
     let v : World = (step d.world (WaitAt (site_number d.world p) number)).world in
     record {
       ends = LinksDone (record d { world = v }) (false, refl) refl refl
-          (repeated v number (step d.world (WaitAt (site_number d.world p) number)).said (wait_agrees d.world files p number listed free)) (record { world = refl; after = λ i. refl });
+          (repeated v number (step d.world (WaitAt (site_number d.world p) number)).said (wait_agrees d.world files p number listed free)) (record { world = refl; after = λ i. refl; strayed = refl });
       counts = tt;
       works = tt;
       calls = tt;

@@ -15,6 +15,7 @@ use Rattle.vx_diskset.proofs.Roles.{role_like}
 use Rattle.vx_diskset.specs.Stands.{RoleIs, SiteStands}
 use Rattle.vx_diskset.specs.declared.disk_set.DiskSet.{DiskSet}
 use Rattle.vx_events.proofs.Calm.{chosen_world, run_world}
+use Rattle.vx_events.proofs.Straying.{run_strays}
 use Rattle.vx_events.specs.Doubts.{run_as}
 use Rattle.vx_events.specs.Effects.{ChangesNode}
 use Rattle.vx_events.specs.Ends.{AllDone, DiskFails, Ends, LeavesOf, MayName, noted}
@@ -67,6 +68,7 @@ none_left told d line s said v is says leads = AllDone first_choice false tt
     (record {
       world = leads ∙ ap (λ (es : List Event). noted s line (run d.world es)) (sym is) ∙ ap (λ (u : World). noted s line u) (sym (run_world d (events_of d.world line first_choice)));
       after = λ i. ap (λ (es : List Event). (run_as false d es).after i) (sym is);
+      strayed = sym (run_strays false d (events_of d.world line first_choice));
     })
 
 -- a line that was done by its one event, which crashes no site
@@ -80,12 +82,13 @@ one_left told d line s c e o said v is whole at says leads =
       world = leads ∙ ap (λ (p : Outcome). noted s line (headers_counted d.world e p).world) (sym at) ∙ ap (λ (es : List Event). noted s line (run d.world es)) (sym is)
           ∙ ap (λ (u : World). noted s line u) (sym (run_world d (events_of d.world line c)));
       after = λ i. ap (λ (k : Option ℕ). (resolved_for k d false).after i) (sym whole) ∙ ap (λ (es : List Event). (run_as false d es).after i) (sym is);
+      strayed = sym (run_strays false d (events_of d.world line c));
     })
 
 -- a disk failed, and nothing of the line's one event stands
 pub only_left : (told : Type 0) (d : Doubted) (line : ScriptLine) (s : ℕ) (e : Event) (disk : ℕ) → events_of d.world line first_choice ≡ e ∷ [] → LeavesOf e disk [] → MayName (d.world.nodes s) e disk → noted s line d.world ≡ d.world
     → Ends told d line s ((s, disk) ∷ []) (Refused (Device disk)) d
-only_left told d line s e disk is leaves names still = DiskFails first_choice false [] e [] [] disk is leaves names refl refl (record { world = sym still; after = λ i. refl })
+only_left told d line s e disk is leaves names still = DiskFails first_choice false [] e [] [] disk is leaves names refl refl (record { world = sym still; after = λ i. refl; strayed = refl })
 
 module _ {R : Type 0} {g : Ghosts R} where
   -- a site whose node is another, with what it has beside it

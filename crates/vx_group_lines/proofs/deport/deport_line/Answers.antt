@@ -49,9 +49,9 @@ returns-in-Ok-clause-leads g c = λ d stands over.
       is_line = record {
         place = (place_at d y c.args.name.now s stands seat).number;
         done = λ k. tt;
-        broke = λ k. record { world = refl; after = λ i. refl };
-        lacks = λ k. record { world = refl; after = λ i. refl };
-        off = λ k. record { world = refl; after = λ i. refl };
+        broke = λ k. record { world = refl; after = λ i. refl; strayed = refl };
+        lacks = λ k. record { world = refl; after = λ i. refl; strayed = refl };
+        off = λ k. record { world = refl; after = λ i. refl; strayed = refl };
       };
       up = up.up;
       cut = c.in-Ok.ensures.cut;
@@ -83,9 +83,9 @@ returns-in-Err-clause-leads g c = λ d stands over.
       is_line = record {
         place = (place_at d y c.args.name.now s stands seat).number;
         done = λ k. tt;
-        broke = λ k. record { world = refl; after = λ i. refl };
-        lacks = λ k. record { world = refl; after = λ i. refl };
-        off = λ k. record { world = refl; after = λ i. refl };
+        broke = λ k. record { world = refl; after = λ i. refl; strayed = refl };
+        lacks = λ k. record { world = refl; after = λ i. refl; strayed = refl };
+        off = λ k. record { world = refl; after = λ i. refl; strayed = refl };
       };
       up = up.up;
       cut = c.in-Err.ensures.cut;
@@ -119,9 +119,9 @@ returns-in-Ok-clause-above g c = λ d stands over.
       };
       is_line = record {
         done = λ k. tt;
-        broke = λ k. record { world = refl; after = λ i. refl };
-        lacks = λ k. record { world = refl; after = λ i. refl };
-        off = record { left = λ count k. record { world = refl; after = λ i. refl } };
+        broke = λ k. record { world = refl; after = λ i. refl; strayed = refl };
+        lacks = λ k. record { world = refl; after = λ i. refl; strayed = refl };
+        off = record { left = λ count k. record { world = refl; after = λ i. refl; strayed = refl } };
       };
       up = start.up;
       running = start.running;
@@ -159,9 +159,9 @@ returns-in-Err-clause-above g c = λ d stands over.
       };
       is_line = record {
         done = λ k. tt;
-        broke = λ k. record { world = refl; after = λ i. refl };
-        lacks = λ k. record { world = refl; after = λ i. refl };
-        off = record { left = λ count k. record { world = refl; after = λ i. refl } };
+        broke = λ k. record { world = refl; after = λ i. refl; strayed = refl };
+        lacks = λ k. record { world = refl; after = λ i. refl; strayed = refl };
+        off = record { left = λ count k. record { world = refl; after = λ i. refl; strayed = refl } };
       };
       up = start.up;
       running = start.running;

@@ -42,10 +42,10 @@ returns-in-Ok-clause-leads g c = λ d stands over.
       call = record { at = up.at; changed = record { there = at; later = c.in-Ok.ensures.later; disk_sets = refl; racks = refl }; failing = c.in-Ok.ensures.failing };
       is_line = record {
         place = (place_at d y c.args.name.now s stands seat).number;
-        done = λ k. record { world = refl; after = λ i. refl };
-        broke = λ k. record { world = refl; after = λ i. refl };
-        lacks = λ k. record { world = refl; after = λ i. refl };
-        off = λ k. record { world = refl; after = λ i. refl };
+        done = λ k. record { world = refl; after = λ i. refl; strayed = refl };
+        broke = λ k. record { world = refl; after = λ i. refl; strayed = refl };
+        lacks = λ k. record { world = refl; after = λ i. refl; strayed = refl };
+        off = λ k. record { world = refl; after = λ i. refl; strayed = refl };
       };
       up = up.up;
       cut = c.in-Ok.ensures.cut;
@@ -82,10 +82,10 @@ returns-in-Err-clause-leads g c = λ d stands over.
       };
       is_line = record {
         place = (place_at d y c.args.name.now s stands seat).number;
-        done = λ k. record { world = refl; after = λ i. refl };
-        broke = λ k. record { world = refl; after = λ i. refl };
-        lacks = λ k. record { world = refl; after = λ i. refl };
-        off = λ k. record { world = refl; after = λ i. refl };
+        done = λ k. record { world = refl; after = λ i. refl; strayed = refl };
+        broke = λ k. record { world = refl; after = λ i. refl; strayed = refl };
+        lacks = λ k. record { world = refl; after = λ i. refl; strayed = refl };
+        off = λ k. record { world = refl; after = λ i. refl; strayed = refl };
       };
       up = up.up;
       cut = c.in-Err.ensures.cut;
