@@ -31,7 +31,6 @@ pub mod ImportWhys
 pub mod GroupImports
 pub mod GroupVolume
 pub mod VolumeLine
-pub mod OnData
 pub mod Raising
 pub mod Resuming
 pub mod Recovering
@@ -45,6 +44,7 @@ pub mod MapGoing
 pub mod MapComing
 pub mod Numbered
 pub mod Going
+pub mod Worked
 pub mod Plains
 pub mod BelowAt
 pub mod BelowMissed

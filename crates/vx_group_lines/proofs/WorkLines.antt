@@ -12,7 +12,7 @@ use Rattle.vx_script.specs.declared.line.Layout.TheVariants.{Concat, Stripe}
 use Rattle.vx_script.specs.declared.line.ReadPolicy.{ReadPolicy}
 use Rattle.vx_script.specs.declared.line.ReadPolicy.TheVariants.{Round, Prefer}
 use Rattle.vx_script.specs.declared.line.ScriptLine.{ScriptLine}
-use Rattle.vx_script.specs.declared.line.ScriptLine.TheVariants.{GroupInit, GroupDeport, GroupImport, Volume, PlexDetach, PlexAttach, Disk, Crash, Fuse, Recover, Status, Write as WriteLine, Put as PutLine, Read as ReadLine, Show as ShowLine}
+use Rattle.vx_script.specs.declared.line.ScriptLine.TheVariants.{GroupInit, GroupDeport, GroupImport, Volume, PlexDetach, PlexAttach, Rvg, Disk, Crash, Fuse, Recover, Status, Write as WriteLine, Put as PutLine, Read as ReadLine, Show as ShowLine}
 use Rattle.vx_script.specs.declared.line.DiskState.{DiskState}
 use Rattle.vx_script.specs.declared.line.VolumeLog.{VolumeLog}
 use Rattle.vx_script.specs.declared.line.VolumeMap.{VolumeMap}
@@ -91,20 +91,21 @@ prefers_few (Prefer plex) mirrors few e =
 
 -- ---- a line that is none of the others
 
-pub rest_blocks : (line : ScriptLine) → is_group_kind line ≡ true → ((a : List ℕ) → line ≡ GroupInit a → ⊥) → ((a : List ℕ) → line ≡ GroupDeport a → ⊥) → ((a : List ℕ) → line ≡ GroupImport a → ⊥) → ((a : List ℕ) (b : List ℕ) (c : ℕ) (d : ℕ) (e : Layout) (f : VolumeLog) (g : VolumeMap) (h : ReadPolicy) → line ≡ Volume a b c d e f g h → ⊥) → ((a : List ℕ) (b : List ℕ) (c : ℕ) → line ≡ PlexDetach a b c → ⊥) → ((a : List ℕ) (b : List ℕ) (c : ℕ) → line ≡ PlexAttach a b c → ⊥) → ((a : List ℕ) (b : ℕ) (c : DiskState) → line ≡ Disk a b c → ⊥) → ((a : List ℕ) (b : ℕ) → line ≡ Crash a b → ⊥) → ((a : List ℕ) (b : ℕ) (c : ℕ) → line ≡ Fuse a b c → ⊥) → ((a : List ℕ) → line ≡ Recover a → ⊥) → ((a : List ℕ) → line ≡ Status a → ⊥)
+pub rest_blocks : (line : ScriptLine) → is_group_kind line ≡ true → ((a : List ℕ) → line ≡ GroupInit a → ⊥) → ((a : List ℕ) → line ≡ GroupDeport a → ⊥) → ((a : List ℕ) → line ≡ GroupImport a → ⊥) → ((a : List ℕ) (b : List ℕ) (c : ℕ) (d : ℕ) (e : Layout) (f : VolumeLog) (g : VolumeMap) (h : ReadPolicy) → line ≡ Volume a b c d e f g h → ⊥) → ((a : List ℕ) (b : List ℕ) (c : ℕ) → line ≡ PlexDetach a b c → ⊥) → ((a : List ℕ) (b : List ℕ) (c : ℕ) → line ≡ PlexAttach a b c → ⊥) → ((a : List ℕ) (b : List ℕ) (c : List ℕ) (d : List (List ℕ)) → line ≡ Rvg a b c d → ⊥) → ((a : List ℕ) (b : ℕ) (c : DiskState) → line ≡ Disk a b c → ⊥) → ((a : List ℕ) (b : ℕ) → line ≡ Crash a b → ⊥) → ((a : List ℕ) (b : ℕ) (c : ℕ) → line ≡ Fuse a b c → ⊥) → ((a : List ℕ) → line ≡ Recover a → ⊥) → ((a : List ℕ) → line ≡ Status a → ⊥)
     → is_block_kind line ≡ true
-rest_blocks (GroupInit a) is w0 w1 w2 w3 w4 w5 w6 w7 w8 w9 w10 = absurd (w0 a refl)
-rest_blocks (GroupDeport a) is w0 w1 w2 w3 w4 w5 w6 w7 w8 w9 w10 = absurd (w1 a refl)
-rest_blocks (GroupImport a) is w0 w1 w2 w3 w4 w5 w6 w7 w8 w9 w10 = absurd (w2 a refl)
-rest_blocks (Volume a b c d e f g h) is w0 w1 w2 w3 w4 w5 w6 w7 w8 w9 w10 = absurd (w3 a b c d e f g h refl)
-rest_blocks (PlexDetach a b c) is w0 w1 w2 w3 w4 w5 w6 w7 w8 w9 w10 = absurd (w4 a b c refl)
-rest_blocks (PlexAttach a b c) is w0 w1 w2 w3 w4 w5 w6 w7 w8 w9 w10 = absurd (w5 a b c refl)
-rest_blocks (Disk a b c) is w0 w1 w2 w3 w4 w5 w6 w7 w8 w9 w10 = absurd (w6 a b c refl)
-rest_blocks (Crash a b) is w0 w1 w2 w3 w4 w5 w6 w7 w8 w9 w10 = absurd (w7 a b refl)
-rest_blocks (Fuse a b c) is w0 w1 w2 w3 w4 w5 w6 w7 w8 w9 w10 = absurd (w8 a b c refl)
-rest_blocks (Recover a) is w0 w1 w2 w3 w4 w5 w6 w7 w8 w9 w10 = absurd (w9 a refl)
-rest_blocks (Status a) is w0 w1 w2 w3 w4 w5 w6 w7 w8 w9 w10 = absurd (w10 a refl)
-rest_blocks other is w0 w1 w2 w3 w4 w5 w6 w7 w8 w9 w10 = is
+rest_blocks (GroupInit a) is w0 w1 w2 w3 w4 w5 w6 w7 w8 w9 w10 w11 = absurd (w0 a refl)
+rest_blocks (GroupDeport a) is w0 w1 w2 w3 w4 w5 w6 w7 w8 w9 w10 w11 = absurd (w1 a refl)
+rest_blocks (GroupImport a) is w0 w1 w2 w3 w4 w5 w6 w7 w8 w9 w10 w11 = absurd (w2 a refl)
+rest_blocks (Volume a b c d e f g h) is w0 w1 w2 w3 w4 w5 w6 w7 w8 w9 w10 w11 = absurd (w3 a b c d e f g h refl)
+rest_blocks (PlexDetach a b c) is w0 w1 w2 w3 w4 w5 w6 w7 w8 w9 w10 w11 = absurd (w4 a b c refl)
+rest_blocks (PlexAttach a b c) is w0 w1 w2 w3 w4 w5 w6 w7 w8 w9 w10 w11 = absurd (w5 a b c refl)
+rest_blocks (Rvg a b c d) is w0 w1 w2 w3 w4 w5 w6 w7 w8 w9 w10 w11 = absurd (w6 a b c d refl)
+rest_blocks (Disk a b c) is w0 w1 w2 w3 w4 w5 w6 w7 w8 w9 w10 w11 = absurd (w7 a b c refl)
+rest_blocks (Crash a b) is w0 w1 w2 w3 w4 w5 w6 w7 w8 w9 w10 w11 = absurd (w8 a b refl)
+rest_blocks (Fuse a b c) is w0 w1 w2 w3 w4 w5 w6 w7 w8 w9 w10 w11 = absurd (w9 a b c refl)
+rest_blocks (Recover a) is w0 w1 w2 w3 w4 w5 w6 w7 w8 w9 w10 w11 = absurd (w10 a refl)
+rest_blocks (Status a) is w0 w1 w2 w3 w4 w5 w6 w7 w8 w9 w10 w11 = absurd (w11 a refl)
+rest_blocks other is w0 w1 w2 w3 w4 w5 w6 w7 w8 w9 w10 w11 = is
 
 pub rest_none : (line : ScriptLine) → is_block_kind line ≡ true → ((a b : List ℕ) (c d e : ℕ) → line ≡ WriteLine a b c d e → ⊥) → ((a b : List ℕ) (c : ℕ) (d : List ℕ) → line ≡ PutLine a b c d → ⊥)
     → ((a b : List ℕ) (c d : ℕ) → line ≡ ReadLine a b c d → ⊥) → ((a b : List ℕ) (c d : ℕ) → line ≡ ShowLine a b c d → ⊥) → ⊥

@@ -4,6 +4,7 @@ ghost use Rattle.vx_history.specs.Doubts.{Doubted};
 ghost use Rattle.vx_order.specs.Calls.{is_data};
 ghost use Rattle.vx_order.specs.declared.facts.SiteFacts.{SiteFacts};
 ghost use Rattle.vx_events.specs.Facts.{place_of, seat_of};
+ghost use Rattle.vx_events.specs.OpenLines.{is_open};
 ghost use Rattle.vx_events.specs.RvgSteps.{is_for_rvg};
 ghost use Rattle.vx_yard.specs.AboveLines.{WorksIs};
 ghost use Rattle.vx_events.specs.StepsOver.{over_group_at};
@@ -123,10 +124,10 @@ pub fn is_of_group<R: Rack>(yard: &Yard<R>, words: &ScriptLine) -> bool
     match words {
         ScriptLine::Recover { site } => is_grouped(yard, site),
         ScriptLine::Status { site } => is_group(yard, site),
-        ScriptLine::Write { site, volume, .. } => is_plain(yard, site, volume),
-        ScriptLine::Put { site, volume, .. } => is_plain(yard, site, volume),
-        ScriptLine::Read { site, volume, .. } => is_plain(yard, site, volume),
-        ScriptLine::Show { site, volume, .. } => is_plain(yard, site, volume),
+        ScriptLine::Write { site, .. } => is_group(yard, site),
+        ScriptLine::Put { site, .. } => is_group(yard, site),
+        ScriptLine::Read { site, .. } => is_group(yard, site),
+        ScriptLine::Show { site, .. } => is_group(yard, site),
         ScriptLine::Disk { site, .. } => is_group(yard, site),
         ScriptLine::Crash { site, .. } => is_group(yard, site),
         ScriptLine::Fuse { site, .. } => is_group(yard, site),
@@ -143,7 +144,7 @@ fn work_blocks<R: Rack>(
     requires kept { IsYardKept yard.old }
     requires free { IsFree yard.old words.now }
     requires goes { is_block_kind words.now ≡ true }
-    ensures leads { (d : Doubted) → StandsFor d yard.old → goes_to_group d.world words.now ≡ true → WorksIs d words.now yard.old yard.new result }
+    ensures leads { (d : Doubted) → StandsFor d yard.old → goes_to_group d.world words.now ≡ true → is_open d.world words.now ≡ false → WorksIs d words.now yard.old yard.new result }
     ensures asked { (d : Doubted) → StandsFor d yard.old → goes_to_group d.world words.now ≡ true → is_for_rvg d.world words.now ≡ false → AsAsked d.world words.now yard.old yard.new }
     ensures called { (d : Doubted) → StandsFor d yard.old → goes_to_group d.world words.now ≡ true → is_for_rvg d.world words.now ≡ false → IfOk result (λ said. HasCalled d.world words.now said yard.old yard.new) }
     ensures whole { takes_memory words.now ≡ false → IsOk result }
@@ -189,7 +190,7 @@ pub fn work_group<R: Rack>(
     requires kept { IsYardKept yard.old }
     requires free { IsFree yard.old words.now }
     requires goes { is_group_kind words.now ≡ true }
-    ensures leads { (d : Doubted) → StandsFor d yard.old → goes_to_group d.world words.now ≡ true → WorksIs d words.now yard.old yard.new result }
+    ensures leads { (d : Doubted) → StandsFor d yard.old → goes_to_group d.world words.now ≡ true → is_open d.world words.now ≡ false → WorksIs d words.now yard.old yard.new result }
     ensures asked { (d : Doubted) → StandsFor d yard.old → goes_to_group d.world words.now ≡ true → is_for_rvg d.world words.now ≡ false → AsAsked d.world words.now yard.old yard.new }
     ensures called { (d : Doubted) → StandsFor d yard.old → goes_to_group d.world words.now ≡ true → is_for_rvg d.world words.now ≡ false → IfOk result (λ said. HasCalled d.world words.now said yard.old yard.new) }
     ensures whole { takes_memory words.now ≡ false → IsOk result }

@@ -1,0 +1,169 @@
+-- What a line leads to that goes to the group of its site: one that finds no replicated volume group over it, and one that may find one.
+use Rattle.std.proofs.Common.{◌≡◌, ◌∙◌, Bool, true, false, List, ℕ, sym, subst, refl}
+use Rattle.std.specs.Prelude.{◌&&◌, ◌||◌, eqb, is_some, length, not, Result}
+use Rattle.vx_model.specs.declared.errors.OutOfMemory.{OutOfMemory}
+use Rattle.vx_disk.specs.declared.shelf.Shelf.{Ghosts}
+use Rattle.vx_history.specs.Doubts.{Doubted}
+use Rattle.vx_history.specs.World.{Node, World}
+use Rattle.vx_script.specs.declared.line.ScriptLine.{ScriptLine}
+use Rattle.vx_script.specs.declared.line.ScriptLine.TheVariants.{GroupInit, GroupDeport, GroupImport, Volume, PlexDetach, PlexAttach, Rvg, Disk, Crash, Fuse, Recover, Status, Write, Put, Read, Show}
+use Rattle.vx_events.specs.Facts.{site_number}
+use Rattle.vx_events.specs.GroupEnds.{BringsUp}
+use Rattle.vx_events.specs.GroupLines.{is_over_group}
+use Rattle.vx_events.specs.OpenLines.{is_open}
+use Rattle.vx_events.specs.RvgSteps.{MakesNoRvg, is_for_rvg, over_rvg_at}
+use Rattle.vx_events.specs.RvgViews.{is_over_rvg}
+use Rattle.vx_events.specs.StepsOver.{is_for_group, over_group_at}
+use Rattle.vx_events.specs.declared.said.Said.{Said}
+use Rattle.vx_yard.specs.AboveLines.{LeadsAboveIs, LeadsBesideIs, WorksIs}
+use Rattle.vx_yard.specs.Gaining.{LeadsRvgIs}
+use Rattle.vx_yard.specs.Standing.{LeadsOverIs, StandsFor}
+use Rattle.vx_yard.specs.Working.{IsFree}
+use Rattle.vx_yard.specs.Yards.{IsYardKept, in_files}
+use Rattle.vx_yard.specs.declared.yard.Yard.{Yard}
+use Rattle.vx_above.proofs.Works.{works_above, works_beside, works_over, works_rvg}
+use Rattle.vx_group_lines.specs.Plain.{goes_to_group}
+use Rattle.vx_group_lines.proofs.Going.{grouped_is}
+use Rattle.vx_group_lines.proofs.GroupLeads.{or_stops}
+use Rattle.vx_group_lines.proofs.Tests.{UpMay, attach_may, deport_may, detach_may, import_may, volume_may}
+
+or_left : (a b : Bool) → (a || b) ≡ true → b ≡ false → a ≡ true
+or_left true b is off = refl
+or_left false b is off = absurd (let clash : true ≡ false = sym is ∙ off in cc)
+
+-- a group without a replicated volume group has none over it
+none_by : (group none : Bool) → (group && none) ≡ true → (group && not none) ≡ false
+none_by true true is = refl
+none_by true false is = absurd (let clash : false ≡ true = is in cc)
+none_by false none is = refl
+
+none_at : (n : Node) → is_over_group n ≡ true → is_over_rvg n ≡ false
+none_at n over = none_by (is_some n.group) (eqb (length n.volumes) 0) over
+
+-- a line that may do nothing but work on the group, or that makes it
+abbrev pub WorksAlone : ScriptLine → Type 0
+WorksAlone (GroupDeport site) = ⊥
+WorksAlone (GroupImport site) = ⊥
+WorksAlone (Recover site) = ⊥
+WorksAlone (Rvg site srl maps volumes) = ⊥
+WorksAlone other = Unit {0}
+
+alone_makes : (line : ScriptLine) → WorksAlone line → MakesNoRvg line
+alone_makes (Rvg site srl maps volumes) alone = alone
+alone_makes other alone = tt
+
+alone_brings : (line : ScriptLine) → WorksAlone line → BringsUp line → ⊥
+alone_brings (GroupImport site) alone brings = alone
+alone_brings (Recover site) alone brings = alone
+alone_brings other alone brings = brings
+
+-- where it is not open, no replicated volume group is over the group
+alone_off : (w : World) (line : ScriptLine) → WorksAlone line → goes_to_group w line ≡ true → is_open w line ≡ false → is_for_rvg w line ≡ false
+alone_off w (GroupInit site) alone goes closed = refl
+alone_off w (GroupDeport site) alone goes closed = absurd alone
+alone_off w (GroupImport site) alone goes closed = absurd alone
+alone_off w (Volume site volume blocks mirrors layout log map policy) alone goes closed = closed
+alone_off w (PlexDetach site volume plex) alone goes closed = closed
+alone_off w (PlexAttach site volume plex) alone goes closed = closed
+alone_off w (Rvg site srl maps volumes) alone goes closed = absurd alone
+alone_off w (Disk site disk state) alone goes closed = none_at (w.nodes (site_number w site)) goes
+alone_off w (Crash site pick) alone goes closed = none_at (w.nodes (site_number w site)) goes
+alone_off w (Fuse site calls pick) alone goes closed = none_at (w.nodes (site_number w site)) goes
+alone_off w (Recover site) alone goes closed = absurd alone
+alone_off w (Status site) alone goes closed = none_at (w.nodes (site_number w site)) goes
+alone_off w (Write site volume start count fill) alone goes closed = none_at (w.nodes (site_number w site)) goes
+alone_off w (Put site volume start bytes) alone goes closed = none_at (w.nodes (site_number w site)) goes
+alone_off w (Read site volume start count) alone goes closed = none_at (w.nodes (site_number w site)) goes
+alone_off w (Show site volume start count) alone goes closed = none_at (w.nodes (site_number w site)) goes
+alone_off w other alone goes closed = absurd (let clash : false ≡ true = goes in cc)
+
+module _ {R : Type 0} {g : Ghosts R} (d : Doubted) (y : Yard R g) where
+  up_alone : (name : List ℕ) → StandsFor d y → UpMay y.facts.items name → over_rvg_at d.world name ≡ false → over_group_at d.world name ≡ true
+  up_alone name stands may off =
+      or_left (over_group_at d.world name) (over_rvg_at d.world name)
+      (sym (grouped_is d y name may.site.at.place may.site.facts stands may.site.at.is may.site.at.there) ∙ may.grouped) off
+
+  -- a line that goes to the group of its site, and no replicated volume group is over that
+  alone_goes : (line : ScriptLine) → MakesNoRvg line → StandsFor d y → IsYardKept y → IsFree y line → goes_to_group d.world line ≡ true → is_for_rvg d.world line ≡ false → is_for_group d.world line ≡ true
+  alone_goes (GroupInit name) none stands kept free goes off = refl
+  alone_goes (GroupDeport name) none stands kept free goes off = up_alone name stands (deport_may y.facts.items (in_files y) name free) off
+  alone_goes (GroupImport name) none stands kept free goes off =
+      let may = import_may y.facts.items (in_files y) name free in
+      or_left (over_group_at d.world name) (over_rvg_at d.world name)
+      (sym (grouped_is d y name may.site.at.place may.site.facts stands may.site.at.is may.site.at.there) ∙ (kept.each may.site.at.place may.site.facts may.site.at.there).grouped may.away) off
+  alone_goes (Volume name volume blocks mirrors layout log map policy) none stands kept free goes off =
+      up_alone name stands (volume_may y.facts.items (in_files y) name volume blocks mirrors layout log map policy free).may off
+  alone_goes (PlexDetach name volume plex) none stands kept free goes off = up_alone name stands (detach_may y.facts.items (in_files y) name volume plex free).may off
+  alone_goes (PlexAttach name volume plex) none stands kept free goes off = up_alone name stands (attach_may y.facts.items (in_files y) name volume plex free).may off
+  alone_goes (Rvg name srl maps volumes) none stands kept free goes off = absurd none
+  alone_goes (Disk name disk state) none stands kept free goes off = goes
+  alone_goes (Crash name pick) none stands kept free goes off = goes
+  alone_goes (Fuse name calls pick) none stands kept free goes off = goes
+  alone_goes (Recover name) none stands kept free goes off = or_left (over_group_at d.world name) (over_rvg_at d.world name) goes off
+  alone_goes (Status name) none stands kept free goes off = goes
+  alone_goes (Write name volume start count fill) none stands kept free goes off = goes
+  alone_goes (Put name volume start bytes) none stands kept free goes off = goes
+  alone_goes (Read name volume start count) none stands kept free goes off = goes
+  alone_goes (Show name volume start count) none stands kept free goes off = goes
+  alone_goes other none stands kept free goes off = absurd (let clash : false ≡ true = goes in cc)
+
+  -- the words of the line
+  pub goes_alone : (words line : ScriptLine) → words ≡ line → MakesNoRvg line → StandsFor d y → IsYardKept y → IsFree y words → goes_to_group d.world words ≡ true → is_for_rvg d.world words ≡ false → is_for_group d.world line ≡ true
+  goes_alone words line is none stands kept free goes off =
+      alone_goes line none stands kept (subst (λ (x : ScriptLine). IsFree y x) is free) (subst (λ (x : ScriptLine). goes_to_group d.world x ≡ true) is goes)
+      (subst (λ (x : ScriptLine). is_for_rvg d.world x ≡ false) is off)
+
+  module _ (new : Yard R g) where
+    -- ---- one that finds no replicated volume group, or is open
+
+    alone_works : (line : ScriptLine) (r : Result Said OutOfMemory) → WorksAlone line → StandsFor d y → IsYardKept y → IsFree y line → goes_to_group d.world line ≡ true → is_open d.world line ≡ false
+        → (is_for_group d.world line ≡ true → LeadsOverIs d line y new r) → WorksIs d line y new r
+    alone_works line r alone stands kept free goes closed leads =
+        let off : is_for_rvg d.world line ≡ false = alone_off d.world line alone goes closed in
+        let group : is_for_group d.world line ≡ true = alone_goes line (alone_makes line alone) stands kept free goes off in
+        works_over d line y new (alone_makes line alone) closed off r group (λ next brings. absurd (alone_brings line alone brings)) (or_stops d line y new r (leads group))
+
+    pub works_closed : (words line : ScriptLine) (r : Result Said OutOfMemory) → words ≡ line → WorksAlone line → StandsFor d y → IsYardKept y → IsFree y words → goes_to_group d.world words ≡ true → is_open d.world words ≡ false
+        → (is_for_group d.world line ≡ true → LeadsOverIs d line y new r) → WorksIs d words y new r
+    works_closed words line r is alone stands kept free goes closed leads =
+        subst (λ (x : ScriptLine). WorksIs d x y new r) (sym is)
+        (alone_works line r alone stands kept (subst (λ (x : ScriptLine). IsFree y x) is free) (subst (λ (x : ScriptLine). goes_to_group d.world x ≡ true) is goes)
+        (subst (λ (x : ScriptLine). is_open d.world x ≡ false) is closed) leads)
+
+    -- ---- one that may find one
+
+    -- that is not brought up
+    deport_works : (name : List ℕ) (r : Result Said OutOfMemory) → StandsFor d y → IsYardKept y → IsFree y (GroupDeport name) → (is_for_group d.world (GroupDeport name) ≡ true → LeadsOverIs d (GroupDeport name) y new r)
+        → (is_for_rvg d.world (GroupDeport name) ≡ true → LeadsAboveIs d (GroupDeport name) y new r) → WorksIs d (GroupDeport name) y new r
+    deport_works name r stands kept free leads above = by (over_rvg_at d.world name) refl
+      where
+        by : (b : Bool) → over_rvg_at d.world name ≡ b → WorksIs d (GroupDeport name) y new r
+        by true over = works_above d (GroupDeport name) y new tt refl over r (above over)
+        by false off =
+            let group : is_for_group d.world (GroupDeport name) ≡ true = alone_goes (GroupDeport name) tt stands kept free refl off in
+            works_over d (GroupDeport name) y new tt refl off r group (λ next brings. absurd brings) (or_stops d (GroupDeport name) y new r (leads group))
+
+    pub works_deport : (words : ScriptLine) (name : List ℕ) (r : Result Said OutOfMemory) → words ≡ GroupDeport name → StandsFor d y → IsYardKept y → IsFree y words → (is_for_group d.world (GroupDeport name) ≡ true → LeadsOverIs d (GroupDeport name) y new r)
+        → (is_for_rvg d.world (GroupDeport name) ≡ true → LeadsAboveIs d (GroupDeport name) y new r) → WorksIs d words y new r
+    works_deport words name r is stands kept free leads above =
+        subst (λ (x : ScriptLine). WorksIs d x y new r) (sym is) (deport_works name r stands kept (subst (λ (x : ScriptLine). IsFree y x) is free) leads above)
+
+    -- that is brought up
+    brought_works : (line : ScriptLine) (r : Result Said OutOfMemory) → MakesNoRvg line → StandsFor d y → IsYardKept y → IsFree y line → goes_to_group d.world line ≡ true → is_open d.world line ≡ false
+        → (is_for_group d.world line ≡ true → LeadsBesideIs d line y new r) → (is_for_rvg d.world line ≡ true → LeadsAboveIs d line y new r) → WorksIs d line y new r
+    brought_works line r none stands kept free goes closed beside above = by (is_for_rvg d.world line) refl
+      where
+        by : (b : Bool) → is_for_rvg d.world line ≡ b → WorksIs d line y new r
+        by true over = works_above d line y new none closed over r (above over)
+        by false off = works_beside d line y new none closed off r (beside (alone_goes line none stands kept free goes off))
+
+    pub works_brought : (words line : ScriptLine) (r : Result Said OutOfMemory) → words ≡ line → MakesNoRvg line → StandsFor d y → IsYardKept y → IsFree y words → goes_to_group d.world words ≡ true → is_open d.world words ≡ false
+        → (is_for_group d.world line ≡ true → LeadsBesideIs d line y new r) → (is_for_rvg d.world line ≡ true → LeadsAboveIs d line y new r) → WorksIs d words y new r
+    works_brought words line r is none stands kept free goes closed beside above =
+        subst (λ (x : ScriptLine). WorksIs d x y new r) (sym is)
+        (brought_works line r none stands kept (subst (λ (x : ScriptLine). IsFree y x) is free) (subst (λ (x : ScriptLine). goes_to_group d.world x ≡ true) is goes)
+        (subst (λ (x : ScriptLine). is_open d.world x ≡ false) is closed) beside above)
+
+    -- that is made
+    pub works_made : (words : ScriptLine) (site srl maps : List ℕ) (volumes : List (List ℕ)) (r : Result Said OutOfMemory) → words ≡ Rvg site srl maps volumes → LeadsRvgIs d site srl maps volumes y new r → WorksIs d words y new r
+    works_made words site srl maps volumes r is leads = subst (λ (x : ScriptLine). WorksIs d x y new r) (sym is) (works_rvg d site srl maps volumes y new r leads)
