@@ -1,5 +1,5 @@
 -- What a line came to at sites with replicated volume groups over groups of disks where contents are told it came to where even more is told.
-use Rattle.std.proofs.Common.{◌⊎◌, ℕ, Bool, true, false, inl, inr}
+use Rattle.std.proofs.Common.{ℕ, Bool, true, false, inl, inr}
 use Rattle.std.specs.Prelude.{Option, Some, None}
 use Rattle.vx_history.specs.Doubts.{Doubted}
 use Rattle.vx_history.specs.Groups.{GroupNode}
@@ -7,7 +7,7 @@ use Rattle.vx_history.specs.World.{World}
 use Rattle.vx_model.specs.declared.no.No.{No}
 use Rattle.vx_model.specs.declared.units.Units.{Units}
 use Rattle.vx_script.specs.declared.line.ScriptLine.{ScriptLine}
-use Rattle.vx_script.specs.declared.line.ScriptLine.TheVariants.{GroupDeport, GroupImport, Recover, Rvg}
+use Rattle.vx_script.specs.declared.line.ScriptLine.TheVariants.{GroupImport, Recover, Rvg}
 use Rattle.vx_events.specs.Ends.{place_of}
 use Rattle.vx_events.specs.Facts.{site_number}
 use Rattle.vx_events.specs.Fails.{Fails}
@@ -19,15 +19,14 @@ use Rattle.vx_events.specs.Brights.{told_for}
 use Rattle.vx_events.specs.OpenLines.{is_open}
 use Rattle.vx_events.specs.RvgMakes.{MakesRvg, RvgCut, RvgDone, RvgFails, RvgLacks}
 use Rattle.vx_events.specs.RvgNotes.{NotesLacking, NotesNarrowed, NotesNoRvg, NotesRvg}
-use Rattle.vx_events.specs.RvgOver.{BelowEnds, CutBelow, EndsOver, OverRvg, missed_in}
+use Rattle.vx_events.specs.RvgOver.{EndsOver, OverRvg}
 use Rattle.vx_events.specs.RvgParts.{RvgShort, ShortFull, ShortGroup, ShortLog, ShortMade, ShortPump, short_place}
 use Rattle.vx_events.specs.RvgSteps.{AsBefore, FoundOne, FullBy, Gained, WorksAbove, WorksBeside, WorksFull, is_for_rvg, rvg_place}
 use Rattle.vx_events.specs.StepsOver.{group_place, is_for_group}
 use Rattle.vx_events.specs.declared.said.Said.{Said}
-use Rattle.vx_events.proofs.GroupTold.{back_told, group_told, known_told, nothing_told, shows_told}
+use Rattle.vx_events.proofs.GroupTold.{back_told, known_told, nothing_told, shows_told}
 use Rattle.vx_events.proofs.LineTold.{ends_told}
 use Rattle.vx_events.proofs.Tolds.{for_more, works_told}
-use Rattle.vx_events.specs.GroupEnds.{GroupEnds}
 
 module _ {T U : Type 0} (f : U → T) where
   -- ---- a line that makes one
@@ -98,17 +97,7 @@ module _ {T U : Type 0} (f : U → T) where
     left = x.left;
   }
 
-  below_told : (d : Doubted) (line : ScriptLine) (s : ℕ) (fails : Fails) (said : Said) (new : Doubted) → BelowEnds T d line s fails said new → BelowEnds U d line s fails said new
-  below_told d line s fails said new x = record { missed = x.missed; ends = by x.ends }
-    where
-      by : GroupEnds T (missed_in x.missed d s) line s fails said new ⊎ CutBelow (missed_in x.missed d s) line s fails said new → GroupEnds U (missed_in x.missed d s) line s fails said new ⊎ CutBelow (missed_in x.missed d s) line s fails said new
-      by (inl ends) = inl (group_told f (missed_in x.missed d s) line s fails said new ends)
-      by (inr cut) = inr cut
-
   place_told : (d : Doubted) (line : ScriptLine) (s : ℕ) (fails : Fails) (said : Said) (new : Doubted) → OverRvg T d line s fails said new → OverRvg U d line s fails said new
-  place_told d (GroupDeport site) s fails said new x = below_told d (GroupDeport site) s fails said new x
-  place_told d (GroupImport site) s fails said new (inl x) = inl (came_told d (GroupImport site) s fails said new x)
-  place_told d (GroupImport site) s fails said new (inr x) = inr (found_told d (GroupImport site) s fails said new x)
   place_told d (Recover site) s fails said new (inl x) = inl (came_told d (Recover site) s fails said new x)
   place_told d (Recover site) s fails said new (inr x) = inr (found_told d (Recover site) s fails said new x)
   place_told d other s fails said new x = over_told d other s fails said new x

@@ -9,7 +9,6 @@ pub mod GroupTold
 pub mod LineTold
 pub mod RvgStopping
 pub mod RvgEnding
-pub mod RvgMissed
 pub mod RvgEvents
 pub mod RvgFull
 pub mod RvgGains

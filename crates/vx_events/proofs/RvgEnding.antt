@@ -6,27 +6,26 @@ use Rattle.vx_model.specs.declared.site.SiteState.{SiteState}
 use Rattle.vx_model.specs.declared.site.SiteState.TheVariants.{Bare, Up, Deported, Down}
 use Rattle.vx_history.proofs.Updates.{by_test}
 use Rattle.vx_history.specs.Doubts.{Doubted}
-use Rattle.vx_history.specs.Groups.{GroupNode, MissedNote}
+use Rattle.vx_history.specs.Groups.{GroupNode}
 use Rattle.vx_history.specs.Likes.{IsLike}
 use Rattle.vx_history.specs.Stops.{EventsEnd, AllDone as EventsDone, Halts, Cuts, Reads, IsLikeDoubted, IsOpen, all_fails, told_fails}
 use Rattle.vx_history.specs.World.{NoFuse, Node, World}
 use Rattle.vx_history.specs.declared.event.Event.{Event}
 use Rattle.vx_history.specs.declared.event.Event.TheVariants.{Crash as CrashAt, Fall as FallAt, Recover as RecoverAt}
 use Rattle.vx_script.specs.declared.line.ScriptLine.{ScriptLine}
-use Rattle.vx_script.specs.declared.line.ScriptLine.TheVariants.{Site, Raw, Disk as DiskLine, Crash, Fuse as FuseLine, GroupDeport, GroupImport, Recover, Write, Put, Read, Show, Apply, Status}
-use Rattle.vx_events.proofs.GroupStopping.{events_tell, group_stops, noted_like}
+use Rattle.vx_script.specs.declared.line.ScriptLine.TheVariants.{Site, Raw, Disk as DiskLine, Crash, Fuse as FuseLine, GroupImport, Recover, Write, Put, Read, Show, Apply, Status}
+use Rattle.vx_events.proofs.GroupStopping.{events_tell, noted_like}
 use Rattle.vx_events.proofs.LinkStopping.{link_stops}
 use Rattle.vx_events.proofs.Noting.{as_like, disks_like, like_disks, like_noted, like_self, like_then, same_like, like_site}
 use Rattle.vx_events.proofs.RvgFull.{brings_found}
 use Rattle.vx_events.proofs.RvgKnown.{back_dark}
-use Rattle.vx_events.proofs.RvgMissed.{missed_like}
 use Rattle.vx_events.proofs.RvgStopping.{ended as ended_rvg, noted_doubted, same_doubted}
 use Rattle.vx_events.proofs.Stopping.{BeginsWrite, ended, runs_as}
 use Rattle.vx_events.specs.Doubts.{run_as, with_disks}
 use Rattle.vx_events.specs.Ends.{place_of}
 use Rattle.vx_events.specs.Facts.{site_number}
 use Rattle.vx_events.specs.Fails.{Fails}
-use Rattle.vx_events.specs.GroupEnds.{BringsUp, GroupEnds}
+use Rattle.vx_events.specs.GroupEnds.{BringsUp}
 use Rattle.vx_events.specs.GroupLines.{group_events, group_noted, noting}
 use Rattle.vx_events.specs.GroupNotes.{IsKnown, note_at}
 use Rattle.vx_events.specs.Lists.{Choice, events_of, recovery_of, crash_count}
@@ -35,7 +34,7 @@ use Rattle.vx_events.specs.Brights.{AllKnown}
 use Rattle.vx_events.specs.RvgLinks.{LinksOver, noting_each, noted_there}
 use Rattle.vx_events.specs.RvgMakes.{RvgStops, noting_in}
 use Rattle.vx_events.specs.RvgNotes.{volume_events}
-use Rattle.vx_events.specs.RvgOver.{CutBelow, EndsOver, OpensFor, OverRvg, missed_in, noting_over, fuse_behind}
+use Rattle.vx_events.specs.RvgOver.{EndsOver, OpensFor, OverRvg, noting_over, fuse_behind}
 use Rattle.vx_events.specs.RvgParts.{RvgShort, ShortGroup, ShortLog, ShortMade, ShortPump}
 use Rattle.vx_events.specs.RvgViews.{is_over_rvg}
 use Rattle.vx_events.specs.RvgWorks.{AgreesOr}
@@ -164,17 +163,6 @@ module _ (told : Type 0) (d : Doubted) (line : ScriptLine) (s : ℕ) (fails : Fa
 
   -- ---- other lines
 
-  below_stops : CutBelow d line s fails said new → RvgStops d new
-  below_stops cut =
-      let last : Doubted = run_as cut.taken d (CrashAt s cut.kept ∷ []) in
-      record {
-        before = d;
-        like = same_doubted d;
-        events = CrashAt s cut.kept ∷ [];
-        ending = [];
-        stops = EventsDone last (runs_as cut.taken d (CrashAt s cut.kept ∷ [])) refl (back_like s line cut.taken cut.next d last new cut.left);
-      }
-
   over_stops : IsKnown told (note_at (d.world.nodes s))
       → ((c : Choice) → BeginsWrite (events_of d.world line c) → IsOpen (d.world.nodes (place_of d.world line)) × (place_of d.world line < d.world.sites))
       → EndsOver told d line s fails said new → RvgStops d new
@@ -224,22 +212,6 @@ opens_at w other opens c h = absurd h
 
 -- ---- any line at such a site
 
--- a deport
-place_stops : (told : Type 0) (d : Doubted) (line : ScriptLine) (s : ℕ) (fails : Fails) (said : Said) (new : Doubted) (w : MissedNote)
-    → GroupEnds told (missed_in w d s) line s fails said new ⊎ CutBelow (missed_in w d s) line s fails said new → RvgStops d new
-place_stops told d line s fails said new w (inl ends) =
-    let stops = group_stops told (missed_in w d s) line s fails said new ends in
-    record { before = missed_in w d s; like = missed_like w d s; events = stops.events; ending = []; stops = stops.stops }
-place_stops told d line s fails said new w (inr cut) =
-    let stops = below_stops told (missed_in w d s) line s fails said new cut in
-    record {
-      before = stops.before;
-      like = doubted_then d (missed_in w d s) stops.before (missed_like w d s) stops.like;
-      events = stops.events;
-      ending = stops.ending;
-      stops = stops.stops;
-    }
-
 module _ (told : Type 0) (is_told : told) (d : Doubted) (s : ℕ) (bright : (note_at (d.world.nodes s)).dark ≡ false) (fails : Fails) (said : Said) (new : Doubted) where
   -- what the disks hold is known, and imports agree, so nothing else is found on them
   pub never_found : (line : ScriptLine) → (note_at (d.world.nodes s)).loose ≡ false → RvgFinds told d line s fails said new → ⊥
@@ -268,8 +240,6 @@ module _ (told : Type 0) (is_told : told) (d : Doubted) (s : ℕ) (bright : (not
 
   -- the line ended as events do, or found something on disks of which nothing is known
   pub stops_or_finds : (line : ScriptLine) → OpensFor d.world line → OverRvg told d line s fails said new → RvgStops d new ⊎ RvgFinds told d line s fails said new
-  stops_or_finds (GroupDeport site) opens below = inl (place_stops told d (GroupDeport site) s fails said new below.missed below.ends)
-  stops_or_finds (GroupImport site) opens ends = back_or (GroupImport site) ends
   stops_or_finds (Recover site) opens ends = back_or (Recover site) ends
   stops_or_finds other opens ends = inl (over_stops told d other s fails said new (is_told, bright) (opens_at d.world other opens) ends)
 

@@ -3,7 +3,7 @@ use Rattle.std.proofs.Common.{◌≡◌, ◌∙◌, ◌⊎◌, inl, inr, ℕ, Bo
 use Rattle.std.specs.Prelude.{unwrap_or}
 use Rattle.vx_history.proofs.Updates.{at_place}
 use Rattle.vx_history.specs.Doubts.{Doubted}
-use Rattle.vx_history.specs.Groups.{GroupNode, MissedNote}
+use Rattle.vx_history.specs.Groups.{GroupNode}
 use Rattle.vx_history.specs.Steps.{burned}
 use Rattle.vx_history.specs.Stops.{IsFused}
 use Rattle.vx_history.specs.World.{NoFuse, Node, World}
@@ -11,19 +11,18 @@ use Rattle.vx_history.specs.declared.event.Event.{Event}
 use Rattle.vx_config.specs.declared.config.Config.{Config}
 use Rattle.vx_model.specs.declared.units.Units.{Units}
 use Rattle.vx_script.specs.declared.line.ScriptLine.{ScriptLine}
-use Rattle.vx_script.specs.declared.line.ScriptLine.TheVariants.{GroupDeport, GroupImport, Put, Read, Recover, Show, Write}
-use Rattle.vx_events.proofs.KnownLaws.{back_known, cuts_known, finds_none, group_known, group_stays, no_rise, same_note}
-use Rattle.vx_events.proofs.RvgMissed.{missed_dark, missed_note}
+use Rattle.vx_script.specs.declared.line.ScriptLine.TheVariants.{Put, Read, Recover, Show, Write}
+use Rattle.vx_events.proofs.KnownLaws.{back_known, finds_none, group_stays, no_rise, same_note}
 use Rattle.vx_events.specs.Doubts.{with_disks}
 use Rattle.vx_events.specs.Fails.{Fails}
-use Rattle.vx_events.specs.GroupEnds.{BringsUp, GroupEnds}
+use Rattle.vx_events.specs.GroupEnds.{BringsUp}
 use Rattle.vx_events.specs.GroupLines.{noting}
 use Rattle.vx_events.specs.GroupNotes.{Reconfigures, no_note, note_at}
 use Rattle.vx_events.specs.Known.{MayDarken}
 use Rattle.vx_events.specs.RvgBack.{FindsNoRvg, FindsPlain, FindsRvg, GetsRvg, GroupCutOff, GroupHeld, GroupUnfound, HadRvg, IsLeftBack, KeptLost, LogCut, LogFails, LogLacks, RestsWithRvg, RvgBack, RvgFinds, RvgUp, fuse_left}
 use Rattle.vx_events.specs.RvgMakes.{IsLeftRvg, MakesRvg, RvgCut, RvgDone, RvgFails, RvgLacks, units_at}
 use Rattle.vx_events.specs.RvgNotes.{NotesNarrowed}
-use Rattle.vx_events.specs.RvgOver.{CutBelow, EndsOver, NotesLine, OverRvg, missed_in, noting_over, fuse_behind}
+use Rattle.vx_events.specs.RvgOver.{EndsOver, NotesLine, OverRvg, noting_over, fuse_behind}
 use Rattle.vx_events.specs.RvgWorks.{FuseRanOut, NotesWork, WorksAs}
 use Rattle.vx_events.specs.declared.said.Said.{Said}
 
@@ -140,21 +139,6 @@ module _ (told : Type 0) (tells : told) (d : Doubted) (s : ℕ) (known : (note_a
   back_or_known line free (inl back) = back_known_too line free back
   back_or_known line free (inr finds) = absurd (finds_known line free finds)
 
-  missed_known : (w : MissedNote) (line : ScriptLine) → (MayDarken here line said → ⊥) → GroupEnds told (missed_in w d s) line s fails said new ⊎ CutBelow (missed_in w d s) line s fails said new
-      → (note_at (new.world.nodes s)).dark ≡ false
-  missed_known w line free ends = by ends
-    where
-      same_free : MayDarken (note_at ((missed_in w d s).world.nodes s)) line said → ⊥
-      same_free may = free (subst (λ (k : GroupNode). MayDarken k line said) (missed_note w d s) may)
-
-      by : GroupEnds told (missed_in w d s) line s fails said new ⊎ CutBelow (missed_in w d s) line s fails said new → (note_at (new.world.nodes s)).dark ≡ false
-      by (inl it) = group_known told tells (missed_in w d s) line s fails said new it (missed_dark w d s known) same_free
-      by (inr cut) =
-          back_note s line cut.taken cut.next (missed_in w d s) _ new cut.left
-          (cuts_known s (note_at ((missed_in w d s).world.nodes s)) line fails cut.next (missed_dark w d s known) (no_rise (note_at ((missed_in w d s).world.nodes s)) line said _ cut.says same_free) cut.cuts)
-
   pub over_known : (line : ScriptLine) → (MayDarken here line said → ⊥) → OverRvg told d line s fails said new → (note_at (new.world.nodes s)).dark ≡ false
-  over_known (GroupDeport site) free below = missed_known below.missed (GroupDeport site) free below.ends
-  over_known (GroupImport site) free ends = back_or_known (GroupImport site) free ends
   over_known (Recover site) free ends = back_or_known (Recover site) free ends
   over_known other free ends = line_known other ends

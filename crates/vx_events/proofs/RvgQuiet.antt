@@ -10,18 +10,16 @@ use Rattle.vx_history.specs.World.{Node, World}
 use Rattle.vx_history.specs.declared.event.Event.{Event}
 use Rattle.vx_config.specs.declared.config.Config.{Config}
 use Rattle.vx_script.specs.declared.line.ScriptLine.{ScriptLine}
-use Rattle.vx_script.specs.declared.line.ScriptLine.TheVariants.{GroupDeport, GroupImport, Recover, Write, Put, Read, Show}
-use Rattle.vx_events.proofs.KnownLaws.{left_note}
+use Rattle.vx_script.specs.declared.line.ScriptLine.TheVariants.{Recover, Write, Put, Read, Show}
 use Rattle.vx_events.proofs.RvgEnding.{never_found}
-use Rattle.vx_events.proofs.RvgMissed.{missed_agrees, missed_node}
 use Rattle.vx_events.proofs.RvgStays.{back_group, but_group, each_group}
 use Rattle.vx_events.specs.Fails.{Fails}
-use Rattle.vx_events.specs.GroupEnds.{FindsGroup, FindsNoGroup, GroupCut, GroupDoes, GroupDone, GroupEnds, GroupFails, GroupLacks, GroupNotFound, ImportFails, InitFails, KeptUnread, NotFoundLeaves}
+use Rattle.vx_events.specs.GroupEnds.{NotFoundLeaves}
 use Rattle.vx_events.specs.GroupMaps.{WithMaps}
 use Rattle.vx_events.specs.GroupNotes.{NotesBack, NotesRefused, Reconfigures, no_note, note_at}
 use Rattle.vx_events.specs.RvgBack.{GetsRvg, GroupCutOff, GroupHeld, GroupUnfound, HadRvg, KeptLost, LogCut, LogFails, LogLacks, RestsWithRvg, RvgBack, RvgFinds, RvgUp}
 use Rattle.vx_events.specs.RvgLinks.{LinksOver, NotesThere, works_at}
-use Rattle.vx_events.specs.RvgOver.{BelowEnds, CutBelow, EndsOver, NotesLine, OverRvg, SaysOver, missed_in}
+use Rattle.vx_events.specs.RvgOver.{EndsOver, NotesLine, OverRvg, SaysOver}
 use Rattle.vx_events.specs.RvgViews.{is_over_rvg}
 use Rattle.vx_events.specs.RvgWorks.{FuseRanOut, NoneFailed, NoteAgrees}
 use Rattle.vx_events.specs.declared.said.Said.{Said}
@@ -53,31 +51,8 @@ agrees_at : (m : Node) (next : GroupNode) → m.group ≡ Some next → NoteAgre
 agrees_at m next is a = subst (λ (g : GroupNode). NoteAgrees g) (sym (ap (λ (o : Option GroupNode). unwrap_or o no_note) is)) a
 
 module _ (told : Type 0) (s : ℕ) (n : Node) (note : GroupNode) (fails : Fails) (said : Said) (next : GroupNode) (a : NoteAgrees note) where
-  deport_agrees : (site : List ℕ) → GroupDoes told s n note (GroupDeport site) fails said next → NoteAgrees next
-  deport_agrees site does = settled_maps note next does.0 a
 
 -- ---- a line at such a site
-
--- a deport
-module _ (told : Type 0) (d : Doubted) (s : ℕ) (fails : Fails) (said : Said) (new : Doubted) (none : NoneFailed s fails) (dry : FuseRanOut (d.world.nodes s) said → ⊥)
-    (a : NoteAgrees (note_at (d.world.nodes s))) (site : List ℕ) where
-  group_agrees : GroupEnds told d (GroupDeport site) s fails said new → NoteAgrees (note_at (new.world.nodes s))
-  group_agrees (GroupDone next are does left) =
-      agrees_at (new.world.nodes s) next (left_note s (GroupDeport site) next _ new left) (deport_agrees told s (d.world.nodes s) (note_at (d.world.nodes s)) fails said next a site does)
-  group_agrees (GroupLacks why wants without says left) =
-      agrees_at (new.world.nodes s) (note_at (d.world.nodes s)) (left_note s (GroupDeport site) (note_at (d.world.nodes s)) d new left) a
-  group_agrees (GroupFails disk next are has spoils says left) = absurd (none disk has)
-  group_agrees (InitFails disk at is are has says left) = absurd (none disk has)
-  group_agrees (ImportFails why next at is are refuses begun says left) = absurd (cc)
-  group_agrees (KeptUnread disk next at is are has back says left) = absurd (none disk has)
-  group_agrees (GroupCut next are fused cuts says left) = absurd (dry (fused, says))
-  group_agrees (GroupNotFound why next are brings not leaves says left) = absurd brings
-  group_agrees (FindsGroup next are brings unknown dark says left) = absurd brings
-  group_agrees (FindsNoGroup next why are brings unknown device refused says left) = absurd brings
-
-  place_agrees : GroupEnds told d (GroupDeport site) s fails said new ⊎ CutBelow d (GroupDeport site) s fails said new → NoteAgrees (note_at (new.world.nodes s))
-  place_agrees (inl ends) = group_agrees ends
-  place_agrees (inr cut) = absurd (dry (cut.fused, cut.says))
 
 module _ (told : Type 0) (tells : told) (d : Doubted) (s : ℕ) (fails : Fails) (said : Said) (new : Doubted) (none : NoneFailed s fails)
     (dry : FuseRanOut (d.world.nodes s) said → ⊥) (bright : (note_at (d.world.nodes s)).dark ≡ false) (a : NoteAgrees (note_at (d.world.nodes s))) where
@@ -126,14 +101,7 @@ module _ (told : Type 0) (tells : told) (d : Doubted) (s : ℕ) (fails : Fails) 
   back_or line (inl back) = back_agrees line back
   back_or line (inr finds) = absurd (never_found told tells d s bright fails said new line a.loose finds)
 
-  below_agrees : (site : List ℕ) → BelowEnds told d (GroupDeport site) s fails said new → NoteAgrees (note_at (new.world.nodes s))
-  below_agrees site below =
-      let w : MissedNote = below.missed in
-      place_agrees told (missed_in w d s) s fails said new none (λ off. dry (subst (λ (n : Node). FuseRanOut n said) (missed_node w d s) off)) (missed_agrees w d s a) site below.ends
-
   pub over_agrees : (line : ScriptLine) → OverRvg told d line s fails said new → NoteAgrees (note_at (new.world.nodes s))
-  over_agrees (GroupDeport site) below = below_agrees site below
-  over_agrees (GroupImport site) ends = back_or (GroupImport site) ends
   over_agrees (Recover site) ends = back_or (Recover site) ends
   over_agrees other ends = line_ends other ends
 

@@ -1,35 +1,33 @@
 -- A line at a site over a group of disks with a replicated volume group leaves it noted with the one that it had, on the same volumes.
-use Rattle.std.proofs.Common.{◌≡◌, ◌∙◌, ◌⊎◌, inl, inr, ℕ, Bool, true, false, List, Option, Some, ap, refl, sym, subst}
+use Rattle.std.proofs.Common.{◌≡◌, ◌∙◌, ◌⊎◌, inl, inr, ℕ, Bool, true, false, List, Option, Some, ap, sym, subst}
 use Rattle.std.specs.Prelude.{if◌then◌else◌, slice_get, unwrap_or}
 use Rattle.vx_model.specs.declared.no.Counted.TheVariants.{Number}
 use Rattle.vx_model.specs.declared.no.No.{No}
 use Rattle.vx_model.specs.declared.no.No.TheVariants.{Limit}
 use Rattle.vx_history.specs.Doubts.{Doubted}
-use Rattle.vx_history.specs.Groups.{GroupNode, MissedNote}
+use Rattle.vx_history.specs.Groups.{GroupNode}
 use Rattle.vx_history.specs.Stops.{IsFused}
 use Rattle.vx_history.specs.World.{Node, World}
 use Rattle.vx_history.specs.declared.event.Event.{Event}
 use Rattle.vx_config.specs.declared.config.Config.{Config}
 use Rattle.vx_script.specs.declared.line.ScriptLine.{ScriptLine}
-use Rattle.vx_script.specs.declared.line.ScriptLine.TheVariants.{GroupDeport, GroupImport, Recover, Write, Put, Read, Show}
-use Rattle.vx_events.proofs.KnownLaws.{group_stays, left_note, never}
+use Rattle.vx_script.specs.declared.line.ScriptLine.TheVariants.{Recover, Write, Put, Read, Show}
+use Rattle.vx_events.proofs.KnownLaws.{group_stays, never}
 use Rattle.vx_events.proofs.Places.{some_same}
-use Rattle.vx_events.proofs.RvgConfigs.{again_keeps, closed_keeps, keeps_self, keeps_then, loses_keeps, stayed}
+use Rattle.vx_events.proofs.RvgConfigs.{keeps_self, keeps_then, loses_keeps, stayed}
 use Rattle.vx_events.proofs.RvgEvents.{rvg_apart}
-use Rattle.vx_events.proofs.RvgMissed.{missed_keeps}
 use Rattle.vx_events.proofs.RvgKnown.{back_dark, lost_group, noted_here, noted_over_here}
-use Rattle.vx_events.specs.Doubts.{IsAs, with_disks}
+use Rattle.vx_events.specs.Doubts.{with_disks}
 use Rattle.vx_events.specs.Fails.{Fails}
-use Rattle.vx_events.specs.GroupConfigs.{ConfigLoses, opened_again}
-use Rattle.vx_events.specs.GroupEnds.{FindsGroup, FindsNoGroup, GroupCut, GroupDoes, GroupDone, GroupEnds, GroupFails, GroupLacks, GroupNotFound, ImportFails, InitFails, KeptUnread, NotFoundLeaves}
+use Rattle.vx_events.specs.GroupConfigs.{ConfigLoses}
+use Rattle.vx_events.specs.GroupEnds.{NotFoundLeaves}
 use Rattle.vx_events.specs.GroupLines.{group_noted, noting}
-use Rattle.vx_events.specs.GroupMaps.{WithMaps}
 use Rattle.vx_events.specs.GroupNotes.{IsKnown, NotesBack, NotesRefused, Reconfigures, no_note, note_at}
 use Rattle.vx_events.specs.GroupViews.{config_of}
 use Rattle.vx_events.specs.RvgBack.{FindsNoRvg, FindsPlain, FindsRvg, GetsRvg, GroupCutOff, GroupHeld, GroupUnfound, HadRvg, IsLeftBack, IsLeftBut, KeptLost, LogCut, LogFails, LogLacks, RestsWithRvg, RvgBack, RvgFinds, RvgUp}
 use Rattle.vx_events.specs.RvgFits.{KeepsRvg, KeptConfig, NoteKeepsRvg, config_rvg, rvg_noted}
 use Rattle.vx_events.specs.RvgLinks.{LinksOver, NotesThere, noting_each, works_at, noted_there}
-use Rattle.vx_events.specs.RvgOver.{CutBelow, NotesLine, OverRvg, missed_in, EndsOver}
+use Rattle.vx_events.specs.RvgOver.{NotesLine, OverRvg, EndsOver}
 use Rattle.vx_events.specs.RvgViews.{is_over_rvg}
 use Rattle.vx_events.specs.RvgWorks.{NotesWork, FuseRanOut, WorksCut}
 use Rattle.vx_events.specs.declared.said.Said.{Said}
@@ -60,21 +58,8 @@ reconfigured note next keeps x c at = record {
   keeps = subst (λ (k : Config). KeepsRvg k x.now) (some_same (sym x.was ∙ at)) (keeps x.old x.now x.change);
 }
 
--- what is noted of the regions that plexes missed may go on too
-mapped : {Goes : GroupNode → GroupNode → Type 0} {Maps : Config → Config → MissedNote → MissedNote → Type 0} (note next : GroupNode) → ((m : GroupNode) → Goes note m → NoteKeepsRvg note m)
-    → WithMaps Goes Maps note next → NoteKeepsRvg note next
-mapped note next keeps x = then_same note x.middle next (keeps x.middle x.goes) (ap (λ (g : GroupNode). g.config) x.is)
-
 pub loses : {K : GroupNode → GroupNode → Type 0} (s : ℕ) (fails : Fails) (note next : GroupNode) → Reconfigures (ConfigLoses s fails) K note next → NoteKeepsRvg note next
 loses s fails note next x = reconfigured note next (λ c d. loses_keeps (λ _. false) s fails c d) x
-
-loses_mapped : {K : GroupNode → GroupNode → Type 0} {Maps : Config → Config → MissedNote → MissedNote → Type 0} (s : ℕ) (fails : Fails) (note next : GroupNode)
-    → WithMaps (Reconfigures (ConfigLoses s fails) K) Maps note next → NoteKeepsRvg note next
-loses_mapped s fails note next x = mapped note next (λ m moves. loses s fails note m moves) x
-
-mapped_by : {C : Config → Config → Type 0} {K : GroupNode → GroupNode → Type 0} {Maps : Config → Config → MissedNote → MissedNote → Type 0} (note next : GroupNode)
-    → ((c d : Config) → C c d → KeepsRvg c d) → WithMaps (Reconfigures C K) Maps note next → NoteKeepsRvg note next
-mapped_by note next keeps x = mapped note next (λ m moves. reconfigured note m keeps moves) x
 
 pub refused_config : (note next : GroupNode) → NotesRefused note next → next.config ≡ note.config
 refused_config note next (inl same) = ap (λ (g : GroupNode). g.config) same
@@ -88,52 +73,14 @@ unfound_config other note next leaves = ap (λ (g : GroupNode). g.config) leaves
 pub by_note : (m : Node) (note next : GroupNode) → m.group ≡ Some next → NoteKeepsRvg note next → NoteKeepsRvg note (note_at m)
 by_note m note next is keeps = subst (λ (g : GroupNode). NoteKeepsRvg note g) (sym (ap (λ (o : Option GroupNode). unwrap_or o no_note) is)) keeps
 
--- ---- a deport
+-- ---- recoveries and imports
 
--- the note that it leaves
+-- the note that such a line leaves
 pub back_group : (s : ℕ) (line : ScriptLine) (taken : Bool) (next : GroupNode) (before last new : Doubted) → IsLeftBack s line taken next before last new
     → (new.world.nodes s).group ≡ Some next
 back_group s line taken next before last new left =
     let u : World = with_disks taken s before.world last.world in
     ap (λ (w : World). (w.nodes s).group) left.world ∙ group_stays s line (noting u s next) ∙ noted_here u s next
-
-deport_keeps : (told : Type 0) (s : ℕ) (n : Node) (note : GroupNode) (site : List ℕ) (fails : Fails) (said : Said) (next : GroupNode)
-    → GroupDoes told s n note (GroupDeport site) fails said next → NoteKeepsRvg note next
-deport_keeps told s n note site fails said next does =
-    mapped_by note next
-    (λ c d x.
-    keeps_then c (opened_again c) d (again_keeps c)
-    (keeps_then (opened_again c) (opened_again d) d (loses_keeps (λ _. false) s fails (opened_again c) (opened_again d) x) (closed_keeps d))) does.0
-
-module _ (told : Type 0) (d : Doubted) (site : List ℕ) (s : ℕ) (fails : Fails) (said : Said) (new : Doubted) where
-  abbrev noted : GroupNode
-  noted = note_at (d.world.nodes s)
-
-  unchanged : IsAs d d.world new → NoteKeepsRvg (note_at (d.world.nodes s)) (note_at (new.world.nodes s))
-  unchanged left = subst (λ (w : World). NoteKeepsRvg (note_at (d.world.nodes s)) (note_at (w.nodes s))) (sym left.world) (same_config noted noted refl)
-
-  group_keeps : GroupEnds told d (GroupDeport site) s fails said new → NoteKeepsRvg (note_at (d.world.nodes s)) (note_at (new.world.nodes s))
-  group_keeps (GroupDone next are does left) =
-      by_note (new.world.nodes s) noted next (left_note s (GroupDeport site) next _ new left) (deport_keeps told s (d.world.nodes s) noted site fails said next does)
-  group_keeps (GroupLacks why wants none says left) = by_note (new.world.nodes s) noted noted (left_note s (GroupDeport site) noted d new left) (same_config noted noted refl)
-  group_keeps (GroupFails disk next are has spoils says left) =
-      by_note (new.world.nodes s) noted next (left_note s (GroupDeport site) next _ new left) (loses_mapped s fails noted next spoils)
-  group_keeps (InitFails disk at is are has says left) = unchanged left
-  group_keeps (ImportFails why next at is are refuses begun says left) = absurd (cc)
-  group_keeps (KeptUnread disk next at is are has back says left) = absurd (cc)
-  group_keeps (GroupCut next are fused cuts says left) =
-      by_note (new.world.nodes s) noted next (left_note s (GroupDeport site) next _ new left) (loses_mapped s fails noted next cuts)
-  group_keeps (GroupNotFound why next are brings not leaves says left) = absurd brings
-  group_keeps (FindsGroup next are brings unknown dark says left) = absurd brings
-  group_keeps (FindsNoGroup next why are brings unknown device refused says left) = absurd brings
-
-  place_keeps : GroupEnds told d (GroupDeport site) s fails said new ⊎ CutBelow d (GroupDeport site) s fails said new
-      → NoteKeepsRvg (note_at (d.world.nodes s)) (note_at (new.world.nodes s))
-  place_keeps (inl ends) = group_keeps ends
-  place_keeps (inr cut) =
-      by_note (new.world.nodes s) noted cut.next (back_group s (GroupDeport site) cut.taken cut.next d _ new cut.left) (loses_mapped s fails noted cut.next cut.cuts)
-
--- ---- recoveries and imports
 
 pub but_group : (lost : Bool) (s : ℕ) (line : ScriptLine) (taken : Bool) (next : GroupNode) (before last new : Doubted) → IsLeftBut lost s line taken next before last new
     → (new.world.nodes s).group ≡ Some next
@@ -241,9 +188,6 @@ module _ (told : Type 0) (d : Doubted) (s : ℕ) (fails : Fails) (said : Said) (
 
   -- the line left it noted so, or found something on disks of which nothing is known
   pub stays_or_finds : (line : ScriptLine) → OverRvg told d line s fails said new → Stays ⊎ RvgFinds told d line s fails said new
-  stays_or_finds (GroupDeport site) below =
-      inl (missed_keeps below.missed d s (note_at (new.world.nodes s)) (place_keeps told (missed_in below.missed d s) site s fails said new below.ends))
-  stays_or_finds (GroupImport site) ends = back_or (GroupImport site) ends
   stays_or_finds (Recover site) ends = back_or (Recover site) ends
   stays_or_finds other ends = inl (line_stays told d other s fails said new over ends)
 

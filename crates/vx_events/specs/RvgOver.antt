@@ -1,32 +1,27 @@
 -- How a line that is not open ends at a site over a group of disks with a replicated volume group: as at a raw set, but that disks may fail which a mirror
 -- bears, and that the site notes what the line made of its group.
-use Rattle.std.specs.Prelude.{◌≡◌, ◌⊎◌, ℕ, ◌<◌, Bool, true, false, List, [], ◌∷◌, ◌++◌, Option, Some, None, slice_get, unwrap_or}
-use Rattle.vx_model.specs.declared.no.No.TheVariants.{Down as IsOff}
+use Rattle.std.specs.Prelude.{◌≡◌, ◌⊎◌, ℕ, ◌<◌, Bool, true, false, List, ◌++◌, Option, Some, None, slice_get, unwrap_or}
 use Rattle.vx_history.specs.Doubts.{Doubted}
-use Rattle.vx_history.specs.Groups.{GroupNode, MissedNote}
-use Rattle.vx_history.specs.Missing.{with_maps}
-use Rattle.vx_history.specs.Stops.{IsFused, IsOpen}
+use Rattle.vx_history.specs.Groups.{GroupNode}
+use Rattle.vx_history.specs.Stops.{IsOpen}
 use Rattle.vx_history.specs.Steps.{burned}
 use Rattle.vx_history.specs.World.{Fuse, FuseLit, FuseSet, NoFuse, Node, World, with_node}
-use Rattle.vx_history.specs.declared.event.Event.TheVariants.{Crash as CrashAt}
 use Rattle.vx_order.specs.declared.facts.VolumeFacts.{VolumeFacts}
 use Rattle.vx_order.specs.declared.facts.VolumeKind.{VolumeKind}
 use Rattle.vx_order.specs.declared.facts.VolumeKind.TheVariants.{Data, Srl, Map, Plain}
 use Rattle.vx_script.specs.declared.line.ScriptLine.{ScriptLine}
-use Rattle.vx_script.specs.declared.line.ScriptLine.TheVariants.{Disk, Fuse as FuseLine, GroupDeport, GroupImport, Put, Read, Recover, Show, Status, Write}
-use Rattle.vx_events.specs.Doubts.{IsAs, run_as, with_disks}
+use Rattle.vx_script.specs.declared.line.ScriptLine.TheVariants.{Disk, Fuse as FuseLine, Put, Read, Recover, Show, Status, Write}
+use Rattle.vx_events.specs.Doubts.{IsAs}
 use Rattle.vx_events.specs.Ends.{Ends, place_of as site_of}
 use Rattle.vx_events.specs.Facts.{place_of, site_number}
 use Rattle.vx_events.specs.Fails.{Fails}
-use Rattle.vx_events.specs.GroupEnds.{AreOf, GroupCuts, GroupEnds}
-use Rattle.vx_events.specs.GroupLines.{group_noted, noting}
+use Rattle.vx_events.specs.GroupEnds.{AreOf}
 use Rattle.vx_events.specs.GroupNotes.{IsKnown, note_at}
 use Rattle.vx_events.specs.RvgBack.{RvgBack, RvgFinds}
-use Rattle.vx_events.specs.RvgMakes.{noting_in}
 use Rattle.vx_events.specs.RvgViews.{over_disks, table_at}
 use Rattle.vx_events.specs.RvgWorks.{NotesWork, FuseRanOut}
 use Rattle.vx_events.specs.declared.said.Said.{Said}
-use Rattle.vx_events.specs.declared.said.Said.TheVariants.{Refused, Shown}
+use Rattle.vx_events.specs.declared.said.Said.TheVariants.{Shown}
 
 -- ---- kinds of lines
 
@@ -96,31 +91,8 @@ pub record EndsOver (told : Type 0) (d : Doubted) (line : ScriptLine) (s : ℕ) 
   pub says : SaysOver (d.world.nodes s) next inner said
   pub left : IsAs middle (noting_over line d.world middle.world s next) new
 
--- The fuse of the disks ran out in a deport of the group. Where a disk halted the replicated volume group, the crash may keep the write that it ended.
-pub record CutBelow (d : Doubted) (line : ScriptLine) (s : ℕ) (fails : Fails) (said : Said) (new : Doubted) : Type 0 where
-  pub are : AreOf s fails
-  pub fused : IsFused (d.world.nodes s).fuse
-  pub kept : ℕ
-  pub taken : Bool
-  pub next : GroupNode
-  pub cuts : GroupCuts s (note_at (d.world.nodes s)) line fails next
-  pub says : said ≡ Refused IsOff
-  pub left : let last = run_as taken d (CrashAt s kept ∷ []) in IsAs last (group_noted s line (noting (with_disks taken s d.world last.world) s next)) new
-
--- the worlds in which the site notes this of the regions that plexes of its group missed
-abbrev pub missed_in : MissedNote → Doubted → ℕ → Doubted
-missed_in w d s = noting_in d s (with_maps w (note_at (d.world.nodes s)))
-
--- A deport ends as one of a group without a replicated volume group, or its fuse ran out: to the replicated volume group it is a crash that keeps what is safe.
--- What plexes missed as it begins, and the serial, are not noted where calls of a replicated volume group change them: it may be anything.
-pub record BelowEnds (told : Type 0) (d : Doubted) (line : ScriptLine) (s : ℕ) (fails : Fails) (said : Said) (new : Doubted) : Type 0 where
-  pub missed : MissedNote
-  pub ends : GroupEnds told (missed_in missed d s) line s fails said new ⊎ CutBelow (missed_in missed d s) line s fails said new
-
--- a line at site s over a group with a replicated volume group, but for those on links: a deport, one that takes the site up again, or another
+-- a line at site s over a group with a replicated volume group, but for those on links: a recovery, or another
 abbrev pub OverRvg : Type 0 → Doubted → ScriptLine → ℕ → Fails → Said → Doubted → Type 0
-OverRvg told d (GroupDeport site) s fails said new = BelowEnds told d (GroupDeport site) s fails said new
-OverRvg told d (GroupImport site) s fails said new = RvgBack told d (GroupImport site) s fails said new ⊎ RvgFinds told d (GroupImport site) s fails said new
 OverRvg told d (Recover site) s fails said new = RvgBack told d (Recover site) s fails said new ⊎ RvgFinds told d (Recover site) s fails said new
 OverRvg told d other s fails said new = EndsOver told d other s fails said new
 

@@ -1,15 +1,14 @@
 -- However a line ends that is no refused recovery or import, it stays known what the disks of all groups hold, where imports agree of a group that it brings up.
-use Rattle.std.proofs.Common.{◌≡◌, ◌∙◌, ◌⊎◌, inl, inr, ℕ, List, [], ◌∷◌, ◌++◌, Bool, true, false, ap, sym, subst}
+use Rattle.std.proofs.Common.{◌≡◌, ◌∙◌, inl, inr, ℕ, List, [], ◌∷◌, ◌++◌, Bool, true, false, ap, sym, subst}
 use Rattle.std.specs.Prelude.{Option, Some, None, unwrap_or}
 use Rattle.vx_model.specs.declared.no.No.{No}
 use Rattle.vx_history.specs.Doubts.{Doubted, crashed_as, halved}
-use Rattle.vx_history.specs.Groups.{GroupNode, MissedNote}
-use Rattle.vx_history.specs.Missing.{with_maps}
+use Rattle.vx_history.specs.Groups.{GroupNode}
 use Rattle.vx_history.specs.World.{Node, World}
 use Rattle.vx_history.specs.declared.event.Event.{Event}
 use Rattle.vx_history.specs.declared.event.Event.TheVariants.{Crash as CrashAt, Fault, Recover as RecoverAt}
 use Rattle.vx_script.specs.declared.line.ScriptLine.{ScriptLine}
-use Rattle.vx_script.specs.declared.line.ScriptLine.TheVariants.{GroupDeport, GroupImport, Recover, Rvg}
+use Rattle.vx_script.specs.declared.line.ScriptLine.TheVariants.{GroupImport, Recover, Rvg}
 use Rattle.vx_events.proofs.KnownLaws.{group_known, left_note}
 use Rattle.vx_events.proofs.RvgEnding.{never_found}
 use Rattle.vx_events.proofs.RvgFull.{brings_found}
@@ -34,7 +33,7 @@ use Rattle.vx_events.proofs.Tolds.{told_now}
 use Rattle.vx_events.specs.RvgMakes.{IsLeftRvg, MakesRvg, RvgCut, RvgDone, RvgFails, RvgLacks, noting_in, units_at}
 use Rattle.vx_events.specs.RvgNotes.{volume_events}
 use Rattle.vx_events.specs.OpenLines.{is_open}
-use Rattle.vx_events.specs.RvgOver.{CutBelow, EndsOver, OverRvg, missed_in, noting_over, fuse_behind}
+use Rattle.vx_events.specs.RvgOver.{EndsOver, OverRvg, noting_over, fuse_behind}
 use Rattle.vx_events.specs.RvgSteps.{AsBefore, FoundOne, FullBy, Gained, StepFull, WorksAbove, WorksBeside, WorksFull, is_for_rvg, rvg_place}
 use Rattle.vx_events.specs.StepsOver.{WorksOver, group_place, is_for_group, refused_over}
 use Rattle.vx_events.specs.declared.said.Said.{Said}
@@ -154,13 +153,6 @@ group_bright d b fails said new told line s held here (FindsGroup next are bring
 group_bright d b fails said new told line s held here (FindsNoGroup next why are brings unknown device notes says left) =
     over_bright s line next (run_as false d (refused_events (d.world.nodes s) s line)) new left here (run_bright false d (refused_events (d.world.nodes s) s line) b)
 
--- a deport
-place_bright : (d : Doubted) → AllBright d → (fails : Fails) (said : Said) (new : Doubted) (told : Type 0) (line : ScriptLine) (s : ℕ) → (IsHeldDown line said → ⊥) → IsBright (new.world.nodes s)
-    → GroupEnds told d line s fails said new ⊎ CutBelow d line s fails said new → AllBright new
-place_bright d b fails said new told line s held here (inl ends) = group_bright d b fails said new told line s held here ends
-place_bright d b fails said new told line s held here (inr cut) =
-    back_bright s line cut.taken cut.next d (run_as cut.taken d (CrashAt s cut.kept ∷ [])) new cut.left here b (run_bright cut.taken d (CrashAt s cut.kept ∷ []) b)
-
 module _ (told : Type 0) (tells : told) (d : Doubted) (b : AllBright d) (fails : Fails) (said : Said) (new : Doubted) where
   -- the worlds from which the log of a group that came up comes up
   pub from_bright : (line : ScriptLine) (s kept : ℕ) (middle next : GroupNode) (from : Doubted) (rest : List Event) → next.dark ≡ false
@@ -207,11 +199,6 @@ module _ (told : Type 0) (tells : told) (d : Doubted) (b : AllBright d) (fails :
 
   place_or : (line : ScriptLine) (s : ℕ) → (IsHeldDown line said → ⊥) → (BringsUp line → (note_at (d.world.nodes s)).loose ≡ false)
       → IsBright (new.world.nodes s) → OverRvg told d line s fails said new → AllBright new
-  place_or (GroupDeport site) s held agree here below =
-      let w : MissedNote = below.missed in
-      place_bright (missed_in w d s) (in_bright d s (with_maps w (note_at (d.world.nodes s))) (b.sites s) b) fails said new told (GroupDeport site) s held here below.ends
-  place_or (GroupImport site) s held agree here (inl back) = rises_bright (GroupImport site) s held here back
-  place_or (GroupImport site) s held agree here (inr finds) = absurd (never_found told tells d s (b.sites s) fails said new (GroupImport site) (agree tt) finds)
   place_or (Recover site) s held agree here (inl back) = rises_bright (Recover site) s held here back
   place_or (Recover site) s held agree here (inr finds) = absurd (never_found told tells d s (b.sites s) fails said new (Recover site) (agree tt) finds)
   place_or other s held agree here ends = line_bright other s here ends

@@ -1,13 +1,12 @@
 -- However a line ends, a site that is more than bare and at which it does not work notes of its group what it noted.
-use Rattle.std.proofs.Common.{◌≡◌, ◌∙◌, ◌⊎◌, inl, inr, ℕ, List, [], ◌∷◌, ◌++◌, Bool, true, false, refl, ap, sym, subst}
+use Rattle.std.proofs.Common.{◌≡◌, ◌∙◌, inl, inr, ℕ, List, [], ◌∷◌, ◌++◌, Bool, true, false, refl, ap, sym, subst}
 use Rattle.std.specs.Prelude.{eqb, not, ◌||◌, Option, Some, None}
 use Rattle.vx_model.specs.declared.no.No.{No}
 use Rattle.vx_history.proofs.Updates.{by_test, eqb_apart}
 use Rattle.vx_history.specs.Doubts.{Doubted, crashed_as, halved}
 use Rattle.vx_history.specs.Events.{with_write}
 use Rattle.vx_history.specs.Good.{IsMade}
-use Rattle.vx_history.specs.Groups.{GroupNode, MissedNote}
-use Rattle.vx_history.specs.Missing.{with_maps}
+use Rattle.vx_history.specs.Groups.{GroupNode}
 use Rattle.vx_history.specs.Steps.{group_set}
 use Rattle.vx_history.specs.World.{Link as LinkRecord, Node, World, no_link}
 use Rattle.vx_history.specs.declared.event.Event.{Event}
@@ -34,7 +33,7 @@ use Rattle.vx_events.specs.Brights.{told_for}
 use Rattle.vx_events.specs.RvgMakes.{IsLeftRvg, MakesRvg, RvgCut, RvgDone, RvgFails, RvgLacks, noting_in, units_at}
 use Rattle.vx_events.specs.RvgNotes.{volume_events}
 use Rattle.vx_events.specs.OpenLines.{is_open}
-use Rattle.vx_events.specs.RvgOver.{CutBelow, EndsOver, OverRvg, missed_in, noting_over, fuse_behind}
+use Rattle.vx_events.specs.RvgOver.{EndsOver, OverRvg, noting_over, fuse_behind}
 use Rattle.vx_events.specs.RvgSteps.{AsBefore, FoundOne, FullBy, Gained, StepFull, WorksAbove, WorksBeside, WorksFull, is_for_rvg, rvg_place}
 use Rattle.vx_events.specs.StepsOver.{WorksOver, group_place, is_for_group, refused_over}
 use Rattle.vx_events.specs.declared.said.Said.{Said}
@@ -171,13 +170,6 @@ module _ (i : ℕ) (o : Option GroupNode) where
       over_notes s line next (run_as false d (group_events (d.world.nodes s) s line)) new apart left (OtherNotes.run_stands i o false d (group_events (d.world.nodes s) s line) x).has
   group_notes d x told fails said new line s apart (FindsNoGroup next why are brings unknown device notes says left) =
       over_notes s line next (run_as false d (refused_events (d.world.nodes s) s line)) new apart left (OtherNotes.run_stands i o false d (refused_events (d.world.nodes s) s line) x).has
-
-  -- one on the group alone
-  place_notes : (d : Doubted) → OtherNotes.Standing i o d → (told : Type 0) (fails : Fails) (said : Said) (new : Doubted) (line : ScriptLine) (s : ℕ) → eqb i s ≡ false
-      → GroupEnds told d line s fails said new ⊎ CutBelow d line s fails said new → HasNote i o new
-  place_notes d x told fails said new line s apart (inl ends) = group_notes d x told fails said new line s apart ends
-  place_notes d x told fails said new line s apart (inr cut) =
-      back_notes s line cut.taken cut.next d (run_as cut.taken d (CrashAt s cut.kept ∷ [])) new apart cut.left x.has (OtherNotes.run_stands i o cut.taken d (CrashAt s cut.kept ∷ []) x).has
 
   module _ (d : Doubted) (x : OtherNotes.Standing i o d) where
     -- what events lead to
@@ -355,11 +347,6 @@ module _ (i : ℕ) (o : Option GroupNode) where
           (OtherNotes.apart_notes i o u s (record (u.nodes s) { group = Some h.next; fuse = fuse_behind line (d.world.nodes s).fuse (u.nodes s).fuse }) apart middle.note) middle
 
       place_or : (line : ScriptLine) (s : ℕ) → may_note d.world line i ≡ false → eqb i s ≡ false → OverRvg told d line s fails said new → HasNote i o new
-      place_or (GroupDeport site) s off apart below =
-          let w : MissedNote = below.missed in
-          place_notes (missed_in w d s) (in_stands d s (with_maps w (note_at (d.world.nodes s))) apart x) told fails said new (GroupDeport site) s apart below.ends
-      place_or (GroupImport site) s off apart (inl back) = rises_notes (GroupImport site) s apart back
-      place_or (GroupImport site) s off apart (inr finds) = finds_notes (GroupImport site) s apart finds
       place_or (Recover site) s off apart (inl back) = rises_notes (Recover site) s apart back
       place_or (Recover site) s off apart (inr finds) = finds_notes (Recover site) s apart finds
       place_or other s off apart ends = line_notes other s off apart ends
