@@ -7,12 +7,10 @@ pub mod Tables
 pub mod FailsBut
 pub mod Moved
 pub mod OverSeen
-pub mod OverCarries
 pub mod OverComes
 pub mod OverEnds
 pub mod OverLines
 pub mod SiteCalls
 pub mod FuseGoing
 pub mod Quiet
-pub mod StillNoted
 pub mod Works

@@ -21,13 +21,11 @@ pub mod OverDowns
 pub mod OverDims
 pub mod OverDisks
 pub mod OverFalls
-pub mod OverFetches
 pub mod OverFinds
 pub mod OverFrames
 pub mod OverKept
 pub mod OverLikes
 pub mod OverPlain
-pub mod OverPumps
 pub mod OverReads
 pub mod OverReceivers
 pub mod OverAsked
@@ -77,7 +75,6 @@ pub mod PumpGroup
 pub mod RawSets
 pub mod ReachedBack
 pub mod Reaching
-pub mod OverReaching
 pub mod ReadGroup
 pub mod Receiving
 pub mod Showing

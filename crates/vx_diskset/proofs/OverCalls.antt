@@ -1,22 +1,19 @@
 -- What calls on a replicated volume group over a group answer of its site.
-use Rattle.std.proofs.Common.{◌≡◌, ℕ, ◌≤◌, length, subst, sym, List, ap, refl, arith, ◌∙◌}
-use Rattle.std.specs.Prelude.{Option, Result, Ok, Err, None, false}
+use Rattle.std.proofs.Common.{◌≡◌, ℕ, subst, sym, List, ap, refl}
+use Rattle.std.specs.Prelude.{Option, Result, Ok, Err, None}
 use Rattle.vx_disk.specs.Counts.{Rose}
 use Rattle.vx_disk.specs.declared.shelf.Shelf.{Ghosts}
 use Rattle.vx_history.specs.World.{Node}
 use Rattle.vx_model.specs.Content.{Write, Content, fold_writes}
 use Rattle.vx_model.specs.declared.no.No.{No}
 use Rattle.vx_model.specs.declared.no.No.TheVariants.{Device, Limit, Down as IsDown}
-use Rattle.vx_model.specs.declared.state.State.{State}
 use Rattle.vx_ground.specs.Lifted.{laid_volumes}
 use Rattle.vx_grouped.specs.GroupSites.{laid_disks, site_disks}
 use Rattle.vx_diskset.specs.Aboves.{below_site}
 use Rattle.vx_history.specs.Steps.{half_begun, logged, worked}
-use Rattle.vx_diskset.specs.DiskSets.{AppliedUp, LoggedUp, ReadAt, halted_with, halted_at, with_first}
+use Rattle.vx_diskset.specs.DiskSets.{LoggedUp, ReadAt, halted_with}
 use Rattle.vx_diskset.specs.Holds.{KeptBeside}
-use Rattle.vx_diskset.specs.Keeps.{KeptUp, kept_anew, restated}
-use Rattle.vx_diskset.specs.Rooms.{AppliedAs}
-use Rattle.vx_diskset.specs.Shelves.{KeptAs, LoggedAs, ReadAs}
+use Rattle.vx_diskset.specs.Shelves.{LoggedAs, ReadAs}
 use Rattle.vx_diskset.specs.Stands.{IsUpAt, OverStands, SiteStands, IsOverSite}
 use Rattle.vx_diskset.specs.declared.founded.Founded.{Founded}
 use Rattle.vx_diskset.specs.declared.group_set.CutWrite.{CutWrite}
@@ -24,14 +21,10 @@ use Rattle.vx_diskset.specs.declared.disk_set.DiskSet.TheVariants.{Over}
 use Rattle.vx_diskset.specs.declared.over_set.OverSet.{OverSet}
 use Rattle.vx_diskset.specs.declared.over_set.OverSite.{OverSite}
 use Rattle.vx_diskset.specs.declared.over_set.OverSite.TheVariants.{Origin as OriginSite}
-use Rattle.vx_diskset.proofs.RawSets.{over_sure, over_doubting, over_on}
+use Rattle.vx_diskset.proofs.RawSets.{over_on}
 use Rattle.std.proofs.lemmas.List.{drop_all}
 use Rattle.vx_rvg.specs.Contents.{ShowsContent}
-use Rattle.vx_diskset.specs.Received.{ShowedAt, ReachedBy, ReachedUp}
-use Rattle.vx_history.specs.declared.receiver.RAction.{RAction}
-use Rattle.vx_rvg.specs.Views.{last_of}
-use Rattle.vx_diskset.proofs.StaysUp.{up_worked, whole_held}
-use Rattle.vx_diskset.proofs.Reaching.{rule_none}
+use Rattle.vx_diskset.specs.Received.{ShowedAt}
 
 module _ {R : Type 0} {g : Ghosts R} (beside : KeptBeside) (n : Node) (old : OverSet R g) (f f' : Founded R g) (cut : Option CutWrite) (is : old.site ≡ OriginSite f) where
   abbrev new : OverSet R g
@@ -52,12 +45,6 @@ module _ {R : Type 0} {g : Ghosts R} (beside : KeptBeside) (n : Node) (old : Ove
     over_logged x (Err IsDown) l = (l.0, (over_on beside n (half_begun n x) refl refl refl over, l.1), (λ origin calls told exact. absurd (over.0 exact.raw)), l.3)
     over_logged x (Err other) l = l
 
-    pub over_applied : length n.log ≤ n.safe → (to : ℕ) (r : Result ℕ No) → AppliedAs beside n to f'.core (laid_volumes f.laid) (laid_volumes f'.laid) r → AppliedUp beside n to (Over old) (Over new) r
-    over_applied whole to (Ok number) l = (l.0, l.1, (over_on beside n (worked n) refl refl refl over, l.2))
-    over_applied whole to (Err (Device disk)) l = ((over_on beside n (halted_at n disk) refl refl refl over, l.0), rose_over disk l.1)
-    over_applied whole to (Err IsDown) l = (l.0, (over_on beside n (with_first n n.safe) refl refl refl over, whole_held n (laid_volumes f'.laid) whole l.1))
-    over_applied whole to (Err other) l = l
-
     pub over_read : (volume start count : ℕ) (bytes : List ℕ) (r : Result (Unit {0}) No) → ReadAs beside n volume start count bytes f'.core (laid_volumes f.laid) (laid_volumes f'.laid) r → ReadAt beside n volume start count bytes (Over old) (Over new) r
     over_read volume start count bytes (Ok done) l = (l.0, (over, l.1))
     over_read volume start count bytes (Err (Device disk)) l = ((over, l.0), rose_over disk l.1)
@@ -70,17 +57,3 @@ module _ {R : Type 0} {g : Ghosts R} (beside : KeptBeside) (n : Node) (old : Ove
         ((λ told. subst (λ (c : Content). ShowsContent c volume start count bytes) (ap (λ (xs : List Write). fold_writes n.base xs) (sym (drop_all n.safe n.log (up.durable running)))) (l.0 told)), (over, l.1))
     over_showed running up volume start count bytes (Err (Device disk)) l = ((over, l.0), rose_over disk l.1)
     over_showed running up volume start count bytes (Err other) l = l
-
-    -- nothing waits at a site that does not receive
-    pub over_idle : (count head : ℕ) → IsUpAt beside n f.core (laid_volumes f.laid) → n.halted ≡ None → head ≡ last_of f.core → ReachedUp beside n count (Over old) (Over (record { site = OriginSite f; cut = cut })) (Ok (record { number = head; acks = false }))
-    over_idle count head here running head_is =
-        let whole = here.durable running in
-        subst (λ (a : RAction). ReachedBy a beside n (record { number = head; acks = false }) (Over (record { site = OriginSite f; cut = cut }))) (sym (rule_none n count (omega (arith, whole))))
-        (head_is ∙ here.head, refl, (over_on beside n (worked n) refl refl refl over, up_worked n f.core (laid_volumes f.laid) here))
-
-    pub over_kept : (s : State) (r : Result (Unit {0}) No) → KeptAs beside n s (laid_volumes f.laid) f'.core (laid_volumes f'.laid) r → KeptUp beside n s (Over old) (Over new) r
-    over_kept s (Ok done) l = (over_sure (kept_anew beside n s) beside (worked (restated n s)) (over_on beside n (worked (restated n s)) refl refl refl over), l)
-    over_kept s (Err (Device disk)) l = ((over_doubting beside n s disk over, l.0), rose_over disk l.1, λ none. absurd (over.0 none))
-    over_kept s (Err (Limit what most)) l = (l.0, l.1, (over, l.2))
-    over_kept s (Err IsDown) l = (l.0, (over_doubting beside n s 0 over, l.1))
-    over_kept s (Err other) l = l

@@ -22,16 +22,6 @@ module _ {R : Type 0} {g : Ghosts R} where
   stays_raw (Over s) new raw apart = absurd raw
   stays_raw Gone new raw apart = apart
 
-  pub stays_same : (e : DiskSet R g) → OversStay e e
-  stays_same (Bare rack) = tt
-  stays_same (Spoiled rack) = tt
-  stays_same (Up rvg) = tt
-  stays_same (Receives s) = tt
-  stays_same (Down rack) = tt
-  stays_same (OfGroup s) = tt
-  stays_same (Over s) = record { cut = refl; each = λ n note it. it }
-  stays_same Gone = tt
-
   pub stays_over : (e : DiskSet R g) (old new : OverSet R g) → e ≡ Over old → StaysNoted old new → OversStay e (Over new)
   stays_over e old new is it = subst (λ (x : DiskSet R g). OversStay x (Over new)) (sym is) it
 

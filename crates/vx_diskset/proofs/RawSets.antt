@@ -10,7 +10,7 @@ use Rattle.vx_secondary.specs.declared.secondary.Secondary.{Secondary}
 use Rattle.vx_diskset.specs.Holds.{KeptBeside, KeptSite, sure_of}
 use Rattle.vx_diskset.specs.DiskSets.{halted_at}
 use Rattle.vx_diskset.specs.Keeps.{doubting, restated}
-use Rattle.vx_diskset.specs.Layouts.{units_of, units_by}
+use Rattle.vx_diskset.specs.Layouts.{units_by}
 use Rattle.vx_model.specs.declared.state.State.{State}
 use Rattle.vx_diskset.specs.Stands.{CutAt, IsHeldAt, IsOverSite, IsUngrouped, IsReceiverAt, IsUpAt, SiteStands}
 use Rattle.vx_diskset.specs.declared.disk_set.DiskSet.{DiskSet}
@@ -51,24 +51,6 @@ over_on beside n k group disks blocks over = (
       }),
   (let few = over.2 in omega (arith, few, disks)),
   (let some = over.3 in omega (arith, some, blocks)),
-)
-
-pub over_sure : (k : KeptSite) (beside : KeptBeside) (n : Node) → IsOverSite beside n → IsOverSite (sure_of k) n
-over_sure k beside n over = (over.0, (λ x is. absurd (never is)), over.2, over.3)
-  where
-    never : {A : Type 0} {x : A} → None ≡ Some x → ⊥
-    never e = cc
-
-pub over_doubting : (beside : KeptBeside) (n : Node) (s : State) (disk : ℕ) → IsOverSite beside n → IsOverSite (doubting beside n s disk) (halted_at n disk)
-over_doubting beside n s disk over = (
-  over.0,
-  (λ x is. record {
-    units = sym (ap (λ (y : KeptSite). units_of y.node) (some_same is));
-    disks = sym (ap (λ (y : KeptSite). y.node.disks) (some_same is));
-    blocks = sym (ap (λ (y : KeptSite). y.node.blocks) (some_same is));
-  }),
-  over.2,
-  over.3,
 )
 
 -- ---- disk sets

@@ -1,5 +1,5 @@
 -- What the disks of a site that receives promise.
-use Rattle.std.specs.Prelude.{◌≡◌, ℕ, ◌+◌, ◌≤◌, IsTrue, List, true, false, None, length, Result, Ok, Err}
+use Rattle.std.specs.Prelude.{◌≡◌, ℕ, ◌+◌, ◌≤◌, List, true, false, None, length, Result, Ok, Err}
 use Rattle.vx_model.specs.Sites.{is_origin}
 use Rattle.vx_model.specs.declared.call.Update.{Update}
 use Rattle.vx_model.specs.declared.no.No.{No}
@@ -54,19 +54,6 @@ LoggedTo beside n count us c m new (Err other) = ⊥
 abbrev pub ReachedTo : KeptBeside → Node → ℕ → List Update → Core → Meaning → Meaning → Result Reached No → Type 0
 ReachedTo beside n count us c m new (Ok r) = (r.number ≡ n.safe + count) × (r.acks ≡ true) × IsReceiverAt beside (reached n (n.safe + count)) c us new
 ReachedTo beside n count us c m new (Err why) = LoggedTo beside n count us c m new (Err why)
-
--- By what the rule of receivers says of it: the first of what waits is applied, up to a number that is to be acknowledged; or nothing waits.
-abbrev pub ReachedOf : RAction → KeptBeside → Node → Reached → List Update → Core → Meaning → Type 0
-ReachedOf (DataAck number) beside n r us c new = (r.number ≡ number) × (r.acks ≡ true) × IsReceiverAt beside (reached n number) c us new
-ReachedOf other beside n r us c new = (r.number ≡ n.safe) × (r.acks ≡ false) × IsReceiverAt beside (worked n) c us new
-
--- so many are applied; or a disk failed; or no number is left for all of it, and then nothing is; or the fuse of the site ran out, and no more are in the log
-abbrev pub ReachedOn : KeptBeside → Node → ℕ → List Update → Core → Meaning → Meaning → Result Reached No → Type 0
-ReachedOn beside n count us c m new (Ok r) = ReachedOf (received_step (plain_receiver n) (Applied count)).action beside n r us c new
-ReachedOn beside n count us c m new (Err (Device disk)) = IsReceiverAt beside (halted_at n disk) c us new × Rose (m.disk_faults disk) (new.disk_faults disk)
-ReachedOn beside n count us c m new (Err (Limit what most)) = (Limit what most ≡ no_number) × (IsTrue new.tells → most_number ≤ most_with beside n (length n.log)) × IsReceiverAt beside n c us new
-ReachedOn beside n count us c m new (Err IsDown) = IsFused n.fuse × IsHeldAt beside (with_first n (n.safe + count)) new
-ReachedOn beside n count us c m new (Err other) = ⊥
 
 -- the reply of an apply of what waits
 abbrev pub reached_by : Result Reached No → Said

@@ -1,6 +1,5 @@
 -- What each call on a replicated volume group makes of it and of the shelf below, whatever shelf that is.
-use Rattle.std.specs.Prelude.{◌≡◌, ◌⊎◌, ℕ, ◌+◌, ◌%◌, ◌<◌, ◌≤◌, List, length, take, Contains, None, Result, Ok, Err, IfErr, IfOk, OnOk, IsFalse, IsTrue, Vec}
-use Rattle.std.specs.declared.alloc.Global.{Global}
+use Rattle.std.specs.Prelude.{◌≡◌, ℕ, ◌+◌, ◌%◌, ◌<◌, ◌≤◌, List, length, take, Contains, Result, Ok, Err, IfErr, OnOk, IsFalse, IsTrue}
 use Rattle.vx_disk.specs.Causes.{DeviceCause, refusal_of}
 use Rattle.vx_disk.specs.Moves.{Anything, Blocks, Moves, Run}
 use Rattle.vx_disk.specs.Shelf.{Goes, Meaning}
@@ -11,7 +10,7 @@ use Rattle.vx_model.specs.Content.{Content, blocks_in}
 use Rattle.vx_model.specs.Sizes.{ring_of}
 use Rattle.vx_model.specs.declared.call.Update.{Update}
 use Rattle.vx_model.specs.declared.errors.Stop.{Stop}
-use Rattle.vx_model.specs.declared.limits.TheConstants.{MOST_CALL_BYTES, MOST_NUMBER}
+use Rattle.vx_model.specs.declared.limits.TheConstants.{MOST_CALL_BYTES}
 use Rattle.vx_model.specs.declared.no.No.{No}
 use Rattle.vx_model.specs.declared.no.No.TheVariants.{Device}
 use Rattle.vx_disk.specs.Counts.{Rose}
@@ -19,24 +18,20 @@ use Rattle.vx_rvg.specs.Contents.{ShowsContent}
 use Rattle.vx_model.specs.declared.state.State.{State}
 use Rattle.vx_model.specs.declared.units.Units.{Units}
 use Rattle.vx_rvg.specs.Groups.{MakeCause, new_core}
-use Rattle.vx_peers.specs.Senders.{AreRead, ReadCause}
-use Rattle.vx_rvg.specs.Holdings.{Holding, nothing_logged}
+use Rattle.vx_rvg.specs.Holdings.{nothing_logged}
 use Rattle.vx_rvg.specs.Stands.{HoldsContent, Stands}
 use Rattle.vx_rvg.specs.Starts.{IsStarted, StartCause, Starting, ring_in}
-use Rattle.vx_rvg.specs.Views.{Core, IsSound, last_of}
+use Rattle.vx_rvg.specs.Views.{Core, IsSound}
 use Rattle.vx_secondary.specs.Receivers.{Wait}
 use Rattle.vx_srl.specs.Starts.{ReadsAtLimit}
 use Rattle.vx_ground.specs.Rewrites.{OneRests}
 use Rattle.vx_diskset.specs.Burning.{OffIf}
 use Rattle.vx_diskset.specs.DiskSets.{CanLog, CanRead}
 use Rattle.vx_diskset.specs.Holds.{KeptBeside}
-use Rattle.vx_diskset.specs.Keeps.{CanKeep}
 use Rattle.vx_diskset.specs.Needs.{HasRoom}
-use Rattle.vx_diskset.specs.Received.{CanReceive, ReachedTo}
-use Rattle.vx_diskset.specs.Rooms.{AppliedAs, HasNumbers, IsMore, TakesOne, logged_count}
-use Rattle.vx_diskset.specs.Shelves.{KeptAs, LoggedAs, MovesOn, ReadAs}
+use Rattle.vx_diskset.specs.Rooms.{IsMore, TakesOne, logged_count}
+use Rattle.vx_diskset.specs.Shelves.{LoggedAs, MovesOn, ReadAs}
 use Rattle.vx_diskset.specs.Stands.{IsReceiverAt, IsUpAt}
-use Rattle.vx_diskset.specs.declared.receivers.Reached.{Reached}
 
 -- The group is sound still, on the same units; no block changed but its own.
 pub record KeepsSound (c c' : Core) (old new : Meaning) : Type 0 where
@@ -94,59 +89,6 @@ pub record DoesShow (c : Core) (us : List Update) (volume start count : ℕ) (m 
   pub long : length room ≡ MOST_CALL_BYTES
   pub shown : (beside : KeptBeside) (n : Node) → IsReceiverAt beside n c us m → CanRead n volume start (blocks_in (take count room)) → ShownAs beside n volume start (blocks_in (take count room)) (take count room) c' us' m m' r
   pub down : m'.down ≡ m.down
-
--- ---- an apply
-
-pub record DoesApply (c : Core) (to : ℕ) (m : Meaning) (c' : Core) (m' : Meaning) (r : Result ℕ No) : Type 0 where
-  pub keeps : KeepsSound c c' m m'
-  pub applied : (beside : KeptBeside) (n : Node) → IsUpAt beside n c m → n.halted ≡ None → AppliedAs beside n to c' m m' r
-  pub reached : IfOk r (λ number. c'.applied ≡ number)
-  pub waiting : (us : List Update) → Wait c m.size us → Wait c' m'.size us
-  pub off : OffIf r m'.down
-
--- ---- logged writes, to be sent
-
-pub record AsksFetch (c : Core) (first count : ℕ) (m : Meaning) : Type 0 where
-  pub sound : IsSound c m
-  pub running : c.halted ≡ None
-  pub low : c.log.header.low ≤ first
-  pub held : first + count ≤ last_of c + 1
-  pub number : first + count ≤ MOST_NUMBER + 1
-
--- the writes of these numbers, where contents are told those that the log holds
-abbrev pub HasFetched : Core → (first count : ℕ) → Meaning → Meaning → Vec Update Global → Type 0
-HasFetched c first count m m' us = (length us.items ≡ count) × ((h : Holding) → Stands c h m → IsTrue m.tells → AreRead h c.log.header.state.line first us.items × Stands c h m')
-
-pub record DoesFetch (c : Core) (first count : ℕ) (m : Meaning) (c' : Core) (m' : Meaning) (r : Result (Vec Update Global) Stop) : Type 0 where
-  pub keeps : KeepsSound c c' m m'
-  pub same : c' ≡ c
-  pub stays : (beside : KeptBeside) (n : Node) → IsUpAt beside n c m → n.halted ≡ None → IsUpAt beside n c' m'
-  pub fetched : IfOk r (λ us. HasFetched c first count m m' us)
-  pub cause : IfErr r (ReadCause c m m')
-  pub down : m'.down ≡ m.down
-
--- ---- what waits
-
-pub record AsksReach (c : Core) (us : List Update) (count : ℕ) (m : Meaning) : Type 0 where
-  pub sound : IsSound c m
-  pub waits : Wait c m.size us
-  pub some : count ≤ length us
-  pub numbers : HasNumbers c count
-
-pub record DoesReach (c : Core) (us : List Update) (count : ℕ) (m : Meaning) (c' : Core) (us' : List Update) (m' : Meaning) (r : Result Reached No) : Type 0 where
-  pub keeps : KeepsSound c c' m m'
-  pub reaches : (beside : KeptBeside) (n : Node) → IsReceiverAt beside n c us m → CanReceive beside n → ReachedTo beside n count us' c' m m' r
-  pub brought : (beside : KeptBeside) (n : Node) → IsReceiverAt beside n c us m → CanReceive beside n → IfOk r (λ x. c'.applied ≡ x.number)
-  pub waits : Wait c' m'.size us'
-  pub off : IsFalse m.down → OffIf r m'.down
-
--- ---- a header
-
-pub record DoesKeep (c : Core) (s : State) (m : Meaning) (c' : Core) (m' : Meaning) (r : Result (Unit {0}) No) : Type 0 where
-  pub keeps : KeepsSound c c' m m'
-  pub kept : (beside : KeptBeside) (n : Node) → IsUpAt beside n c m → CanKeep beside n s → KeptAs beside n s m c' m' r
-  pub waiting : (us : List Update) → Wait c m.size us → Wait c' m'.size us
-  pub off : IsFalse m.down → OffIf r m'.down
 
 -- ---- the making and the start
 

@@ -1,28 +1,23 @@
 // Calls on a replicated volume group over a group of disks that is up.
-ghost use Rattle.std.specs.Prelude.{◌<◌, ◌≤◌, ◌%◌, ◌≡◌, ℕ, IfOk, IsFalse, List, None, length};
+ghost use Rattle.std.specs.Prelude.{◌<◌, ◌≤◌, ◌%◌, ◌≡◌, IsFalse, length};
 ghost use Rattle.vx_history.specs.World.{Node};
 ghost use Rattle.vx_model.specs.Content.{blocks_in};
 ghost use Rattle.vx_model.specs.declared.limits.TheConstants.{BLOCK, MOST_CALL_BYTES};
 ghost use Rattle.vx_ground.specs.Lifted.{laid_volumes};
-ghost use Rattle.vx_srlfmt.specs.Headers.{CanSpellState};
 ghost use Rattle.vx_diskset.specs.Burning.{OffIf};
 ghost use Rattle.vx_diskset.specs.DiskSets.{CanLog, CanRead};
 ghost use Rattle.vx_diskset.specs.Founded.{FoundedWorks};
 ghost use Rattle.vx_diskset.specs.Holds.{KeptBeside};
-ghost use Rattle.vx_diskset.specs.Keeps.{CanKeep};
 ghost use Rattle.vx_diskset.specs.Needs.{HasRoom};
-ghost use Rattle.vx_diskset.specs.Received.{CanReceive, ReachedTo};
-ghost use Rattle.vx_diskset.specs.Rooms.{AppliedAs, HasNumbers};
-ghost use Rattle.vx_diskset.specs.Shelves.{KeptAs, LoggedAs, ReadAs};
+ghost use Rattle.vx_diskset.specs.Shelves.{LoggedAs, ReadAs};
 ghost use Rattle.vx_diskset.specs.Stands.{IsReceiverAt, IsUpAt};
 ghost use Rattle.vx_diskset.specs.Works.{ShownAs};
 
 use crate::founded::{Founded, FoundedReceiver};
-use crate::over_work::{Applies, Keeps, Reaches, Reads, Shows, Writes};
-use crate::receivers::Reached;
+use crate::over_work::{Reads, Shows, Writes};
 use vx_disk::Rack;
 use vx_ground::work_over;
-use vx_model::{No, State};
+use vx_model::No;
 
 impl<R: Rack> Founded<R> {
     /// Writes whole blocks to a data volume.
@@ -50,32 +45,6 @@ impl<R: Rack> Founded<R> {
             hold,
         };
         let (laid, answer) = work_over(laid, work);
-        let (core, answer) = answer;
-        (Founded::together(laid, core), answer)
-    }
-
-    /// Brings logged writes into their volumes.
-    pub(crate) fn apply(self, to: u64) -> (Founded<R>, Result<u64, No>)
-        ensures applied { (beside : KeptBeside) (n : Node) → IsUpAt beside n self.core (laid_volumes self.laid) → n.halted ≡ None → AppliedAs beside n to result.0.core (laid_volumes self.laid) (laid_volumes result.0.laid) result.1 }
-        ensures reached { IfOk result.1 (λ number. result.0.core.applied ≡ number) }
-        ensures off { OffIf result.1 (laid_volumes result.0.laid).down }
-        ensures works { FoundedWorks self.core self.laid result.0.core result.0.laid }
-    {
-        let (laid, core) = self.apart();
-        let (laid, answer) = work_over(laid, Applies { core, to });
-        let (core, answer) = answer;
-        (Founded::together(laid, core), answer)
-    }
-
-    /// Makes a state of the log's line durable.
-    pub(crate) fn keep(self, state: &State) -> (Founded<R>, Result<(), No>)
-        requires state { CanSpellState state.now }
-        ensures kept { (beside : KeptBeside) (n : Node) → IsUpAt beside n self.core (laid_volumes self.laid) → CanKeep beside n state.now → KeptAs beside n state.now (laid_volumes self.laid) result.0.core (laid_volumes result.0.laid) result.1 }
-        ensures off { IsFalse (laid_volumes self.laid).down → OffIf result.1 (laid_volumes result.0.laid).down }
-        ensures works { FoundedWorks self.core self.laid result.0.core result.0.laid }
-    {
-        let (laid, core) = self.apart();
-        let (laid, answer) = work_over(laid, Keeps { core, state });
         let (core, answer) = answer;
         (Founded::together(laid, core), answer)
     }
@@ -111,34 +80,6 @@ impl<R: Rack> Founded<R> {
 }
 
 impl<R: Rack> FoundedReceiver<R> {
-    /// Brings logged writes into their volumes.
-    pub(crate) fn apply(self, to: u64) -> (FoundedReceiver<R>, Result<u64, No>)
-        ensures applied { (beside : KeptBeside) (n : Node) → IsUpAt beside n self.core (laid_volumes self.laid) → n.halted ≡ None → AppliedAs beside n to result.0.core (laid_volumes self.laid) (laid_volumes result.0.laid) result.1 }
-        ensures reached { IfOk result.1 (λ number. result.0.core.applied ≡ number) }
-        ensures off { OffIf result.1 (laid_volumes result.0.laid).down }
-        ensures waiting { result.0.waiting ≡ self.waiting }
-        ensures works { FoundedWorks self.core self.laid result.0.core result.0.laid }
-    {
-        let (laid, core, waiting) = self.apart();
-        let (laid, answer) = work_over(laid, Applies { core, to });
-        let (core, answer) = answer;
-        (FoundedReceiver::together(laid, core, waiting), answer)
-    }
-
-    /// Makes a state of the log's line durable.
-    pub(crate) fn keep(self, state: &State) -> (FoundedReceiver<R>, Result<(), No>)
-        requires state { CanSpellState state.now }
-        ensures kept { (beside : KeptBeside) (n : Node) → IsUpAt beside n self.core (laid_volumes self.laid) → CanKeep beside n state.now → KeptAs beside n state.now (laid_volumes self.laid) result.0.core (laid_volumes result.0.laid) result.1 }
-        ensures off { IsFalse (laid_volumes self.laid).down → OffIf result.1 (laid_volumes result.0.laid).down }
-        ensures waiting { result.0.waiting ≡ self.waiting }
-        ensures works { FoundedWorks self.core self.laid result.0.core result.0.laid }
-    {
-        let (laid, core, waiting) = self.apart();
-        let (laid, answer) = work_over(laid, Keeps { core, state });
-        let (core, answer) = answer;
-        (FoundedReceiver::together(laid, core, waiting), answer)
-    }
-
     /// Reads blocks of a data volume: the content after the writes that are durable.
     pub(crate) fn read(
         self,
@@ -196,26 +137,6 @@ impl<R: Rack> FoundedReceiver<R> {
         let (laid, answer) = work_over(laid, work);
         let (core, waiting, room, answer) = answer;
         into.copy_from_slice(&room[..count]);
-        (FoundedReceiver::together(laid, core, waiting), answer)
-    }
-
-    /// Logs the oldest of what waits, so many of them, and brings all that is logged into the volumes.
-    pub(crate) fn reach(self, count: u32) -> (FoundedReceiver<R>, Result<Reached, No>)
-        requires some { count ≤ length self.waiting }
-        requires numbers { HasNumbers self.core count }
-        ensures reaches { (beside : KeptBeside) (n : Node) → IsReceiverAt beside n self.core self.waiting (laid_volumes self.laid) → CanReceive beside n → ReachedTo beside n count result.0.waiting result.0.core (laid_volumes self.laid) (laid_volumes result.0.laid) result.1 }
-        ensures brought { (beside : KeptBeside) (n : Node) → IsReceiverAt beside n self.core self.waiting (laid_volumes self.laid) → CanReceive beside n → IfOk result.1 (λ x. result.0.core.applied ≡ x.number) }
-        ensures off { IsFalse (laid_volumes self.laid).down → OffIf result.1 (laid_volumes result.0.laid).down }
-        ensures works { FoundedWorks self.core self.laid result.0.core result.0.laid }
-    {
-        let (laid, core, waiting) = self.apart();
-        let work = Reaches {
-            core,
-            waiting,
-            count,
-        };
-        let (laid, answer) = work_over(laid, work);
-        let (core, waiting, answer) = answer;
         (FoundedReceiver::together(laid, core, waiting), answer)
     }
 }

@@ -13,7 +13,6 @@ ghost use Rattle.vx_diskset.specs.Burning.{NoMore, OffIf};
 ghost use Rattle.vx_diskset.specs.DiskSets.{Later};
 ghost use Rattle.vx_diskset.specs.Holds.{KeptBeside};
 ghost use Rattle.vx_diskset.specs.Keeps.{CanKeep, KeptAt, KeptUp, done_by};
-ghost use Rattle.vx_diskset.specs.Noted.{NotesOn, OversCalled};
 ghost use Rattle.vx_diskset.specs.Shelves.{KeptAs, LaterOn, MovesOn};
 ghost use Rattle.vx_diskset.specs.Stands.{IsUpAt, KeepsRole, SiteStands};
 
@@ -54,11 +53,10 @@ impl<R: Rack> DiskSet<R> {
     /// its disks or not; 6 where its fuse ran out: then it crashed, with the state or without it.
     pub fn keep(&mut self, state: &State) -> Result<(), No>
         requires state { CanSpellState state.now }
-        ensures kept { (beside : KeptBeside) (n : Node) → SiteStands beside n self.old → CanKeep beside n state.now → KeptAt beside n state.now self.old self.new result }
-        ensures called { (beside : KeptBeside) (n : Node) → SiteStands beside n self.old → IsRawSet self.old → LeavesFuse NoMore (done_by result) self.old self.new }
-        ensures headed { (beside : KeptBeside) (n : Node) → SiteStands beside n self.old → IsRawSet self.old → HeadUnder 2 (done_by result) self.old self.new }
+        ensures kept { (beside : KeptBeside) (n : Node) → SiteStands beside n self.old → IsRawSet self.old → CanKeep beside n state.now → KeptAt beside n state.now self.old self.new result }
+        ensures called { (beside : KeptBeside) (n : Node) → SiteStands beside n self.old → LeavesFuse NoMore (done_by result) self.old self.new }
+        ensures headed { (beside : KeptBeside) (n : Node) → SiteStands beside n self.old → HeadUnder 2 (done_by result) self.old self.new }
         ensures role { KeepsRole self.old self.new }
-        ensures notes { NotesOn self.old self.new }
         ensures later { Later self.old self.new }
     {
         match self.keep_up(state) {
@@ -76,17 +74,16 @@ impl<R: Rack> DiskSet<R> {
     // The same, before it crashes.
     fn keep_up(&mut self, state: &State) -> Result<(), No>
         requires state { CanSpellState state.now }
-        ensures kept { (beside : KeptBeside) (n : Node) → SiteStands beside n self.old → CanKeep beside n state.now → KeptUp beside n state.now self.old self.new result }
-        ensures called { (beside : KeptBeside) (n : Node) → SiteStands beside n self.old → IsRawSet self.old → LeavesFuse NoMore (done_by result) self.old self.new }
-        ensures headed { (beside : KeptBeside) (n : Node) → SiteStands beside n self.old → IsRawSet self.old → HeadUnder 2 (done_by result) self.old self.new }
+        ensures kept { (beside : KeptBeside) (n : Node) → SiteStands beside n self.old → IsRawSet self.old → CanKeep beside n state.now → KeptUp beside n state.now self.old self.new result }
+        ensures called { (beside : KeptBeside) (n : Node) → SiteStands beside n self.old → LeavesFuse NoMore (done_by result) self.old self.new }
+        ensures headed { (beside : KeptBeside) (n : Node) → SiteStands beside n self.old → HeadUnder 2 (done_by result) self.old self.new }
         ensures role { KeepsRole self.old self.new }
-        ensures overs { OversCalled self.old self.new result }
         ensures later { Later self.old self.new }
     {
         match self {
             DiskSet::Up(rvg) => keep_group(rvg, state),
             DiskSet::Receives(site) => keep_group(&mut site.rvg, state),
-            DiskSet::Over(over) => over.keep(state),
+            DiskSet::Over(_) => Err(No::Role),
             DiskSet::Bare(_)
             | DiskSet::Spoiled(_)
             | DiskSet::Down(_)

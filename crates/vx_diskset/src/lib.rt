@@ -16,7 +16,6 @@ mod over_calls;
 mod over_disks;
 mod over_group;
 mod over_plain;
-mod over_pumps;
 mod over_set;
 mod over_starts;
 mod over_work;

@@ -1,5 +1,5 @@
 // Calls on the replicated volume group of a site over a disk group.
-ghost use Rattle.std.specs.Prelude.{◌<◌, ◌≤◌, ◌%◌, ◌≡◌, IfOk, IsFalse, length, true};
+ghost use Rattle.std.specs.Prelude.{◌<◌, ◌≤◌, ◌%◌, ◌≡◌, IsFalse, length, true};
 ghost use Rattle.vx_history.specs.World.{Node};
 ghost use Rattle.vx_model.specs.Content.{blocks_in};
 ghost use Rattle.vx_model.specs.Sites.{is_origin};
@@ -7,59 +7,18 @@ ghost use Rattle.vx_model.specs.declared.limits.TheConstants.{BLOCK, MOST_CALL_B
 ghost use Rattle.vx_grouped.specs.GroupSites.{site_disks};
 ghost use Rattle.vx_diskset.specs.Aboves.{site_in};
 ghost use Rattle.vx_diskset.specs.Burning.{OffIf};
-ghost use Rattle.vx_diskset.specs.DiskSets.{AppliedUp, CanApply, CanLog, CanRead, LoggedUp, ReadAt};
-ghost use Rattle.vx_diskset.specs.Founded.{FoundedWorks};
+ghost use Rattle.vx_diskset.specs.DiskSets.{CanLog, CanRead, LoggedUp, ReadAt};
 ghost use Rattle.vx_diskset.specs.Holds.{KeptBeside};
-ghost use Rattle.vx_diskset.specs.Keeps.{CanKeep, KeptUp};
 ghost use Rattle.vx_diskset.specs.Needs.{HasRoom};
 ghost use Rattle.vx_diskset.specs.Noted.{OverCalled};
-ghost use Rattle.vx_diskset.specs.Received.{CanReceive, ReachedOn, ReachedUp, ShowedAt};
-ghost use Rattle.vx_diskset.specs.Stands.{InVolumes, IsReceiverAt, SiteStands};
-ghost use Rattle.vx_ground.specs.Lifted.{laid_volumes};
+ghost use Rattle.vx_diskset.specs.Received.{ShowedAt};
+ghost use Rattle.vx_diskset.specs.Stands.{SiteStands};
 ghost use Rattle.vx_diskset.specs.declared.disk_set.DiskSet.TheVariants.{Over as OverSites};
-ghost use Rattle.vx_srlfmt.specs.Headers.{CanSpellState};
 
-use crate::founded::FoundedReceiver;
-use crate::receivers::Reached;
 use crate::{OverSet, OverSite};
 use std::mem;
 use vx_disk::Rack;
-use vx_model::limits::MOST_NUMBER;
-use vx_model::{Counted, No, State};
-
-// Logs and applies so many of the updates that wait, or all of them.
-fn reach<R: Rack>(
-    founded: FoundedReceiver<R>,
-    count: u64,
-) -> (FoundedReceiver<R>, Result<Reached, No>)
-    ensures reaches { (beside : KeptBeside) (n : Node) → IsReceiverAt beside n founded.core founded.waiting (laid_volumes founded.laid) → CanReceive beside n → ReachedOn beside n count result.0.waiting result.0.core (laid_volumes founded.laid) (laid_volumes result.0.laid) result.1 }
-    ensures brought { (beside : KeptBeside) (n : Node) → IsReceiverAt beside n founded.core founded.waiting (laid_volumes founded.laid) → CanReceive beside n → IfOk result.1 (λ x. x.acks ≡ true → result.0.core.applied ≡ x.number) }
-    ensures off { IsFalse (laid_volumes founded.laid).down → OffIf result.1 (laid_volumes result.0.laid).down }
-    ensures works { FoundedWorks founded.core founded.laid result.0.core result.0.laid }
-{
-    let few = count.min(u64::from(founded.waiting.len())) as u32;
-    let number = founded.core.head();
-    if few == 0 {
-        return (
-            founded,
-            Ok(Reached {
-                number,
-                acks: false,
-            }),
-        );
-    }
-    let many = u64::from(few);
-    if !founded.core.has_numbers(many) {
-        return (
-            founded,
-            Err(No::Limit {
-                what: Counted::Number,
-                most: MOST_NUMBER,
-            }),
-        );
-    }
-    founded.reach(few)
-}
+use vx_model::No;
 
 impl<R: Rack> OverSet<R> {
     // Writes whole blocks to a data volume.
@@ -110,74 +69,6 @@ impl<R: Rack> OverSet<R> {
         let (over, answer) = mem::replace(self, OverSet::gone()).written(
             volume, start, bytes, hold,
         );
-        *self = over;
-        answer
-    }
-
-    // Brings logged writes into their volumes.
-    fn applied(self, to: u64) -> (OverSet<R>, Result<u64, No>)
-        ensures applied { (beside : KeptBeside) (n : Node) → SiteStands beside n (OverSites self) → CanApply n → AppliedUp beside n to (OverSites self) (OverSites result.0) result.1 }
-        ensures brought { IfOk result.1 (λ number. InVolumes number (OverSites result.0)) }
-        ensures called { OverCalled self result.0 }
-        ensures off { IsFalse (site_disks (site_in self)).down → OffIf result.1 (site_disks (site_in result.0)).down }
-    {
-        let OverSet { site, cut } = self;
-        match site {
-            OverSite::Origin(founded) => {
-                let (founded, answer) = founded.apply(to);
-                let site = OverSite::Origin(founded);
-                (OverSet { site, cut }, answer)
-            }
-            OverSite::Receiver(founded) => {
-                let (founded, answer) = founded.apply(to);
-                let site = OverSite::Receiver(founded);
-                (OverSet { site, cut }, answer)
-            }
-            site => (OverSet { site, cut }, Err(No::Role)),
-        }
-    }
-
-    pub(crate) fn apply(&mut self, to: u64) -> Result<u64, No>
-        ensures applied { (beside : KeptBeside) (n : Node) → SiteStands beside n (OverSites self.old) → CanApply n → AppliedUp beside n to (OverSites self.old) (OverSites self.new) result }
-        ensures brought { IfOk result (λ number. InVolumes number (OverSites self.new)) }
-        ensures called { OverCalled self.old self.new }
-        ensures off { IsFalse (site_disks (site_in self.old)).down → OffIf result (site_disks (site_in self.new)).down }
-    {
-        let (over, answer) = mem::replace(self, OverSet::gone()).applied(to);
-        *self = over;
-        answer
-    }
-
-    // Makes a state of the log's line durable.
-    fn kept(self, state: &State) -> (OverSet<R>, Result<(), No>)
-        requires state { CanSpellState state.now }
-        ensures kept { (beside : KeptBeside) (n : Node) → SiteStands beside n (OverSites self) → CanKeep beside n state.now → KeptUp beside n state.now (OverSites self) (OverSites result.0) result.1 }
-        ensures called { OverCalled self result.0 }
-        ensures off { IsFalse (site_disks (site_in self)).down → OffIf result.1 (site_disks (site_in result.0)).down }
-    {
-        let OverSet { site, cut } = self;
-        match site {
-            OverSite::Origin(founded) => {
-                let (founded, answer) = founded.keep(state);
-                let site = OverSite::Origin(founded);
-                (OverSet { site, cut }, answer)
-            }
-            OverSite::Receiver(founded) => {
-                let (founded, answer) = founded.keep(state);
-                let site = OverSite::Receiver(founded);
-                (OverSet { site, cut }, answer)
-            }
-            site => (OverSet { site, cut }, Err(No::Role)),
-        }
-    }
-
-    pub(crate) fn keep(&mut self, state: &State) -> Result<(), No>
-        requires state { CanSpellState state.now }
-        ensures kept { (beside : KeptBeside) (n : Node) → SiteStands beside n (OverSites self.old) → CanKeep beside n state.now → KeptUp beside n state.now (OverSites self.old) (OverSites self.new) result }
-        ensures called { OverCalled self.old self.new }
-        ensures off { IsFalse (site_disks (site_in self.old)).down → OffIf result (site_disks (site_in self.new)).down }
-    {
-        let (over, answer) = mem::replace(self, OverSet::gone()).kept(state);
         *self = over;
         answer
     }
@@ -274,46 +165,6 @@ impl<R: Rack> OverSet<R> {
         ensures down { (site_disks (site_in self.new)).down ≡ (site_disks (site_in self.old)).down }
     {
         let (over, answer) = mem::replace(self, OverSet::gone()).shown(volume, start, into);
-        *self = over;
-        answer
-    }
-
-    // Logs the oldest of what waits, so many of them or all, and brings all that is logged into the volumes.
-    fn reached(self, count: u64) -> (OverSet<R>, Result<Reached, No>)
-        ensures applied { (beside : KeptBeside) (n : Node) → SiteStands beside n (OverSites self) → CanReceive beside n → ReachedUp beside n count (OverSites self) (OverSites result.0) result.1 }
-        ensures brought { (beside : KeptBeside) (n : Node) → SiteStands beside n (OverSites self) → CanReceive beside n → IfOk result.1 (λ x. x.acks ≡ true → InVolumes x.number (OverSites result.0)) }
-        ensures called { OverCalled self result.0 }
-        ensures off { IsFalse (site_disks (site_in self)).down → OffIf result.1 (site_disks (site_in result.0)).down }
-    {
-        let OverSet { site, cut } = self;
-        match site {
-            OverSite::Receiver(founded) => {
-                let (founded, answer) = reach(founded, count);
-                let site = OverSite::Receiver(founded);
-                (OverSet { site, cut }, answer)
-            }
-            OverSite::Origin(founded) => {
-                let number = founded.core.head();
-                let site = OverSite::Origin(founded);
-                (
-                    OverSet { site, cut },
-                    Ok(Reached {
-                        number,
-                        acks: false,
-                    }),
-                )
-            }
-            site => (OverSet { site, cut }, Err(No::Role)),
-        }
-    }
-
-    pub(crate) fn apply_waiting(&mut self, count: u64) -> Result<Reached, No>
-        ensures applied { (beside : KeptBeside) (n : Node) → SiteStands beside n (OverSites self.old) → CanReceive beside n → ReachedUp beside n count (OverSites self.old) (OverSites self.new) result }
-        ensures brought { (beside : KeptBeside) (n : Node) → SiteStands beside n (OverSites self.old) → CanReceive beside n → IfOk result (λ x. x.acks ≡ true → InVolumes x.number (OverSites self.new)) }
-        ensures called { OverCalled self.old self.new }
-        ensures off { IsFalse (site_disks (site_in self.old)).down → OffIf result (site_disks (site_in self.new)).down }
-    {
-        let (over, answer) = mem::replace(self, OverSet::gone()).reached(count);
         *self = over;
         answer
     }

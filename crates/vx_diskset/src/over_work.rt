@@ -1,21 +1,18 @@
 // What is done to a replicated volume group over the volumes of a disk group.
 ghost use Rattle.std.specs.Prelude.{◌≡◌, ◌*◌, ◌<◌, ◌≤◌, ℕ, Contains};
 ghost use Rattle.vx_disk.specs.Maps.{maps_of};
-ghost use Rattle.vx_diskset.specs.Works.{AsksFetch, AsksReach, AsksRead, AsksShow, AsksWrite, DoesApply, DoesFetch, DoesKeep, DoesMake, DoesReach, DoesRead, DoesRewrite, DoesShow, DoesStart, DoesWrite};
+ghost use Rattle.vx_diskset.specs.Works.{AsksRead, AsksShow, AsksWrite, DoesMake, DoesRead, DoesRewrite, DoesShow, DoesStart, DoesWrite};
 ghost use Rattle.vx_model.specs.declared.limits.TheConstants.{LEAST_BLOCKS, LINK_PLACES};
 ghost use Rattle.vx_rvg.specs.Starts.{ring_in};
-ghost use Rattle.vx_rvg.specs.Views.{IsSound, UnitsPlaced};
+ghost use Rattle.vx_rvg.specs.Views.{UnitsPlaced};
 ghost use Rattle.vx_srlfmt.specs.Headers.{CanSpellState};
 
-use crate::keeping::keep_group;
-use crate::receivers::{Reached, apply_oldest};
-use crate::writing::{apply_group, write_group};
+use crate::writing::write_group;
 use std::alloc::Global;
 use vx_disk::{Shelf, ShelfError};
 use vx_ground::{Work, write_over};
 use vx_model::limits::MOST_CALL_BYTES;
-use vx_model::{No, State, Stop, Units, Update};
-use vx_peers::read_updates;
+use vx_model::{No, State, Stop, Units};
 use vx_rvg::{Rvg, RvgCore, StartRoom};
 use vx_secondary::{Secondary, Waiting};
 
@@ -97,98 +94,6 @@ impl Work for Shows {
         let (rvg, waiting) = site.apart();
         let (shelf, core) = rvg.apart();
         (shelf, (core, waiting, room, answer))
-    }
-}
-
-/// Logged writes that are brought into their volumes.
-#[derive(Drop)]
-pub(crate) struct Applies {
-    pub core: RvgCore,
-    pub to: u64,
-}
-
-impl Work for Applies {
-    type Answer = (RvgCore, Result<u64, No>);
-
-    ghost asks = { λ w m. IsSound w.core m };
-
-    ghost does = { λ w m n r. DoesApply w.core w.to m r.0 n r.1 };
-
-    fn run<S: Shelf>(self, shelf: S) -> (S, (RvgCore, Result<u64, No>)) {
-        let mut rvg = Rvg::together(shelf, self.core);
-        let answer = apply_group(&mut rvg, self.to);
-        let (shelf, core) = rvg.apart();
-        (shelf, (core, answer))
-    }
-}
-
-/// The oldest of what waits, so many of them, logged and brought into their volumes.
-#[derive(Drop)]
-pub(crate) struct Reaches {
-    pub core: RvgCore,
-    pub waiting: Waiting,
-    pub count: u32,
-}
-
-impl Work for Reaches {
-    type Answer = (RvgCore, Waiting, Result<Reached, No>);
-
-    ghost asks = { λ w m. AsksReach w.core w.waiting w.count m };
-
-    ghost does = { λ w m n r. DoesReach w.core w.waiting w.count m r.0 r.1 n r.2 };
-
-    fn run<S: Shelf>(self, shelf: S) -> (S, (RvgCore, Waiting, Result<Reached, No>)) {
-        let mut rvg = Rvg::together(shelf, self.core);
-        let mut waiting = self.waiting;
-        let answer = apply_oldest(&mut rvg, &mut waiting, self.count);
-        let (shelf, core) = rvg.apart();
-        (shelf, (core, waiting, answer))
-    }
-}
-
-/// Logged writes that are read to be sent, so many from a number on.
-#[derive(Drop)]
-pub(crate) struct Fetches {
-    pub alloc: Global,
-    pub core: RvgCore,
-    pub first: u64,
-    pub count: u64,
-}
-
-impl Work for Fetches {
-    type Answer = (RvgCore, Result<Vec<Update>, Stop>);
-
-    ghost asks = { λ w m. AsksFetch w.core w.first w.count m };
-
-    ghost does = { λ w m n r. DoesFetch w.core w.first w.count m r.0 n r.1 };
-
-    fn run<S: Shelf>(self, shelf: S) -> (S, (RvgCore, Result<Vec<Update>, Stop>)) {
-        let mut rvg = Rvg::together(shelf, self.core);
-        let answer = read_updates(self.alloc, &mut rvg, self.first, self.count);
-        let (shelf, core) = rvg.apart();
-        (shelf, (core, answer))
-    }
-}
-
-/// A header with another state.
-#[derive(Drop)]
-pub(crate) struct Keeps<'a> {
-    pub core: RvgCore,
-    pub state: &'a State,
-}
-
-impl<'a> Work for Keeps<'a> {
-    type Answer = (RvgCore, Result<(), No>);
-
-    ghost asks = { λ w m. IsSound w.core m × CanSpellState w.state.now };
-
-    ghost does = { λ w m n r. DoesKeep w.core w.state.now m r.0 n r.1 };
-
-    fn run<S: Shelf>(self, shelf: S) -> (S, (RvgCore, Result<(), No>)) {
-        let mut rvg = Rvg::together(shelf, self.core);
-        let answer = keep_group(&mut rvg, self.state);
-        let (shelf, core) = rvg.apart();
-        (shelf, (core, answer))
     }
 }
 

@@ -13,7 +13,6 @@ ghost use Rattle.vx_history.specs.World.{Node};
 ghost use Rattle.vx_diskset.specs.Asked.{IsRawSet, LeavesAlone};
 ghost use Rattle.vx_diskset.specs.DiskSets.{Later};
 ghost use Rattle.vx_diskset.specs.Holds.{KeptBeside, beside_of, header_links};
-ghost use Rattle.vx_diskset.specs.Noted.{NotesOn};
 ghost use Rattle.vx_diskset.specs.Pumps.{PumpStop, PumpedIs};
 ghost use Rattle.vx_diskset.specs.Shelves.{IsRackOf, LaterOn, StillOn};
 ghost use Rattle.vx_peers.specs.Senders.{SendsBy, pump_asks, pumped_at, way_from};
@@ -30,7 +29,7 @@ use vx_peers::pump;
 use vx_rvg::Rvg;
 
 // Whether the writes of a link are sent out of the log.
-pub(crate) fn goes_by_log(mode: &Mode) -> bool
+fn goes_by_log(mode: &Mode) -> bool
     ensures { result ≡ by_log mode.now }
 {
     match mode {
@@ -47,7 +46,7 @@ pub(crate) fn goes_by_log(mode: &Mode) -> bool
 }
 
 // Sends on a link of a group that runs.
-pub(crate) fn pump_group<S: Shelf, N: Net>(
+fn pump_group<S: Shelf, N: Net>(
     alloc: Global,
     rvg: &mut Rvg<S>,
     link: &mut Link,
@@ -87,7 +86,7 @@ pub(crate) fn pump_group<S: Shelf, N: Net>(
 
 impl<R: Rack> DiskSet<R> {
     /// Sends on a live link of an origin by the log what its receiver may lack, as the rule of links has it. `site` is the number of the site. It changes
-    /// no disk, but where the site is over a group of disks what that notes of a disk that failed. Where a write cannot be read nothing is sent, and the link stays as it was.
+    /// no disk. Where a write cannot be read nothing is sent, and the link stays as it was.
     ///
     /// Also where contents are not told the link is as the rule leaves it, and it sends the updates that the rule asks for, of whatever writes were read.
     ///
@@ -100,24 +99,23 @@ impl<R: Rack> DiskSet<R> {
         site: u32,
         flight: &mut N,
     ) -> Result<(), Stop>
-        ensures pumped { (d : Doubted) (k : ℕ) → SiteStands (beside_of d site) (d.world.nodes site) self.old → is_origin (d.world.nodes site).role ≡ true → (d.world.nodes site).state ≡ UpState → is_over_group (d.world.nodes site) ≡ false → (d.world.nodes site).halted ≡ None → IsToldAt self.old
+        ensures pumped { (d : Doubted) (k : ℕ) → SiteStands (beside_of d site) (d.world.nodes site) self.old → IsRawSet self.old → is_origin (d.world.nodes site).role ≡ true → (d.world.nodes site).state ≡ UpState → is_over_group (d.world.nodes site) ≡ false → (d.world.nodes site).halted ≡ None → IsToldAt self.old
             → slice_get (header_links d.world site) k ≡ Some (kept_link link.old.site (d.world.links site link.old.site)) → link.old ≡ plain_link link.old.site (d.world.links site link.old.site) → FlightStands d.world.packets (N.flying flight.old)
             → PumpedIs d.world site link.old.site link.new (N.flying flight.new) (faults_at self.old) (faults_at self.new) result }
-        ensures stops { (beside : KeptBeside) (n : Node) → SiteStands beside n self.old → is_origin n.role ≡ true → n.state ≡ UpState → is_over_group n ≡ false → n.halted ≡ None → IfErr result (PumpStop n (pump_asks link.old n.safe) (faults_at self.old) (faults_at self.new)) }
+        ensures stops { (beside : KeptBeside) (n : Node) → SiteStands beside n self.old → IsRawSet self.old → is_origin n.role ≡ true → n.state ≡ UpState → is_over_group n ≡ false → n.halted ≡ None → IfErr result (PumpStop n (pump_asks link.old n.safe) (faults_at self.old) (faults_at self.new)) }
         ensures stands { (beside : KeptBeside) (n : Node) → SiteStands beside n self.old → SiteStands beside n self.new }
         ensures more { (beside : KeptBeside) (n : Node) → SiteStands beside n self.old
             → OnOk result (SendsBy (pump_asks link.old n.safe) (way_from site link.old.site n.line) (N.flying flight.old) (N.flying flight.new)) }
         ensures rule { (beside : KeptBeside) (n : Node) → SiteStands beside n self.old → OnOk result (link.new ≡ pumped_at link.old n.safe) }
         ensures link { OnErr result (link.new ≡ link.old) }
         ensures unsent { OnErr result (N.flying flight.new ≡ N.flying flight.old) }
-        ensures still { IsRawSet self.old → LeavesAlone self.old self.new }
+        ensures still { LeavesAlone self.old self.new }
         ensures role { KeepsRole self.old self.new }
-        ensures notes { NotesOn self.old self.new }
         ensures later { Later self.old self.new }
     {
         match self {
             DiskSet::Up(rvg) => pump_group(alloc, rvg, link, site, flight),
-            DiskSet::Over(over) => over.pump(alloc, link, site, flight),
+            DiskSet::Over(_) => Err(Stop::No(No::Role)),
             DiskSet::Bare(_)
             | DiskSet::Spoiled(_)
             | DiskSet::Receives(_)

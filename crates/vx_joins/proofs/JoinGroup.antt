@@ -19,6 +19,7 @@ use Rattle.vx_srl.specs.Views.{Log, most_number, widths}
 use Rattle.vx_srl.specs.declared.kept.Kept.{Kept as KeptRecord}
 use Rattle.vx_disk.specs.Burns.{MakesCalls}
 use Rattle.vx_disk.specs.Moves.{Blocks, Moves}
+use Rattle.vx_disk.specs.Racks.{IsRack}
 use Rattle.vx_disk.specs.Shelf.{Image, Lawful, Meaning}
 use Rattle.vx_rvg.specs.Groups.{GroupFails, halted_or}
 use Rattle.vx_rvg.specs.Holdings.{Holding, kept_in, with_last}
@@ -33,15 +34,15 @@ use Rattle.vx_diskset.specs.Holds.{KeptBeside, HasSite, HasWrites, KeptSite, May
 use Rattle.vx_diskset.specs.Lasts.{HasLast, StandsHolding}
 use Rattle.vx_diskset.specs.Layouts.{LiesOn}
 use Rattle.vx_diskset.specs.Needs.{TakesAs}
-use Rattle.vx_diskset.specs.Shelves.{IsRackOf}
 use Rattle.vx_diskset.specs.Stands.{IsHeldAt, IsReceiverAt, IsUpAt}
 use Rattle.vx_diskset.proofs.BesideLemmas.{never_besides, site_sure}
+use Rattle.vx_diskset.proofs.Blamed.{disks_are}
 use Rattle.vx_diskset.proofs.Laying.{lies_moved}
 use Rattle.vx_diskset.proofs.LastWrites.{stands_with}
 use Rattle.vx_diskset.proofs.LogDisks.{log_disk}
 use Rattle.vx_diskset.proofs.NeedLemmas.{none_of}
 use Rattle.vx_diskset.proofs.StaysUp.{found_below, fuse_moved, fused_by, left_moved, never_both, told_now, up_found, writes_found}
-use Rattle.vx_joins.specs.Joins.{CanJoin, JoinedAs, MayJoin, joined_anew, joins_in_doubt}
+use Rattle.vx_joins.specs.Joins.{CanJoin, JoinedAs, joined_anew, joins_in_doubt}
 
 -- the group with an empty log on the other line
 abbrev pub emptied_core : Core → (a : Node) → ℕ → Node → Core
@@ -103,18 +104,15 @@ has_anew : (beside : KeptBeside) (a : Node) (p : ℕ) (n : Node) (disk : ℕ) (i
     → HasWrites (sure_of (record (joined_anew beside a p n) { node = halted_at (joined a p n) disk })) (halted_at (joined a p n) disk) i
 has_anew beside a p n disk i has = record { count = has.count; least = has.least; most = has.most; found = has.found }
 
-pub may_join : {beside : KeptBeside} {n : Node} → CanJoin beside n → MayJoin beside n
-may_join can = record { up = can.up; running = can.running; origin = can.origin; empty = can.empty; unlinked = can.unlinked }
-
 -- the header is all that it writes
-pub none_applied : {beside : KeptBeside} (n : Node) (c : Core) (m : Meaning) → IsUpAt beside n c m → MayJoin beside n → AppliesNone (Some 0) c
+pub none_applied : {beside : KeptBeside} (n : Node) (c : Core) (m : Meaning) → IsUpAt beside n c m → CanJoin beside n → AppliesNone (Some 0) c
 none_applied {beside} n c m up can = let all : last_of c ≤ c.applied = omega (arith, up.head, up.logged, ap (λ (xs : List Write). length xs) can.empty) in all
 
 pub join_calls : (c : Core) (m new : Meaning) (r : Result (Unit {0}) No) → OnOk r (AppliesNone (Some 0) c → MakesCalls 2 m new) → OnOk r ((beside : KeptBeside) (n : Node) → IsUpAt beside n c m → CanJoin beside n → MakesCalls 2 m new)
-join_calls c m new (Ok done) calls = λ beside n up can. calls (none_applied n c m up (may_join can))
+join_calls c m new (Ok done) calls = λ beside n up can. calls (none_applied n c m up can)
 join_calls c m new (Err why) calls = tt
 
-module _ {beside : KeptBeside} (a : Node) (p : ℕ) (n : Node) (c : Core) (m : Meaning) (up : IsUpAt beside n c m) (can : MayJoin beside n) where
+module _ {beside : KeptBeside} (a : Node) (p : ℕ) (n : Node) (c : Core) (m : Meaning) (up : IsUpAt beside n c m) (can : CanJoin beside n) where
   none_safe : n.safe ≡ 0
   none_safe = omega (arith, up.logged, ap (λ (xs : List Write). length xs) can.empty)
 
@@ -140,7 +138,7 @@ module _ {beside : KeptBeside} (a : Node) (p : ℕ) (n : Node) (c : Core) (m : M
       (λ next. inr (anew_found i told next))
       (saving.each stood.held stood.stands)
 
-module _ {beside : KeptBeside} (a : Node) (p : ℕ) (n : Node) (c c' : Core) (m new : Meaning) (up : IsUpAt beside n c m) (can : MayJoin beside n) (lawful : Lawful m) (after : Lawful new)
+module _ {beside : KeptBeside} (a : Node) (p : ℕ) (n : Node) (c c' : Core) (m new : Meaning) (up : IsUpAt beside n c m) (can : CanJoin beside n) (lawful : Lawful m) (after : Lawful new)
     (moves : Moves (change_blocks (Some 0) c m) (Saving c (emptied_core c a p n) m) m new) where
   abbrev blocks : Blocks
   blocks = change_blocks (Some 0) c m
@@ -172,7 +170,7 @@ module _ {beside : KeptBeside} (a : Node) (p : ℕ) (n : Node) (c c' : Core) (m 
     record { lies = lies_here; low = up.low; logged = up.logged; begun = λ told. up.begun (sym moves.tells ∙ told); left = either_left 0; may = may_be 0 },
   )
 
-  module _ (still : IsFalse new.down) (unit_is : c'.log.unit ≡ c'.units.srl) (place : c.log.unit ≡ c.units.srl) (rack : IsRackOf n m) (runs : c.log.header.run ≤ c.log.header.stamp) where
+  module _ (still : IsFalse new.down) (unit_is : c'.log.unit ≡ c'.units.srl) (place : c.log.unit ≡ c.units.srl) (rack : IsRack m) (runs : c.log.header.run ≤ c.log.header.stamp) where
     -- it stands on the other line
     joined_up : c' ≡ emptied_core c a p n → Retains c c' m new → IsReceiverAt (sure_of (joined_anew beside a p n)) (worked (joined a p n)) c' [] new
     joined_up is retains = subst (λ (k : Core). Retains c k m new → k.log.unit ≡ k.units.srl → IsReceiverAt (sure_of (joined_anew beside a p n)) (worked (joined a p n)) k [] new) (sym is) (λ rests unit. by rests unit) retains unit_is
@@ -253,7 +251,7 @@ module _ {beside : KeptBeside} (a : Node) (p : ℕ) (n : Node) (c c' : Core) (m 
     by_fault d (Device disk) units log blames fails = (
       join_halted disk (fails.0.units ∙ units) (fails.0.ring ∙ ap (λ (l : Log). l.ring) log) (fails.0.header ∙ ap (λ (l : Log). l.header) log) (fails.0.held ∙ ap (λ (l : Log). l.held) log) fails.0.halted_is,
       fails.1,
-      log_disk n c m disk up.units place rack blames,
+      log_disk n c m disk up.units place (λ none. disks_are m rack) blames,
     )
     by_fault d IsOff units log blames fails = absurd (never_both new.down fails.1 still)
     by_fault d (Limit what most) units log blames fails = absurd fails

@@ -1,11 +1,8 @@
 pub mod JoinCall
 pub mod JoinGroup
-pub mod JoinOver
 pub mod SpellsLinks
 pub mod StoresCalls
 pub mod StoresLink
-pub mod StoresNotes
-pub mod TakesFounded
 pub mod TakesUpdate
 pub mod TookUpdate
 pub mod UpdatesFit

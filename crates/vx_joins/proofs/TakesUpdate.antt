@@ -33,17 +33,17 @@ use Rattle.vx_rvg.specs.declared.group.Rvg.{Rvg}
 use Rattle.vx_peers.specs.Receivers.{ReceivesWrites as ReceivesAt, StandsForOutcome}
 use Rattle.vx_secondary.specs.Receivers.{receiver_of, writes_of_updates}
 use Rattle.vx_secondary.specs.declared.secondary.Secondary.{Secondary}
-use Rattle.vx_diskset.specs.Asked.{IsRawSet, LeavesAlone, disks_told}
+use Rattle.vx_diskset.specs.Asked.{LeavesAlone, disks_told}
 use Rattle.vx_diskset.specs.DiskSets.{Later}
 use Rattle.vx_diskset.specs.Holds.{KeptBeside, HasWrites, most_with, state_with}
 use Rattle.vx_diskset.specs.Lasts.{FoundWith, StandsHolding}
 use Rattle.vx_diskset.specs.Layouts.{units_of}
 use Rattle.vx_diskset.specs.Needs.{TakesAs}
-use Rattle.vx_diskset.specs.Stands.{IsReceiverAt, RoleIs, SiteStands}
+use Rattle.vx_diskset.specs.Stands.{IsReceiverAt, RoleIs, SiteStands, IsUngrouped}
 use Rattle.vx_diskset.specs.declared.disk_set.DiskSet.{DiskSet}
-use Rattle.vx_diskset.specs.declared.over_set.OverSet.{OverSet}
 use Rattle.vx_diskset.specs.declared.disk_set.DiskSet.TheVariants.{Bare, Spoiled, Up, Receives, Down, OfGroup, Over, Gone}
 use Rattle.vx_diskset.proofs.GroupStands.{off_or_origin}
+use Rattle.vx_diskset.specs.Asked.{IsRawSet}
 use Rattle.vx_diskset.proofs.BesideLemmas.{site_sure}
 use Rattle.vx_joins.specs.Deliveries.{DeliveredTo}
 
@@ -234,47 +234,49 @@ module _ (w : World) (number : ℕ) (p : Packet) (k : ℕ) (x : Write) (at : pac
         (record { says = refl; stands = stands; fed_by = fed_by; assembly = assembly; flight = flight })
 
     -- disks that receive nothing
-    pub never_heard : (e : DiskSet R g) (fed : ℕ) (a : Assembled) (f : Flying) → ((s : Secondary R g) → e ≡ Receives s → ⊥) → ((s : OverSet R g) → e ≡ Over s → ⊥) → RoleIs there e
+    pub never_heard : (e : DiskSet R g) (fed : ℕ) (a : Assembled) (f : Flying) → ((s : Secondary R g) → e ≡ Receives s → ⊥) → RoleIs there e → IsRawSet e
         → SiteStands beside there e → fed ≡ there.fed_by → AssemblyStands w.packets p.target (w.gathering p.target) a → FlightStands w.packets f → DeliveredTo behind beside p.target e fed a f IsIgnored
-    never_heard (Bare rack) fed a f other over role stands = ignored_to (Bare rack) fed a f (inl (inl (ap (λ (n : Node). is_up n.state) stands.bare.is))) stands
-    never_heard (Spoiled rack) fed a f other over role stands = ignored_to (Spoiled rack) fed a f (inl (inl (ap (λ (n : Node). is_up n.state) stands.is))) stands
-    never_heard (Up rvg) fed a f other over role stands = ignored_to (Up rvg) fed a f (inr role) stands
-    never_heard (Receives s) fed a f other over role stands = absurd (other s refl)
-    never_heard (Down rack) fed a f other over role stands = ignored_to (Down rack) fed a f (inl (inl (ap is_up stands.state))) stands
-    never_heard (OfGroup s) fed a f other over role stands = ignored_to (OfGroup s) fed a f (⊎_elim (λ off. inl (inl off)) (λ origin. inr origin) (off_or_origin beside there s stands)) stands
-    never_heard (Over s) fed a f other over role stands = absurd (over s refl)
-    never_heard Gone fed a f other over role stands = absurd stands
+    never_heard (Bare rack) fed a f other role raw stands = ignored_to (Bare rack) fed a f (inl (inl (ap (λ (n : Node). is_up n.state) stands.bare.is))) stands
+    never_heard (Spoiled rack) fed a f other role raw stands = ignored_to (Spoiled rack) fed a f (inl (inl (ap (λ (n : Node). is_up n.state) stands.is))) stands
+    never_heard (Up rvg) fed a f other role raw stands = ignored_to (Up rvg) fed a f (inr role) stands
+    never_heard (Receives s) fed a f other role raw stands = absurd (other s refl)
+    never_heard (Down rack) fed a f other role raw stands = ignored_to (Down rack) fed a f (inl (inl (ap is_up stands.state))) stands
+    never_heard (OfGroup s) fed a f other role raw stands = ignored_to (OfGroup s) fed a f (⊎_elim (λ off. inl (inl off)) (λ origin. inr origin) (off_or_origin beside there s stands)) stands
+    never_heard (Over s) fed a f other role raw stands = absurd raw
+    never_heard Gone fed a f other role raw stands = absurd stands
 
     -- a receiver that is halted
     pub halted_to : (s : Secondary R g) (disk : ℕ) (fed : ℕ) (a : Assembled) (f : Flying) → Some disk ≡ s.rvg.core.halted → SiteStands beside there (Receives s) → fed ≡ there.fed_by → AssemblyStands w.packets p.target (w.gathering p.target) a
         → FlightStands w.packets f → DeliveredTo behind beside p.target (Receives s) fed a f IsIgnored
     halted_to s disk fed a f is stands = ignored_to (Receives s) fed a f (inl (inr (halted_off there.halted disk (is ∙ stands.1.halted)))) stands
 
-    -- one that runs, of whatever disks a receiver is put to
-    module _ (c : Core) (us us' : List Logged) (m : Meaning) (e' : DiskSet R g) (put : (n : Node) → n.group ≡ there.group → n.disks ≡ there.disks → n.blocks ≡ there.blocks → IsReceiverAt beside n c us' m → SiteStands beside n e')
-        (r : IsReceiverAt beside there c us m) (running : there.halted ≡ None) where
-      pub received_to : (fed : ℕ) (a : Assembled) (f : Flying) (said : Said) → StandsForOutcome behind p.target c us' fed a f said → DeliveredTo behind beside p.target e' fed a f said
-      received_to fed a f said stood = record {
-        says = stood.says;
-        stands = ⊎_elim (λ is. put (behind.world.nodes p.target) (ap (λ (n : Node). n.group) is) (ap (λ (n : Node). n.disks) is) (ap (λ (n : Node). n.blocks) is) (still is))
-            (λ is. put (behind.world.nodes p.target) (ap (λ (n : Node). n.group) is) (ap (λ (n : Node). n.disks) is) (ap (λ (n : Node). n.blocks) is) (more is)) (node_behind w p x number k at message);
-        fed_by = stood.receiver.fed_by;
-        assembly = stood.assembly;
-        flight = stood.flight;
-      }
-        where
-          still : behind.world.nodes p.target ≡ there → IsReceiverAt beside (behind.world.nodes p.target) c us' m
-          still is = subst (λ (n : Node). IsReceiverAt beside n c us' m) (sym is) (same_receiver there c us m r running us' (subst (λ (n : Node). writes_of_updates us' ≡ drop n.safe n.log) is stood.receiver.waits))
-
-          more : behind.world.nodes p.target ≡ with_write there p.source x → IsReceiverAt beside (behind.world.nodes p.target) c us' m
-          more is = subst (λ (n : Node). IsReceiverAt beside n c us' m) (sym is) (more_receiver there c us m r running p.source x us' (subst (λ (n : Node). writes_of_updates us' ≡ drop n.safe n.log) is stood.receiver.waits))
-
+    -- one that runs
     pub taken_to : (old new : Secondary R g) (fed : ℕ) (a : Assembled) (f : Flying) (said : Said) → new.rvg ≡ old.rvg → SiteStands beside there (Receives old) → there.halted ≡ None
         → StandsForOutcome behind p.target new.rvg.core new.waiting fed a f said → DeliveredTo behind beside p.target (Receives new) fed a f said
-    taken_to old new fed a f said same r running stood =
-        received_to old.rvg.core old.waiting new.waiting (g.meaning old.rvg.shelf) (Receives new)
-        (λ n group disks blocks here. ((group ∙ r.0.0, r.0.1), subst (λ (v : Rvg R g). IsReceiverAt beside n v.core new.waiting (g.meaning v.shelf)) (sym same) here)) r.1 running fed a f said
-        (subst (λ (v : Rvg R g). StandsForOutcome behind p.target v.core new.waiting fed a f said) same stood)
+    taken_to old new fed a f said same r running stood = record {
+      says = stood.says;
+      stands = (⊎_elim raw_still raw_more (node_behind w p x number k at message), subst (λ (v : Rvg R g). IsReceiverAt beside (behind.world.nodes p.target) v.core new.waiting (g.meaning v.shelf)) (sym same) (⊎_elim still more (node_behind w p x number k at message)));
+      fed_by = stood.receiver.fed_by;
+      assembly = stood.assembly;
+      flight = stood.flight;
+    }
+      where
+        m : Meaning
+        m = g.meaning old.rvg.shelf
+
+        raw_still : behind.world.nodes p.target ≡ there → IsUngrouped beside (behind.world.nodes p.target)
+        raw_still is = (ap (λ (n : Node). n.group) is ∙ r.0.0, r.0.1)
+
+        raw_more : behind.world.nodes p.target ≡ with_write there p.source x → IsUngrouped beside (behind.world.nodes p.target)
+        raw_more is = (ap (λ (n : Node). n.group) is ∙ r.0.0, r.0.1)
+
+        still : behind.world.nodes p.target ≡ there → IsReceiverAt beside (behind.world.nodes p.target) old.rvg.core new.waiting m
+        still is = subst (λ (n : Node). IsReceiverAt beside n old.rvg.core new.waiting m) (sym is)
+            (same_receiver there old.rvg.core old.waiting m r.1 running new.waiting (subst (λ (n : Node). writes_of_updates new.waiting ≡ drop n.safe n.log) is stood.receiver.waits))
+
+        more : behind.world.nodes p.target ≡ with_write there p.source x → IsReceiverAt beside (behind.world.nodes p.target) old.rvg.core new.waiting m
+        more is = subst (λ (n : Node). IsReceiverAt beside n old.rvg.core new.waiting m) (sym is)
+            (more_receiver there old.rvg.core old.waiting m r.1 running p.source x new.waiting (subst (λ (n : Node). writes_of_updates new.waiting ≡ drop n.safe n.log) is stood.receiver.waits))
 
 -- ---- the disks
 
@@ -291,17 +293,6 @@ module _ {R : Type 0} {g : Ghosts R} where
 
   pub later_same : (e : DiskSet R g) → Later e e
   later_same e = record { counts = λ d. omega arith; told = λ t. t }
-
-  -- disks that are not over a group with a replicated volume group
-  pub raw_by : (e : DiskSet R g) → ((s : OverSet R g) → e ≡ Over s → ⊥) → IsRawSet e
-  raw_by (Bare rack) other = tt
-  raw_by (Spoiled rack) other = tt
-  raw_by (Up rvg) other = tt
-  raw_by (Receives s) other = tt
-  raw_by (Down rack) other = tt
-  raw_by (OfGroup s) other = tt
-  raw_by (Over s) other = absurd (other s refl)
-  raw_by Gone other = tt
 
   pub alone_group : (old new : Secondary R g) → new.rvg ≡ old.rvg → LeavesAlone (Receives old) (Receives new)
   alone_group old new same = record {

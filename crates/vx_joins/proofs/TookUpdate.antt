@@ -25,7 +25,6 @@ use Rattle.vx_packet.specs.Assemblies.{Assembled}
 use Rattle.vx_disk.specs.Shelf.{Meaning}
 use Rattle.vx_disk.specs.declared.shelf.Shelf.{Ghosts}
 use Rattle.vx_rvg.specs.Contents.{write_of_update}
-use Rattle.vx_rvg.specs.Views.{Core}
 use Rattle.vx_rvg.specs.declared.group.Rvg.{Rvg}
 use Rattle.vx_peers.proofs.MorePackets.{more_none}
 use Rattle.vx_peers.specs.Receivers.{AcksAgain, IsIdle, NoneWaits, NotHeard, OneWaits, ReceivesWrites as ReceivesAt, TookOne, acks_of, rule_at}
@@ -36,9 +35,9 @@ use Rattle.vx_secondary.specs.declared.secondary.Secondary.{Secondary}
 use Rattle.vx_diskset.specs.Holds.{KeptBeside}
 use Rattle.vx_diskset.specs.Stands.{IsReceiverAt, RoleIs, SiteStands}
 use Rattle.vx_diskset.specs.declared.disk_set.DiskSet.{DiskSet}
-use Rattle.vx_diskset.specs.declared.over_set.OverSet.{OverSet}
 use Rattle.vx_diskset.specs.declared.disk_set.DiskSet.TheVariants.{Bare, Spoiled, Up, Receives, Down, OfGroup, Over, Gone}
 use Rattle.vx_diskset.proofs.GroupStands.{off_or_origin}
+use Rattle.vx_diskset.specs.Asked.{IsRawSet}
 use Rattle.vx_joins.specs.Deliveries.{IsUnheard, TakesNone, TakesOne, TookTo}
 use Rattle.vx_joins.proofs.TakesUpdate.{halted_off, ignored_is, more_receiver, receives_at, same_receiver}
 
@@ -79,66 +78,65 @@ module _ (w : World) (number : ℕ) (p : Packet) (k : ℕ) (x : Write) (at : pac
   next_of m is = next_is (takes (plain_receiver there) p.line k) (repeats (plain_receiver there) p.line k) (with_next (plain_receiver there)) (plain_receiver there) k (length there.log) m is
 
   module _ {R : Type 0} {g : Ghosts R} (beside : KeptBeside) where
-    pub unheard : (e : DiskSet R g) (fed : ℕ) (a : Assembled) (f : Flying) → ((is_up there.state ≡ false) ⊎ (is_running there.halted ≡ false)) ⊎ (is_origin there.role ≡ true) → SiteStands beside there e → fed ≡ there.fed_by
+    unheard : (e : DiskSet R g) (fed : ℕ) (a : Assembled) (f : Flying) → ((is_up there.state ≡ false) ⊎ (is_running there.halted ≡ false)) ⊎ (is_origin there.role ≡ true) → SiteStands beside there e → fed ≡ there.fed_by
         → TookTo w number p k beside e fed a a f f IsIgnored
     unheard e fed a f why stands fed_by = IsUnheard [] (ignored_is w number p k x at message why ∙ nothing_sent) refl stands fed_by refl (more_none f f refl)
 
     -- disks that receive nothing
-    pub other_took : (e : DiskSet R g) (fed : ℕ) (a : Assembled) (f : Flying) → ((s : Secondary R g) → e ≡ Receives s → ⊥) → ((s : OverSet R g) → e ≡ Over s → ⊥) → RoleIs there e → SiteStands beside there e → fed ≡ there.fed_by → TookTo w number p k beside e fed a a f f IsIgnored
-    other_took (Bare rack) fed a f other over role stands = unheard (Bare rack) fed a f (inl (inl (ap (λ (n : Node). is_up n.state) stands.bare.is))) stands
-    other_took (Spoiled rack) fed a f other over role stands = unheard (Spoiled rack) fed a f (inl (inl (ap (λ (n : Node). is_up n.state) stands.is))) stands
-    other_took (Up rvg) fed a f other over role stands = unheard (Up rvg) fed a f (inr role) stands
-    other_took (Receives s) fed a f other over role stands = absurd (other s refl)
-    other_took (Down rack) fed a f other over role stands = unheard (Down rack) fed a f (inl (inl (ap is_up stands.state))) stands
-    other_took (OfGroup s) fed a f other over role stands = unheard (OfGroup s) fed a f (⊎_elim (λ off. inl (inl off)) (λ origin. inr origin) (off_or_origin beside there s stands)) stands
-    other_took (Over s) fed a f other over role stands = absurd (over s refl)
-    other_took Gone fed a f other over role stands = absurd stands
+    pub other_took : (e : DiskSet R g) (fed : ℕ) (a : Assembled) (f : Flying) → ((s : Secondary R g) → e ≡ Receives s → ⊥) → RoleIs there e → IsRawSet e → SiteStands beside there e → fed ≡ there.fed_by → TookTo w number p k beside e fed a a f f IsIgnored
+    other_took (Bare rack) fed a f other role raw stands = unheard (Bare rack) fed a f (inl (inl (ap (λ (n : Node). is_up n.state) stands.bare.is))) stands
+    other_took (Spoiled rack) fed a f other role raw stands = unheard (Spoiled rack) fed a f (inl (inl (ap (λ (n : Node). is_up n.state) stands.is))) stands
+    other_took (Up rvg) fed a f other role raw stands = unheard (Up rvg) fed a f (inr role) stands
+    other_took (Receives s) fed a f other role raw stands = absurd (other s refl)
+    other_took (Down rack) fed a f other role raw stands = unheard (Down rack) fed a f (inl (inl (ap is_up stands.state))) stands
+    other_took (OfGroup s) fed a f other role raw stands = unheard (OfGroup s) fed a f (⊎_elim (λ off. inl (inl off)) (λ origin. inr origin) (off_or_origin beside there s stands)) stands
+    other_took (Over s) fed a f other role raw stands = absurd raw
+    other_took Gone fed a f other role raw stands = absurd stands
 
     -- a receiver that is halted
     pub halted_took : (s : Secondary R g) (disk fed : ℕ) (a : Assembled) (f : Flying) → Some disk ≡ s.rvg.core.halted → SiteStands beside there (Receives s) → fed ≡ there.fed_by → TookTo w number p k beside (Receives s) fed a a f f IsIgnored
     halted_took s disk fed a f is stands = unheard (Receives s) fed a f (inl (inr (halted_off there.halted disk (is ∙ stands.1.halted)))) stands
 
-    -- one that runs, of whatever disks a receiver is put to
-    module _ (c : Core) (us us' : List Logged) (m : Meaning) (e' : DiskSet R g) (put : (n : Node) → n.group ≡ there.group → n.disks ≡ there.disks → n.blocks ≡ there.blocks → IsReceiverAt beside n c us' m → SiteStands beside n e')
-        (r : IsReceiverAt beside there c us m) (running : there.halted ≡ None) (fed fed' : ℕ) (a a' : Assembled) (f f' : Flying) (fed_by : fed ≡ there.fed_by) where
-      waits : writes_of_updates us ≡ drop there.safe there.log
-      waits = r.waits ∙ ap (λ (i : ℕ). drop i there.log) (r.head running)
+    -- one that runs
+    module _ (old new : Secondary R g) (fed fed' : ℕ) (a a' : Assembled) (f f' : Flying) (same : new.rvg ≡ old.rvg) (r : SiteStands beside there (Receives old)) (running : there.halted ≡ None) (fed_by : fed ≡ there.fed_by) where
+      abbrev m : Meaning
+      m = g.meaning old.rvg.shelf
 
-      same_waits : us' ≡ us → IsReceiverAt beside there c us' m
-      same_waits is = same_receiver there c us m r running us' (ap (λ (vs : List Logged). writes_of_updates vs) is ∙ waits)
+      waits : writes_of_updates old.waiting ≡ drop there.safe there.log
+      waits = r.1.waits ∙ ap (λ (i : ℕ). drop i there.log) (r.1.head running)
 
-      peer : ReceivesAt there c us fed
-      peer = receives_at there c us m r running fed fed_by
+      group_same : (n : Node) → n.group ≡ there.group → IsReceiverAt beside n old.rvg.core new.waiting m → SiteStands beside n (Receives new)
+      group_same n group here = ((group ∙ r.0.0, r.0.1), subst (λ (v : Rvg R g). IsReceiverAt beside n v.core new.waiting (g.meaning v.shelf)) (sym same) here)
 
-      rule : rule_at c us p.line k ≡ rule_of w p k
+      same_waits : new.waiting ≡ old.waiting → IsReceiverAt beside there old.rvg.core new.waiting m
+      same_waits is = same_receiver there old.rvg.core old.waiting m r.1 running new.waiting (ap (λ (us : List Logged). writes_of_updates us) is ∙ waits)
+
+      peer : ReceivesAt there old.rvg.core old.waiting fed
+      peer = receives_at there old.rvg.core old.waiting m r.1 running fed fed_by
+
+      rule : rule_at old.rvg.core old.waiting p.line k ≡ rule_of w p k
       rule = ap (λ (s : RState). (received_step s (HearUpdate p.line k)).action) peer.rule
 
-      acks : (n : ℕ) → Sends (acks_of p.target p.source c n) f f' → Sends (packets_of p.target p.source there.line (NetAck there.session n)) f f'
+      acks : (n : ℕ) → Sends (acks_of p.target p.source old.rvg.core n) f f' → Sends (packets_of p.target p.source there.line (NetAck there.session n)) f f'
       acks n sends =
           subst (λ (l : Line). Sends (packets_of p.target p.source l (NetAck there.session n)) f f') (ap (λ (s : RState). s.line) peer.rule)
-          (subst (λ (i : ℕ). Sends (packets_of p.target p.source c.log.header.state.line (NetAck i n)) f f') (ap (λ (s : RState). s.session) peer.rule) sends)
+          (subst (λ (i : ℕ). Sends (packets_of p.target p.source old.rvg.core.log.header.state.line (NetAck i n)) f f') (ap (λ (s : RState). s.session) peer.rule) sends)
 
-      pub received_took : (said : Said) → TookOne (rule_at c us p.line k) p.source p.target c us us' fed fed' a a' f f' said
-          → TookTo w number p k beside e' fed' a a' f f' said
-      received_took said (OneWaits u n takes is from sends taken) =
+      pub running_took : (said : Said) → TookOne (rule_at old.rvg.core old.waiting p.line k) p.source p.target old.rvg.core old.waiting new.waiting fed fed' a a' f f' said
+          → TookTo w number p k beside (Receives new) fed' a a' f f' said
+      running_took said (OneWaits u n takes is from sends taken) =
           let next : n ≡ k = next_of n (sym rule ∙ takes) in
-          TakesOne (r.state, running) r.role (sym rule ∙ takes ∙ ap (λ (i : ℕ). Take i) next) (write_of_update u) taken
-          (put (with_write there p.source (write_of_update u)) refl refl refl
-          (more_receiver there c us m r running p.source (write_of_update u) us'
-          (ap (λ (vs : List Logged). writes_of_updates vs) is ∙ map-append write_of_update us (u ∷ []) ∙ ap (λ (ws : List Write). ws ++ write_of_update u ∷ []) waits
-          ∙ sym (drop-append-le there.safe there.log (write_of_update u ∷ []) (omega (arith, r.least, r.most))))))
+          TakesOne (r.1.state, running) r.1.role (sym rule ∙ takes ∙ ap (λ (i : ℕ). Take i) next) (write_of_update u) taken
+          (group_same (with_write there p.source (write_of_update u)) refl
+          (more_receiver there old.rvg.core old.waiting m r.1 running p.source (write_of_update u) new.waiting
+          (ap (λ (us : List Logged). writes_of_updates us) is ∙ map-append write_of_update old.waiting (u ∷ []) ∙ ap (λ (ws : List Write). ws ++ write_of_update u ∷ []) waits
+          ∙ sym (drop-append-le there.safe there.log (write_of_update u ∷ []) (omega (arith, r.1.least, r.1.most))))))
           from (subst (λ (i : ℕ). Sends (packets_of p.target p.source there.line (NetAck there.session i)) f f') next (acks n sends))
-      received_took said (NoneWaits n takes is from still how) =
+      running_took said (NoneWaits n takes is from still how) =
           let next : n ≡ k = next_of n (sym rule ∙ takes) in
-          TakesNone (r.state, running) r.role (sym rule ∙ takes ∙ ap (λ (i : ℕ). Take i) next) how (put there refl refl refl (same_waits is)) (from ∙ fed_by) still
-      received_took said (AcksAgain n again is from kept sends how) =
+          TakesNone (r.1.state, running) r.1.role (sym rule ∙ takes ∙ ap (λ (i : ℕ). Take i) next) how (group_same there refl (same_waits is)) (from ∙ fed_by) still
+      running_took said (AcksAgain n again is from kept sends how) =
           IsUnheard (packets_of p.target p.source there.line (NetAck there.session n))
-          (heard_is r.state running r.role ∙ ap (λ (x' : RAction). gathers p (update_taken w p x x')) (sym rule ∙ again)) how (put there refl refl refl (same_waits is)) (from ∙ fed_by) kept (acks n sends)
-      received_took said (NotHeard idle is from kept still how) =
-          IsUnheard [] (heard_is r.state running r.role ∙ idle_ignored (rule_of w p k) (subst IsIdle rule idle) ∙ nothing_sent) how (put there refl refl refl (same_waits is)) (from ∙ fed_by) kept (more_none f f' still)
-
-    pub running_took : (old new : Secondary R g) (fed fed' : ℕ) (a a' : Assembled) (f f' : Flying) → new.rvg ≡ old.rvg → SiteStands beside there (Receives old) → there.halted ≡ None → fed ≡ there.fed_by → (said : Said)
-        → TookOne (rule_at old.rvg.core old.waiting p.line k) p.source p.target old.rvg.core old.waiting new.waiting fed fed' a a' f f' said → TookTo w number p k beside (Receives new) fed' a a' f f' said
-    running_took old new fed fed' a a' f f' same r running fed_by said took =
-        received_took old.rvg.core old.waiting new.waiting (g.meaning old.rvg.shelf) (Receives new)
-        (λ n group disks blocks here. ((group ∙ r.0.0, r.0.1), subst (λ (v : Rvg R g). IsReceiverAt beside n v.core new.waiting (g.meaning v.shelf)) (sym same) here)) r.1 running fed fed' a a' f f' fed_by said took
+          (heard_is r.1.state running r.1.role ∙ ap (λ (x' : RAction). gathers p (update_taken w p x x')) (sym rule ∙ again)) how (group_same there refl (same_waits is)) (from ∙ fed_by) kept (acks n sends)
+      running_took said (NotHeard idle is from kept still how) =
+          IsUnheard [] (heard_is r.1.state running r.1.role ∙ idle_ignored (rule_of w p k) (subst IsIdle rule idle) ∙ nothing_sent) how (group_same there refl (same_waits is)) (from ∙ fed_by) kept (more_none f f' still)

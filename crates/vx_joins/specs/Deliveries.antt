@@ -1,44 +1,25 @@
 -- What the disks of a site make of the packet of an update that is handed to it.
-use Rattle.std.specs.Prelude.{◌≡◌, ◌⊎◌, ℕ, false, true, List, None, Some, Result, IfOk}
+use Rattle.std.specs.Prelude.{◌≡◌, ◌⊎◌, ℕ, false, List}
 use Rattle.vx_model.specs.Content.{Write}
 use Rattle.vx_model.specs.Sites.{is_origin}
-use Rattle.vx_model.specs.declared.call.Update.{Update as Logged}
-use Rattle.vx_model.specs.declared.errors.OutOfMemory.{OutOfMemory}
 use Rattle.vx_history.specs.Events.{delivered, packet_at, with_write}
 use Rattle.vx_history.specs.Refusals.{Outcome, says}
 use Rattle.vx_history.specs.Stops.{IsOpen}
 use Rattle.vx_history.specs.Sends.{packets_of, sending}
-use Rattle.vx_history.specs.World.{NetAck, Packet, Update, World}
+use Rattle.vx_history.specs.World.{NetAck, Packet, World}
 use Rattle.vx_history.specs.declared.event.Said.{Said}
 use Rattle.vx_history.specs.declared.event.Said.TheVariants.{Ignored as IsIgnored, Taken as IsTaken}
 use Rattle.vx_history.specs.declared.receiver.RAction.TheVariants.{Take}
-use Rattle.vx_courier.specs.Together.{AreOne, AssemblyStands}
+use Rattle.vx_courier.specs.Together.{AssemblyStands}
 use Rattle.vx_courier.specs.UnderWay.{FlightStands}
 use Rattle.vx_disk.specs.declared.shelf.Shelf.{Ghosts}
 use Rattle.vx_events.specs.LinkFinds.{rule_of}
 use Rattle.vx_net.specs.Flights.{Flying}
-use Rattle.vx_peers.specs.Receivers.{DeliveredAt, ReceivesWrites, TookOne, rule_at}
 use Rattle.vx_peers.specs.Senders.{Sends}
-use Rattle.vx_rvg.specs.Holdings.{update_of}
-use Rattle.vx_rvg.specs.Views.{Core}
-use Rattle.vx_secondary.specs.Receivers.{can_log}
 use Rattle.vx_packet.specs.Assemblies.{Assembled}
 use Rattle.vx_diskset.specs.Holds.{KeptBeside}
 use Rattle.vx_diskset.specs.Stands.{SiteStands}
 use Rattle.vx_diskset.specs.declared.disk_set.DiskSet.{DiskSet}
-
--- An update that is handed to a replicated volume group, behind which these updates wait, over volumes of these sizes: what is said, what waits, who feeds the
--- site, what is in assembly and what is under way are what the world has.
-abbrev pub HandsOver : (c c' : Core) (us us' : List Logged) (size : ℕ → ℕ) (site number : ℕ) (fed fed' : ℕ) (a a' : Assembled) (f f' : Flying) → Result Said OutOfMemory → Type 0
-HandsOver c c' us us' size site number fed fed' a a' f f' r =
-    (w : World) (p : Packet) (k : ℕ) (x : Write) → packet_at w.packets number ≡ Some p → p.target ≡ site → p.message ≡ Update k x → AreOne w.packets → FlightStands w.packets f → ReceivesWrites (w.nodes site) c us fed
-    → AssemblyStands w.packets site (w.gathering site) a → (p.line ≡ c.log.header.state.line → can_log c size (update_of p.line k x) ≡ true) → IfOk r (λ said. DeliveredAt w site number c' us' fed' a' f' said)
-
--- the same whatever is in assembly
-abbrev pub TakesOver : (c : Core) (us us' : List Logged) (site number : ℕ) (fed fed' : ℕ) (a a' : Assembled) (f f' : Flying) → Result Said OutOfMemory → Type 0
-TakesOver c us us' site number fed fed' a a' f f' r =
-    (w : World) (p : Packet) (k : ℕ) (x : Write) → packet_at w.packets number ≡ Some p → p.message ≡ Update k x → FlightStands w.packets f → c.halted ≡ None
-    → IfOk r (λ said. TookOne (rule_at c us p.line k) p.source site c us us' fed fed' a a' f f' said)
 
 module _ {R : Type 0} {g : Ghosts R} where
   -- The packet was delivered to this site: what is said is what the world says; and the disks, who feeds the site, what is in assembly, and

@@ -1,10 +1,9 @@
 -- What the disks of a site promise as it comes to the line of another one.
-use Rattle.std.specs.Prelude.{◌≡◌, ℕ, ◌+◌, ◌≤◌, ⊥, [], true, IsFalse, IsTrue, Some, None, Result, Ok, Err}
+use Rattle.std.specs.Prelude.{◌≡◌, ℕ, ◌+◌, ◌≤◌, [], true, IsTrue, Some, None, Result, Ok, Err}
 use Rattle.vx_model.specs.Sites.{is_origin}
 use Rattle.vx_model.specs.declared.no.No.{No}
 use Rattle.vx_model.specs.declared.no.No.TheVariants.{Device, Limit, Down as IsOff}
 use Rattle.vx_model.specs.declared.site.SiteState.TheVariants.{Up as IsUp}
-use Rattle.vx_model.specs.declared.state.State.{State}
 use Rattle.vx_history.specs.Events.{joined}
 use Rattle.vx_history.specs.Steps.{worked}
 use Rattle.vx_history.specs.Stops.{IsFused}
@@ -17,24 +16,14 @@ use Rattle.vx_srl.specs.Views.{most_number}
 use Rattle.vx_events.specs.Fails.{IsLogDisk}
 use Rattle.vx_diskset.specs.declared.disk_set.DiskSet.{DiskSet}
 use Rattle.vx_diskset.specs.DiskSets.{CrashedAt, RoseAt, halted_at, no_number}
-use Rattle.vx_diskset.specs.Burning.{OffIf}
-use Rattle.vx_diskset.specs.Holds.{KeptBeside, KeptSite, most_header, state_with, sure_of}
+use Rattle.vx_diskset.specs.Holds.{KeptBeside, KeptSite, most_header, sure_of}
 use Rattle.vx_diskset.specs.Stands.{IsHeldAt, IsReceiverAt, IsToldAt, IsUpAt, RoleIs, SiteStands}
-use Rattle.vx_diskset.specs.Works.{KeepsSound}
 
 -- an origin that is up and runs, with nothing logged and no links: nothing but a failing disk or want of a number keeps it from another line
 pub record CanJoin (beside : KeptBeside) (n : Node) : Type 0 where
   pub up : n.state ≡ IsUp
   pub running : n.halted ≡ None
   pub apart : n.group ≡ None
-  pub origin : is_origin n.role ≡ true
-  pub empty : n.log ≡ []
-  pub unlinked : beside.links ≡ []
-
--- the same of a site whatever it is over
-pub record MayJoin (beside : KeptBeside) (n : Node) : Type 0 where
-  pub up : n.state ≡ IsUp
-  pub running : n.halted ≡ None
   pub origin : is_origin n.role ≡ true
   pub empty : n.log ≡ []
   pub unlinked : beside.links ≡ []
@@ -58,12 +47,6 @@ JoinedAs beside a p n m c' new (Err (Device disk)) = IsUpAt (joins_in_doubt besi
 JoinedAs beside a p n m c' new (Err (Limit what most)) = (Limit what most ≡ no_number) × (IsTrue new.tells → most_number ≤ most_header beside n) × IsUpAt beside n c' new
 JoinedAs beside a p n m c' new (Err IsOff) = IsFused n.fuse × IsHeldAt (joins_in_doubt beside a p n 0) (halted_at n 0) new
 JoinedAs beside a p n m c' new (Err other) = ⊥
-
--- what a change of its line makes of a replicated volume group on any shelf, at a site over a group
-pub record DoesJoin (c : Core) (s : State) (m : Meaning) (c' : Core) (m' : Meaning) (r : Result (Unit {0}) No) : Type 0 where
-  pub keeps : KeepsSound c c' m m'
-  pub joined : (beside : KeptBeside) (a : Node) (p : ℕ) (n : Node) → IsUpAt beside n c m → MayJoin beside n → (n.group ≡ None → ⊥) → s ≡ state_with (joined a p n) [] → JoinedAs beside a p n m c' m' r
-  pub off : IsFalse m.down → OffIf r m'.down
 
 module _ {R : Type 0} {g : Ghosts R} where
   -- it stands on the line, and receives; or the disk of its log failed, and it may or not; or no number is left; or its fuse ran out, and then this holds of the site that

@@ -17,7 +17,6 @@ ghost use Rattle.vx_diskset.specs.Asked.{HeadUnder, IsRawSet, LeavesFuse, stored
 ghost use Rattle.vx_diskset.specs.Burning.{NoMore};
 ghost use Rattle.vx_diskset.specs.DiskSets.{Later};
 ghost use Rattle.vx_diskset.specs.Holds.{KeptBeside, beside_of, header_links, state_with};
-ghost use Rattle.vx_diskset.specs.Noted.{NotesOn};
 ghost use Rattle.vx_diskset.specs.Stands.{KeepsRole, SiteStands};
 ghost use Rattle.vx_joins.specs.Hearings.{HeardAt, IsListening, PartHeardAt, StoredIs, world_behind, links_stored, reply_by};
 
@@ -73,14 +72,13 @@ fn keep_stored<R: Rack>(
     stored: u64,
 ) -> Result<(), Stop>
     requires state { CanSpellState state.now }
-    ensures kept { (beside : KeptBeside) (n : Node) → SiteStands beside n disks.old → n.state ≡ UpState → n.halted ≡ None → is_over_group n ≡ false → state.now ≡ state_with n beside.links
+    ensures kept { (beside : KeptBeside) (n : Node) → SiteStands beside n disks.old → IsRawSet disks.old → n.state ≡ UpState → n.halted ≡ None → is_over_group n ≡ false → state.now ≡ state_with n beside.links
         → ((k : ℕ) (x : KeptValue) → slice_get beside.links k ≡ Some x → x.site ≡ to → x.stored ≤ stored) → StoredIs beside n to old stored disks.old disks.new result }
-    ensures called { (beside : KeptBeside) (n : Node) → SiteStands beside n disks.old → IsRawSet disks.old → LeavesFuse NoMore (reply_by result) disks.old disks.new }
-    ensures headed { (beside : KeptBeside) (n : Node) → SiteStands beside n disks.old → IsRawSet disks.old → (result ≡ Err Stop.OutOfMemory → ⊥) → HeadUnder (stored_calls old stored) (reply_by result) disks.old disks.new }
+    ensures called { (beside : KeptBeside) (n : Node) → SiteStands beside n disks.old → LeavesFuse NoMore (reply_by result) disks.old disks.new }
+    ensures headed { (beside : KeptBeside) (n : Node) → SiteStands beside n disks.old → (result ≡ Err Stop.OutOfMemory → ⊥) → HeadUnder (stored_calls old stored) (reply_by result) disks.old disks.new }
     ensures short { result ≡ Err Stop.OutOfMemory → disks.new ≡ disks.old }
     ensures rises { (why : NoValue) → result ≡ Err (Stop.No why) → old < stored }
     ensures role { KeepsRole disks.old disks.new }
-    ensures notes { NotesOn disks.old disks.new }
     ensures later { Later disks.old disks.new }
 {
     if stored <= old {
@@ -115,18 +113,18 @@ pub fn hear<R: Rack, N: Net>(
     ensures heard { (d : Doubted) (p : Packet) (site : ℕ) → packet_at d.world.packets number ≡ Some p → p.target ≡ site → is_answer p.message ≡ true → AreOne d.world.packets
         → FlightStands d.world.packets (N.flying flight.now) → IsListening (d.world.nodes site) (d.world.links site p.source) → link.old ≡ plain_link p.source (d.world.links site p.source)
         → AssemblyStands d.world.packets site (d.world.gathering site) assembly.old → SiteStands (beside_of d site) (d.world.nodes site) disks.old
-        → state.now ≡ state_with (d.world.nodes site) (header_links d.world site)
+        → state.now ≡ state_with (d.world.nodes site) (header_links d.world site) → IsRawSet disks.old
         → HeardAt d site p.source number disks.old disks.new link.new assembly.new (N.flying flight.now) result }
     // Whatever is in assembly, as where contents are not told.
     ensures part { (d : Doubted) (p : Packet) (site : ℕ) → packet_at d.world.packets number ≡ Some p → p.target ≡ site → is_answer p.message ≡ true
         → FlightStands d.world.packets (N.flying flight.now) → IsListening (d.world.nodes site) (d.world.links site p.source) → link.old ≡ plain_link p.source (d.world.links site p.source)
-        → SiteStands (beside_of d site) (d.world.nodes site) disks.old → state.now ≡ state_with (d.world.nodes site) (header_links d.world site)
+        → SiteStands (beside_of d site) (d.world.nodes site) disks.old → state.now ≡ state_with (d.world.nodes site) (header_links d.world site) → IsRawSet disks.old
         → PartHeardAt d site p.source number disks.old disks.new link.new (N.flying flight.now) result }
-    ensures called { (beside : KeptBeside) (n : Node) → SiteStands beside n disks.old → IsRawSet disks.old → LeavesFuse NoMore (reply_by result) disks.old disks.new }
+    ensures called { (beside : KeptBeside) (n : Node) → SiteStands beside n disks.old → LeavesFuse NoMore (reply_by result) disks.old disks.new }
     // It is one header where the link comes to count more as stored, and else no call.
     ensures headed { (d : Doubted) (p : Packet) (site : ℕ) → packet_at d.world.packets number ≡ Some p → p.target ≡ site → is_answer p.message ≡ true
         → FlightStands d.world.packets (N.flying flight.now) → IsListening (d.world.nodes site) (d.world.links site p.source) → link.old ≡ plain_link p.source (d.world.links site p.source)
-        → SiteStands (beside_of d site) (d.world.nodes site) disks.old → state.now ≡ state_with (d.world.nodes site) (header_links d.world site) → IsRawSet disks.old → (result ≡ Err Stop.OutOfMemory → ⊥)
+        → SiteStands (beside_of d site) (d.world.nodes site) disks.old → state.now ≡ state_with (d.world.nodes site) (header_links d.world site) → (result ≡ Err Stop.OutOfMemory → ⊥)
         → HeadUnder (stored_calls (d.world.links site p.source).stored ((world_behind d.world number).links site p.source).stored) (reply_by result) disks.old disks.new }
     ensures short { result ≡ Err Stop.OutOfMemory → disks.new ≡ disks.old }
     // A header is refused where the link comes to count more as stored.
@@ -137,7 +135,6 @@ pub fn hear<R: Rack, N: Net>(
     ensures link { OnErr result (link.new ≡ link.old) }
     ensures assembly { OnErr result (assembly.new ≡ assembly.old) }
     ensures role { KeepsRole disks.old disks.new }
-    ensures notes { NotesOn disks.old disks.new }
     ensures later { Later disks.old disks.new }
 {
     let safe = disks.last();

@@ -3,12 +3,9 @@
 
 mod hearing;
 mod joining;
-mod joining_over;
 pub mod laws;
 mod receiving;
-mod taking;
 
 pub use hearing::hear;
 pub use joining::join;
-pub use joining_over::join_over;
 pub use receiving::deliver_update;

@@ -7,14 +7,12 @@ ghost use Rattle.vx_history.specs.Events.{delivered, packet_at};
 ghost use Rattle.vx_history.specs.Fits.{WriteFits};
 ghost use Rattle.vx_history.specs.World.{Node, Packet, Update as PlainUpdate};
 ghost use Rattle.vx_model.specs.Content.{Write};
-ghost use Rattle.vx_diskset.specs.Asked.{LeavesAlone};
+ghost use Rattle.vx_diskset.specs.Asked.{IsRawSet, LeavesAlone};
 ghost use Rattle.vx_diskset.specs.DiskSets.{Later};
 ghost use Rattle.vx_diskset.specs.Holds.{KeptBeside, beside_of};
-ghost use Rattle.vx_diskset.specs.Noted.{NotesOn, OversStay};
 ghost use Rattle.vx_diskset.specs.Stands.{KeepsRole, RoleIs, SiteStands};
 ghost use Rattle.vx_joins.specs.Deliveries.{DeliveredTo, TookTo};
 
-use crate::taking::take_in;
 use vx_disk::Rack;
 use vx_diskset::DiskSet;
 use vx_history::Said;
@@ -68,12 +66,12 @@ pub fn deliver_update<R: Rack, N: Net>(
     number: u64,
 ) -> Result<Said, OutOfMemory>
     ensures delivered { (d : Doubted) (p : Packet) (k : ℕ) (x : Write) → packet_at d.world.packets number ≡ Some p → p.target ≡ site → p.message ≡ PlainUpdate k x
-        → AreOne d.world.packets → FlightStands d.world.packets (N.flying flight.old) → SiteStands (beside_of d site) (d.world.nodes site) disks.old → RoleIs (d.world.nodes site) disks.old
+        → AreOne d.world.packets → FlightStands d.world.packets (N.flying flight.old) → SiteStands (beside_of d site) (d.world.nodes site) disks.old → RoleIs (d.world.nodes site) disks.old → IsRawSet disks.old
         → fed_by.old ≡ (d.world.nodes site).fed_by → AssemblyStands d.world.packets site (d.world.gathering site) assembly.old
         → (p.line ≡ (d.world.nodes site).line → WriteFits (d.world.nodes site) x)
         → IfOk result (λ said. DeliveredTo (delivered d.world number (packet_at d.world.packets number)) (beside_of d site) site disks.new fed_by.new assembly.new (N.flying flight.new) said) }
     ensures took { (d : Doubted) (p : Packet) (k : ℕ) (x : Write) → packet_at d.world.packets number ≡ Some p → p.target ≡ site → p.message ≡ PlainUpdate k x
-        → FlightStands d.world.packets (N.flying flight.old) → SiteStands (beside_of d site) (d.world.nodes site) disks.old → RoleIs (d.world.nodes site) disks.old → fed_by.old ≡ (d.world.nodes site).fed_by
+        → FlightStands d.world.packets (N.flying flight.old) → SiteStands (beside_of d site) (d.world.nodes site) disks.old → RoleIs (d.world.nodes site) disks.old → IsRawSet disks.old → fed_by.old ≡ (d.world.nodes site).fed_by
         → IfOk result (λ said. TookTo d.world number p k (beside_of d site) disks.new fed_by.new assembly.old assembly.new (N.flying flight.old) (N.flying flight.new) said) }
     ensures stands { OnErr result ((beside : KeptBeside) (n : Node) → SiteStands beside n disks.old → SiteStands beside n disks.new) }
     ensures fed_by { OnErr result (fed_by.new ≡ fed_by.old) }
@@ -81,16 +79,12 @@ pub fn deliver_update<R: Rack, N: Net>(
     ensures unsent { OnErr result (N.flying flight.new ≡ N.flying flight.old) }
     ensures still { LeavesAlone disks.old disks.new }
     ensures role { KeepsRole disks.old disks.new }
-    ensures notes { NotesOn disks.old disks.new }
     ensures later { Later disks.old disks.new }
-    // What a site notes of its group is as it was.
-    ensures noted { OversStay disks.old disks.new }
 {
     match disks {
         DiskSet::Receives(secondary) => {
             take_update(secondary, fed_by, assembly, site, flight, number)
         }
-        DiskSet::Over(over) => take_in(over, fed_by, assembly, site, flight, number),
         _ => Ok(Said::Ignored),
     }
 }

@@ -132,7 +132,7 @@ module _ {R : Type 0} {g : Ghosts R} where
 
   module _ (d : Doubted) (number : ℕ) (p : Packet) (k : ℕ) (x : Write) (at : packet_at d.world.packets number ≡ Some p) (message : p.message ≡ Update k x) where
     -- disks that receive nothing
-    pub ignored_by : (beside : KeptBeside) (e : DiskSet R g) (b : Bool) → Receives e b → b ≡ false → RoleIs (d.world.nodes p.target) e → SiteStands beside (d.world.nodes p.target) e → outcome_at d number ≡ says d.world IsIgnored
+    ignored_by : (beside : KeptBeside) (e : DiskSet R g) (b : Bool) → Receives e b → b ≡ false → RoleIs (d.world.nodes p.target) e → SiteStands beside (d.world.nodes p.target) e → outcome_at d number ≡ says d.world IsIgnored
     ignored_by beside (Bare rack) b is none role stands = ignored_is d.world number p k x at message (inl (inl (ap (λ (m : Node). is_up m.state) stands.bare.is)))
     ignored_by beside (Spoiled rack) b is none role stands = ignored_is d.world number p k x at message (inl (inl (ap (λ (m : Node). is_up m.state) stands.is)))
     ignored_by beside (Up rvg) b is none role stands = ignored_is d.world number p k x at message (inr role)

@@ -28,26 +28,27 @@ use Rattle.vx_events.specs.Effects.{EffectAt}
 use Rattle.vx_events.specs.GroupLines.{is_over_group}
 use Rattle.vx_events.specs.LinkEnds.{LinksFind}
 use Rattle.vx_events.specs.LinkFinds.{FindsOther, KeepsOther, LosesOther, MayTake, TakesOther, rule_of, target_with}
-use Rattle.vx_events.specs.declared.said.Said.{Said}
 use Rattle.vx_events.specs.declared.said.Said.TheVariants.{Ignored, Taken}
 use Rattle.vx_net.specs.Flights.{Flying}
 use Rattle.vx_packet.specs.Assemblies.{Assembled}
 use Rattle.vx_peers.proofs.MorePackets.{more_none}
 use Rattle.vx_peers.specs.Senders.{Sends}
 use Rattle.vx_script.specs.declared.line.ScriptLine.TheVariants.{Deliver}
+use Rattle.vx_diskset.specs.Asked.{LeavesAlone}
 use Rattle.vx_diskset.specs.Holds.{beside_of}
-use Rattle.vx_diskset.specs.Stands.{SiteStands}
+use Rattle.vx_diskset.specs.Stands.{RoleIs, SiteStands}
 use Rattle.vx_diskset.specs.declared.disk_set.DiskSet.{DiskSet}
 use Rattle.vx_joins.proofs.TakesUpdate.{node_behind}
 use Rattle.vx_joins.specs.Deliveries.{DeliveredTo, IsUnheard, TakesNone, TakesOne, TookTo}
 use Rattle.vx_yard.specs.Carries.{Carries}
-use Rattle.vx_yard.specs.Standing.{StandsFor}
+use Rattle.vx_yard.specs.Standing.{Leads, StandsFor}
 use Rattle.vx_yard.specs.Yards.{IsTold}
 use Rattle.vx_yard.specs.declared.yard.Yard.{Yard}
 use Rattle.vx_yard.proofs.ApplySite.{worked_effect, worked_for}
 use Rattle.vx_yard.proofs.OneSite.{Changed}
 use Rattle.vx_yard.proofs.OverGroup.{receives_apart}
-use Rattle.vx_link_lines.proofs.UpdateLine.{MakesNew, MakesSame, SameSite, carries_handed, done_as, last_shown, left_at, same_site, stays_ignored, written_site}
+use Rattle.vx_events.specs.RvgViews.{is_over_rvg}
+use Rattle.vx_link_lines.proofs.UpdateLine.{SameSite, carries_handed, done_as, last_shown, leads_new, leads_same, left_at, same_site, stays_ignored, written_site}
 
 -- a site and its packet in another world, of which disks that tell nothing were the source
 given_effect : (d : Doubted) (s : ℕ) (m : Node) (o : Option Gathering) (more : List Packet)
@@ -86,8 +87,8 @@ module _ {R : Type 0} {g : Ghosts R} where
     pub below : s < MOST_SITES
     pub told : IsTold new → IsTold old
 
-  module _ (d : Doubted) (number : ℕ) (p : Packet) (k : ℕ) (x : Write) (old new : Yard R g) (before after : DiskSet R g) (stands : StandsFor d old) (below : p.target < d.world.sites) (changed : Changed old new p.target before after)
-      (T : Type 0) (knows : T → IsTold new) (L : Said → Type 0) (news : MakesNew d number p old new after T L) (sames : MakesSame d number p old new after T L)
+  module _ (d : Doubted) (number : ℕ) (p : Packet) (k : ℕ) (x : Write) (old new : Yard R g) (before after : DiskSet R g) (stands : StandsFor d old) (below : p.target < d.world.sites) (changed : Changed old new p.target before after) (alone : LeavesAlone before after) (role : RoleIs (d.world.nodes p.target) after)
+      (off : is_over_rvg (d.world.nodes p.target) ≡ false)
       (feeder : ℕ) (a : Assembled) (at : packet_at d.world.packets number ≡ Some p) (message : p.message ≡ Update k x) (handed : Handed old new p.target feeder a) where
     abbrev s : ℕ
     s = p.target
@@ -115,18 +116,18 @@ module _ {R : Type 0} {g : Ghosts R} where
         carries_handed d (worked_for h s) s feeder a hands.more old new noted.site hands.sent is.flight (λ tells. is.assembly) (is.fed_by ∙ ap (λ (m : Node). m.fed_by) (sym noted.is.node)) handed.assemblies handed.feeders handed.below handed.told carries
 
     -- as the world has it, and ignored
-    pub exact_ignored : DeliveredTo o (beside_of d s) s after feeder a new.flight IsIgnored → new.facts.items ≡ old.facts.items → L Ignored
+    pub exact_ignored : DeliveredTo o (beside_of d s) s after feeder a new.flight IsIgnored → new.facts.items ≡ old.facts.items → Leads d (Deliver number) Ignored old new
     exact_ignored is facts =
-        sames h (o.world.nodes s) o.world.packets (o.world.gathering s) Ignored effect (fit_worked h s (fit_happened d (DeliverAt number) false tt stands.links))
-        (done_as T d number p Ignored IsIgnored at below (sym is.says) refl) (stays_ignored d.world p x number k at message (sym is.says)) is.stands facts (carried IsIgnored is)
+        leads_same d number p old new before after stands below changed alone role off h (o.world.nodes s) o.world.packets (o.world.gathering s) Ignored effect (fit_worked h s (fit_happened d (DeliverAt number) false tt stands.links))
+        (done_as (IsTold new) d number p Ignored IsIgnored at below (sym is.says) refl) (stays_ignored d.world p x number k at message (sym is.says)) is.stands facts (carried IsIgnored is)
 
     -- as the world has it, and taken
     pub exact_taken : (last : ℕ) → DeliveredTo o (beside_of d s) s after feeder a new.flight IsTaken → is_origin n.role ≡ false → (fact_of n (d.world.links s) d.world.sites).links ≡ [] → last ≡ length (o.world.nodes s).log
-        → new.facts.items ≡ slice_set old.facts.items s (received_fact last (fact_of n (d.world.links s) d.world.sites)) → L Taken
+        → new.facts.items ≡ slice_set old.facts.items s (received_fact last (fact_of n (d.world.links s) d.world.sites)) → Leads d (Deliver number) Taken old new
     exact_taken last is receives none many facts =
         let one = node_behind d.world p x number k at message in
-        news h (o.world.nodes s) o.world.packets (o.world.gathering s) Taken (received_fact last (fact_of n (d.world.links s) d.world.sites)) effect
-        (fit_worked h s (fit_happened d (DeliverAt number) false tt stands.links)) (done_as T d number p Taken IsTaken at below (sym is.says) refl) (apart_by receives) (either_site n (o.world.nodes s) p.source x one) is.stands
+        leads_new d number p old new before after stands below changed alone role off h (o.world.nodes s) o.world.packets (o.world.gathering s) Taken (received_fact last (fact_of n (d.world.links s) d.world.sites)) effect
+        (fit_worked h s (fit_happened d (DeliverAt number) false tt stands.links)) (done_as (IsTold new) d number p Taken IsTaken at below (sym is.says) refl) (apart_by receives) (either_site n (o.world.nodes s) p.source x one) is.stands
         (last_shown n (o.world.nodes s) (d.world.links s) d.world.sites p.source last x receives none one many) facts (carried IsTaken is)
 
     -- ---- over disks that tell nothing
@@ -140,47 +141,47 @@ module _ {R : Type 0} {g : Ghosts R} where
 
       given_new : (m : Node) (o : Option Gathering) (more : List Packet) (last : ℕ) (y : Write) → Sends more old.flight new.flight → FindsOther d (Deliver number) [] Taken (given m o more) → feeder ≡ m.fed_by
           → SiteStands (beside_of d s) m after → is_origin n.role ≡ false → (fact_of n (d.world.links s) d.world.sites).links ≡ [] → (m ≡ n) ⊎ (m ≡ with_write n p.source y) → last ≡ length m.log
-          → new.facts.items ≡ slice_set old.facts.items s (received_fact last (fact_of n (d.world.links s) d.world.sites)) → L Taken
+          → new.facts.items ≡ slice_set old.facts.items s (received_fact last (fact_of n (d.world.links s) d.world.sites)) → Leads d (Deliver number) Taken old new
       given_new m o more last y sends finds fed here receives none one many facts =
           let h' : Doubted = given m o more in
           let noted = worked_effect s d h' m (d.world.links s) (d.world.headers s) (d.after s) (d.world.packets ++ more) o (given_effect d s m o more) in
-          news h' m (d.world.packets ++ more) o Taken (received_fact last (fact_of n (d.world.links s) d.world.sites)) (given_effect d s m o more)
-          (fit_worked h' s (fit_finds d (Deliver number) [] Taken h' finds stands.links)) (LinksFind (λ t. untold (knows t)) h' finds (left_at d h' number p at below)) (apart_by receives) (either_site n m p.source y one) here
+          leads_new d number p old new before after stands below changed alone role off h' m (d.world.packets ++ more) o Taken (received_fact last (fact_of n (d.world.links s) d.world.sites)) (given_effect d s m o more)
+          (fit_worked h' s (fit_finds d (Deliver number) [] Taken h' finds stands.links)) (LinksFind untold h' finds (left_at d h' number p at below)) (apart_by receives) (either_site n m p.source y one) here
           (last_shown n m (d.world.links s) d.world.sites p.source last y receives none one many) facts
           (λ carries. carries_handed d (worked_for h' s) s feeder a more old new noted.site refl (sends d.world.packets carries.flight) (λ tells. absurd (untold tells)) (fed ∙ ap (λ (i : Node). i.fed_by) (sym noted.is.node))
           handed.assemblies handed.feeders handed.below handed.told carries)
 
       -- it is ignored as the world has it, and may be acknowledged again
       unheard_leads : (more : List Packet) → o ≡ says (sending d.world more) IsIgnored → SiteStands (beside_of d s) n after → feeder ≡ n.fed_by → Sends more old.flight new.flight → new.facts.items ≡ old.facts.items
-          → L Ignored
+          → Leads d (Deliver number) Ignored old new
       unheard_leads more is here fed sends facts =
           let node : o.world.nodes s ≡ n = ap (λ (r : Outcome). r.world.nodes s) is in
           let noted = worked_effect s d h (o.world.nodes s) (d.world.links s) (d.world.headers s) (d.after s) o.world.packets (o.world.gathering s) effect in
           let packets : o.world.packets ≡ d.world.packets ++ more = ap (λ (r : Outcome). r.world.packets) is in
-          sames h (o.world.nodes s) o.world.packets (o.world.gathering s) Ignored effect (fit_worked h s (fit_happened d (DeliverAt number) false tt stands.links))
-          (done_as T d number p Ignored IsIgnored at below (ap (λ (r : Outcome). r.said) is) refl) node (subst (λ (m : Node). SiteStands (beside_of d s) m after) (sym node) here) facts
+          leads_same d number p old new before after stands below changed alone role off h (o.world.nodes s) o.world.packets (o.world.gathering s) Ignored effect (fit_worked h s (fit_happened d (DeliverAt number) false tt stands.links))
+          (done_as (IsTold new) d number p Ignored IsIgnored at below (ap (λ (r : Outcome). r.said) is) refl) node (subst (λ (m : Node). SiteStands (beside_of d s) m after) (sym node) here) facts
           (λ carries. carries_handed d (worked_for h s) s feeder a more old new noted.site packets
           (subst (λ (ps : List Packet). FlightStands ps new.flight) (sym packets) (sends d.world.packets carries.flight))
           (λ tells. absurd (untold tells)) (fed ∙ ap (λ (m : Node). m.fed_by) (sym node) ∙ ap (λ (m : Node). m.fed_by) (sym noted.is.node)) handed.assemblies handed.feeders handed.below handed.told carries)
 
       -- nothing came of a part
-      lost_leads : FindsOther d (Deliver number) [] Ignored d → SiteStands (beside_of d s) n after → feeder ≡ n.fed_by → new.flight ≡ old.flight → new.facts.items ≡ old.facts.items → L Ignored
+      lost_leads : FindsOther d (Deliver number) [] Ignored d → SiteStands (beside_of d s) n after → feeder ≡ n.fed_by → new.flight ≡ old.flight → new.facts.items ≡ old.facts.items → Leads d (Deliver number) Ignored old new
       lost_leads finds here fed still facts =
           let noted = worked_effect s d d n (d.world.links s) (d.world.headers s) (d.after s) d.world.packets (d.world.gathering s) (same_effect d s) in
-          sames d n d.world.packets (d.world.gathering s) Ignored (same_effect d s) (fit_worked d s stands.links)
-          (LinksFind (λ t. untold (knows t)) d finds (left_at d d number p at below)) refl here facts
+          leads_same d number p old new before after stands below changed alone role off d n d.world.packets (d.world.gathering s) Ignored (same_effect d s) (fit_worked d s stands.links)
+          (LinksFind untold d finds (left_at d d number p at below)) refl here facts
           (λ carries. carries_handed d (worked_for d s) s feeder a [] old new noted.site (sym (append-nil d.world.packets)) (subst (λ (f : Flying). FlightStands d.world.packets f) (sym still) carries.flight)
           (λ tells. absurd (untold tells)) (fed ∙ ap (λ (i : Node). i.fed_by) (sym noted.is.node)) handed.assemblies handed.feeders handed.below handed.told carries)
 
       -- it was ignored
-      pub found_ignored : (a' : Assembled) → TookTo d.world number p k (beside_of d s) after feeder a' a old.flight new.flight IsIgnored → new.facts.items ≡ old.facts.items → L Ignored
+      pub found_ignored : (a' : Assembled) → TookTo d.world number p k (beside_of d s) after feeder a' a old.flight new.flight IsIgnored → new.facts.items ≡ old.facts.items → Leads d (Deliver number) Ignored old new
       found_ignored a' (TakesOne opens receives next y said here fed sends) facts = absurd (let e : IsIgnored ≡ IsTaken = said in cc)
       found_ignored a' (TakesNone opens receives next how here fed still) facts = lost_leads (LosesOther number p refl (may opens receives next) refl refl refl) here fed still facts
       found_ignored a' (IsUnheard more is said here fed same sends) facts = unheard_leads more is here fed sends facts
 
       -- it was taken
       pub found_taken : (last : ℕ) (a' : Assembled) → TookTo d.world number p k (beside_of d s) after feeder a' a old.flight new.flight IsTaken → (fact_of n (d.world.links s) d.world.sites).links ≡ []
-          → ((m : Node) → SiteStands (beside_of d s) m after → IsOpen m → last ≡ length m.log) → new.facts.items ≡ slice_set old.facts.items s (received_fact last (fact_of n (d.world.links s) d.world.sites)) → L Taken
+          → ((m : Node) → SiteStands (beside_of d s) m after → IsOpen m → last ≡ length m.log) → new.facts.items ≡ slice_set old.facts.items s (received_fact last (fact_of n (d.world.links s) d.world.sites)) → Leads d (Deliver number) Taken old new
       found_taken last a' (TakesOne opens receives next y said here fed sends) none many facts =
           given_new (with_write n p.source y) None (packets_of p.target p.source n.line (NetAck n.session k)) last y sends (TakesOther number p y refl (may opens receives next) refl refl refl) fed here receives none (inr refl)
           (many (with_write n p.source y) here opens) facts

@@ -1,17 +1,16 @@
 -- How a line of links ends where an event of it that writes a header is ended by a failing disk, by a fuse or by want of a number.
-use Rattle.std.proofs.Common.{◌≡◌, ◌≤◌, ℕ, Bool, List, [], ◌∷◌, ◌++◌, ap, sym, refl, arith}
+use Rattle.std.proofs.Common.{◌≡◌, ◌≤◌, ℕ, List, [], ◌∷◌, ◌++◌, ap, sym, refl, arith}
 use Rattle.std.specs.Prelude.{Err}
-use Rattle.vx_history.specs.Doubts.{Doubted, Runs, crashed_as, halved}
+use Rattle.vx_history.specs.Doubts.{Doubted, Runs}
 use Rattle.vx_history.specs.Stops.{ComesTo, IsFused, IsOpen, WritesAt, all_fails}
 use Rattle.vx_history.specs.World.{Node, World}
 use Rattle.vx_history.specs.declared.event.Event.{Event}
 use Rattle.vx_model.specs.declared.limits.TheConstants.{MOST_NUMBER}
-use Rattle.vx_model.specs.declared.no.Counted.TheVariants.{Number}
 use Rattle.vx_model.specs.declared.no.No.{No}
 use Rattle.vx_model.specs.declared.no.No.TheVariants.{Device, Limit, Down as Off}
 use Rattle.vx_script.specs.declared.line.ScriptLine.{ScriptLine}
 use Rattle.vx_disk.specs.declared.shelf.Shelf.{Ghosts}
-use Rattle.vx_events.specs.Fails.{Fails, IsLogDisk}
+use Rattle.vx_events.specs.Fails.{Fails}
 use Rattle.vx_events.specs.LinkEnds.{AreLeft, LinkEnds, LinksCut, LinksHalt, NoHeader, TakesNumber, link_noted}
 use Rattle.vx_events.specs.LinkLists.{link_events}
 use Rattle.vx_events.specs.Stamps.{most_stamp_at}
@@ -34,29 +33,6 @@ pub record IsBehind (d : Doubted) (line : ScriptLine) (note : (ℕ → Node) →
   pub notes : (v : World) → link_noted d.world line v ≡ record v { nodes = note v.nodes }
   pub fused : IsFused (middle.world.nodes s).fuse → IsFused (d.world.nodes s).fuse
 
--- ---- by what ended the event
-
-module _ (told : Type 0) (d : Doubted) (line : ScriptLine) (note : (ℕ → Node) → ℕ → Node) (e : Event) (s : ℕ) (middle : Doubted) (b : IsBehind d line note e s middle) where
-  left : (last : Doubted) → AreLeft line d last (noted_by note last)
-  left last = record { world = sym (b.notes last.world); after = λ i. refl; strayed = refl }
-
-  comes : ComesTo d (link_events d.world line) e s middle
-  comes = record { before = b.before; rest = b.rest; split = b.split; runs = b.runs; fails = b.none; opens = b.opens; writes = b.writes }
-
-  -- a disk failed
-  pub ends_halted : (disk : ℕ) → IsLogDisk (middle.world.nodes s) disk → LinkEnds told d line ((s, disk) ∷ []) (Refused (Device disk)) (noted_by note (halved middle e s disk))
-  ends_halted disk log = LinksHalt e s disk middle comes log refl refl (left (halved middle e s disk))
-
-  -- no number was left
-  pub ends_full : (why : No) → why ≡ Limit Number MOST_NUMBER → (told → MOST_NUMBER ≤ most_stamp_at middle.world s) → LinkEnds told d line [] (Refused why) (noted_by note middle)
-  ends_full why is most =
-      NoHeader b.before b.rest e s middle b.split b.takes b.runs b.none (λ t. let least : MOST_NUMBER ≤ most_stamp_at middle.world s = most t in omega (arith, least)) refl
-      (ap (λ (x : No). let r : Said = Refused x in r) is) (left middle)
-
-  -- the fuse of the site ran out
-  pub ends_cut : (kept : ℕ) (taken : Bool) → IsFused (middle.world.nodes s).fuse → LinkEnds told d line [] (Refused Off) (noted_by note (crashed_as (halved middle e s 0) s kept taken))
-  ends_cut kept taken fused = LinksCut e s kept taken middle comes (b.fused fused) refl refl (left (crashed_as (halved middle e s 0) s kept taken))
-
 module _ {R : Type 0} {g : Ghosts R} where
   -- the line ended so, and the yard stands for what it left
   pub record PartEnds (d : Doubted) (line : ScriptLine) (said : Said) (start : Doubted) (old new : Yard R g) : Type 0 where
@@ -66,8 +42,20 @@ module _ {R : Type 0} {g : Ghosts R} where
     pub goes : NextFor fails start next old new
 
   module _ (d : Doubted) (line : ScriptLine) (note : (ℕ → Node) → ℕ → Node) (e : Event) (s : ℕ) (middle : Doubted) (b : IsBehind d line note e s middle) (old new : Yard R g) where
+    left : (last : Doubted) → AreLeft line d last (noted_by note last)
+    left last = record { world = sym (b.notes last.world); after = λ i. refl; strayed = refl }
+
+    comes : ComesTo d (link_events d.world line) e s middle
+    comes = record { before = b.before; rest = b.rest; split = b.split; runs = b.runs; fails = b.none; opens = b.opens; writes = b.writes }
+
     pub headed_ends : (why : No) → HeadedIs note middle e s old new (Err why) → PartEnds d line (Refused why) (noted_by note middle) old new
-    headed_ends (Device disk) h = record { next = _; fails = (s, disk) ∷ []; ends = ends_halted (IsTold new) d line note e s middle b disk h.0; goes = h.1 }
-    headed_ends (Limit what most) h = record { next = _; fails = []; ends = ends_full (IsTold new) d line note e s middle b (Limit what most) h.is h.least; goes = h.next }
-    headed_ends Off h = record { next = _; fails = []; ends = ends_cut (IsTold new) d line note e s middle b h.kept h.taken h.fused; goes = h.next }
+    headed_ends (Device disk) h = record { next = _; fails = (s, disk) ∷ []; ends = LinksHalt e s disk middle comes h.0 refl refl (left _); goes = h.1 }
+    headed_ends (Limit what most) h = record {
+      next = _;
+      fails = [];
+      ends = NoHeader b.before b.rest e s middle b.split b.takes b.runs b.none (λ told. let least : MOST_NUMBER ≤ most_stamp_at middle.world s = h.least told in omega (arith, least)) refl
+          (ap (λ (x : No). let r : Said = Refused x in r) h.is) (left middle);
+      goes = h.next;
+    }
+    headed_ends Off h = record { next = _; fails = []; ends = LinksCut e s h.kept h.taken middle comes (b.fused h.fused) refl refl (left _); goes = h.next }
     headed_ends other h = absurd h

@@ -1,5 +1,5 @@
 -- An event that writes one header of a site's log, and what a call on the disks of the site promises that does it.
-use Rattle.std.proofs.Common.{◌≡◌, ◌∙◌, ◌≤◌, ◌+◌, ℕ, false, List, ap, length}
+use Rattle.std.proofs.Common.{◌≡◌, ◌∙◌, ◌≤◌, ◌+◌, ℕ, List, ap, length}
 use Rattle.std.specs.Prelude.{◌&&◌, eqb, Option, Some, None, is_some, Result, Ok, Err}
 use Rattle.vx_history.specs.Groups.{GroupNode}
 use Rattle.vx_history.specs.Doubts.{Doubted}
@@ -42,7 +42,7 @@ over_body n m like =
     ap (λ (o : Option GroupNode). is_some o && eqb (length m.volumes) 0) like.group
     ∙ ap (λ (vs : List Volume). is_some n.group && eqb (length vs) 0) like.volumes
 
--- an event that writes one header of the log of a site, which is this node with these links then: where it is over a group, that has a replicated volume group
+-- an event that writes one header of the log of a site over no group, which is this node with these links then
 pub record IsHeader (d : Doubted) (e : Event) (s : ℕ) (m : Node) (ls : List KeptLink) (gathered : Option Gathering) : Type 0 where
   pub row : ℕ → Link
   pub effect : EffectAt s d (behind d e) m row (d.world.headers s + 1) (d.after s) d.world.packets gathered
@@ -53,7 +53,7 @@ pub record IsHeader (d : Doubted) (e : Event) (s : ℕ) (m : Node) (ls : List Ke
   pub fits_before : LinksFit d
   pub sets : SetsFail e
   pub opens : IsOpen (d.world.nodes s)
-  pub alone : is_over_group (d.world.nodes s) ≡ false
+  pub none : (d.world.nodes s).group ≡ None
   pub writes : WritesAt d.world e s
 
 -- a halted site that may be this node with these links on its disks

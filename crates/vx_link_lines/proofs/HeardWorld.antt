@@ -35,7 +35,6 @@ use Rattle.vx_diskset.specs.Holds.{header_links, row_links}
 use Rattle.vx_effects.proofs.TargetAnswers.{answer_effect}
 use Rattle.vx_effects.proofs.Fitting.{fit_happened}
 use Rattle.vx_events.specs.Effects.{EffectAt}
-use Rattle.vx_events.specs.GroupLines.{is_over_group}
 use Rattle.vx_events.specs.LinkedFacts.{link_fact, needed_by}
 use Rattle.vx_events.specs.LinksFit.{LinksFit, is_plain_mode, is_plain_mode as goes_plainly}
 use Rattle.vx_joins.specs.Hearings.{IsListening}
@@ -171,8 +170,8 @@ module _ (d : Doubted) (number : ℕ) (p : Packet) (at : packet_at d.world.packe
   pub heard_rose : ltb (w.links s p.source).stored (o.world.links s p.source).stored ≡ true → EffectAt s d (behind d event) n row (w.headers s + 1) (d.after s) w.packets (o.world.gathering s)
   heard_rose rises = subst (λ (b : Bool). EffectAt s d (behind d event) n row (w.headers s + (if b then 1 else 0)) (d.after s) w.packets (o.world.gathering s)) rises effect
 
-  pub heard_header : ltb (w.links s p.source).stored (o.world.links s p.source).stored ≡ true → LinksFit d → IsOpen n → is_over_group n ≡ false → IsHeader d event s n (header_links o.world s) (o.world.gathering s)
-  heard_header rises fits opens alone = record {
+  pub heard_header : ltb (w.links s p.source).stored (o.world.links s p.source).stored ≡ true → LinksFit d → IsOpen n → n.group ≡ None → IsHeader d event s n (header_links o.world s) (o.world.gathering s)
+  heard_header rises fits opens none = record {
     row = row;
     effect = heard_rose rises;
     kept = heard_kept;
@@ -182,7 +181,7 @@ module _ (d : Doubted) (number : ℕ) (p : Packet) (at : packet_at d.world.packe
     fits_before = fits;
     sets = tt;
     opens = opens;
-    alone = alone;
+    none = none;
     writes = (p, at, refl, no_update, rises_by opens rises);
   }
 

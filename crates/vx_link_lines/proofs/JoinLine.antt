@@ -50,7 +50,6 @@ use Rattle.vx_link_lines.proofs.HeaderCalls.{Answered, IsHeader}
 use Rattle.vx_link_lines.proofs.LinkChain.{fresh, second_links}
 use Rattle.vx_link_lines.proofs.NotedYard.{sure_open}
 use Rattle.vx_yard.proofs.OneSite.{Changed, told_by}
-use Rattle.vx_yard.proofs.OverGroup.{none_over}
 use Rattle.vx_link_lines.proofs.PartLine.{header_done, header_refused}
 
 none_logged : (log : List Write) → is_empty log ≡ true → log ≡ []
@@ -128,7 +127,7 @@ module _ {R : Type 0} {g : Ghosts R} (note : (ℕ → Node) → ℕ → Node) (d
     fits_before = fit;
     sets = refl;
     opens = (two.up_too, two.running_too);
-    alone = none_over n alone;
+    none = alone;
     writes = refl;
   }
 
@@ -154,7 +153,7 @@ module _ {R : Type 0} {g : Ghosts R} (note : (ℕ → Node) → ℕ → Node) (d
     join_done call calls facts flight lets feeders =
         let f = done_effect note s notes d e m header.row (header_links w s) None header.effect header.kept header.sure in
         let j = joins (Ok tt) call in
-        header_done note s notes d e m (header_links w s) None header alone old before stands below changed.there new after changed (role_like (joined (w.nodes p) p (worked n)) m after refl j.1)
+        header_done note s notes d e m (header_links w s) None header old before stands below changed.there new after changed (role_like (joined (w.nodes p) p (worked n)) m after refl j.1)
         (answered_join CrashedAt (beside_of d s) (w.nodes p) p (worked n) before after (Ok tt) j) (calls (beside_of d s) (worked n) stood) facts
         (λ carries. carries_cleared s p (noted_by note d) (noted_by note (behind d e)) old new carries
         (record { flight = flight; assembly = lets.assembly; none = lets.none; assemblies = lets.is }) small feeders f.site f.sent f.gathering
@@ -166,5 +165,5 @@ module _ {R : Type 0} {g : Ghosts R} (note : (ℕ → Node) → ℕ → Node) (d
     pub join_refused : (why : No) (said_so : Said) (x x' : SiteFacts) → said_so ≡ Refused why → Joined st (Err why) → Calls (Err why) → slice_get old.facts.items s ≡ Some x → x' ≡ noted_facts why x
         → new.facts.items ≡ slice_set old.facts.items s x' → LetsGoBy why old new s → HeadedSo note d e s old new (Err said_so)
     join_refused why said_so x x' says call calls there shown facts lets =
-        header_refused note s notes d e m (header_links w s) None header alone old before stands below changed.there new after changed (role_origin n after can.origin) why said_so x x' says
+        header_refused note s notes d e m (header_links w s) None header old before stands below changed.there new after changed (role_origin n after can.origin) why said_so x x' says
         (answered_join CrashedAt (beside_of d s) (w.nodes p) p (worked n) before after (Err why) (joins (Err why) call)) (calls (beside_of d s) (worked n) stood) there shown facts lets

@@ -46,6 +46,7 @@ use Rattle.vx_yard.specs.declared.yard.Yard.{Yard}
 use Rattle.vx_link_lines.proofs.HeadedEnds.{IsBehind, headed_ends}
 use Rattle.vx_link_lines.proofs.LinkChain as chain
 use Rattle.vx_link_lines.proofs.NotedBoth.{carries_both, note_both, notes_both, stands_both}
+use Rattle.vx_yard.proofs.OverGroup.{none_rvg}
 use Rattle.vx_yard.proofs.BothSites.{UnderJoined, UnderMade, UnderMarked, UnderOpened, link_burns, stops_joined, stops_made, stops_marked, stops_opened, under_joined, under_made, under_marked, under_opened}
 use Rattle.vx_yard.proofs.HeadNeeds.{head_passes, head_works, refused_undone}
 use Rattle.vx_yard.proofs.RecoverLine.{rose_then}
@@ -104,7 +105,7 @@ module _ {R : Type 0} {g : Ghosts R} where
     start =
         let e = get_there old.disk_sets.items p (omega (arith, l.below, stands.disk_sets.few, stands.disk_sets.eight)) in
         let f = get_there old.disk_sets.items s (omega (arith, l.below_too, stands.disk_sets.few, stands.disk_sets.eight)) in
-        stands_both d old p s e.0 f.0 stands l.below l.below_too e.1 f.1
+        stands_both d old p s e.0 f.0 stands l.below l.below_too e.1 f.1 (none_rvg (d.world.nodes p) l.apart) (none_rvg (d.world.nodes s) l.apart_too)
 
     numbers : link_events d.world line ≡ link_parts p s sync
     numbers = ap (λ (k : ℕ). link_parts k (site_number d.world second) sync) l.number ∙ ap (λ (k : ℕ). link_parts p k sync) l.number_too
@@ -125,7 +126,7 @@ module _ {R : Type 0} {g : Ghosts R} where
 
     leads_by : {e : Doubted} {fails : Fails} {said : Said} (new : Yard R g) → LinkEnds (IsTold new) d line fails said e → (said ≡ Done → IsReady p × IsReady s)
         → NextFor fails (noted_by note d) e old new → Leads d line said old new
-    leads_by {e} {fails} {said} new ends needs next = record {
+    leads_by {e} {fails} new ends needs next = record {
       next = e;
       fails = fails;
       done = record {
@@ -190,22 +191,6 @@ module _ {R : Type 0} {g : Ghosts R} where
 
     pub below_three : (i : ℕ) → i < d.world.sites → i < (noted_by note three).world.sites
     below_three i below = chain.below_three d p s sync fit l.said i below
-
-    -- neither of the two notes a group then
-    pub raw_one : ((noted_by note one).world.nodes p).group ≡ None
-    raw_one =
-        ap (λ (n : Node). n.group) ((notes_both p s p (inl refl)).here one.world.nodes)
-        ∙ ap (λ (n : Node). n.group) (chain.first_one d p s sync fit l.said) ∙ l.apart
-
-    pub raw_two : ((noted_by note two).world.nodes s).group ≡ None
-    raw_two =
-        ap (λ (n : Node). n.group) ((notes_both p s s (inr refl)).here two.world.nodes)
-        ∙ ap (λ (n : Node). n.group) (chain.second_two d p s sync fit l.said) ∙ l.apart_too
-
-    pub raw_three : ((noted_by note three).world.nodes p).group ≡ None
-    raw_three =
-        ap (λ (n : Node). n.group) ((notes_both p s p (inl refl)).here three.world.nodes)
-        ∙ ap (λ (n : Node). n.group) (chain.first_three d p s sync fit l.said) ∙ l.apart
 
     -- ---- the second site joins
 

@@ -1,7 +1,7 @@
 -- Each part of a line that makes a link, as an event that writes one header: what it changes, and that nothing but a failing disk or want of a number
 -- keeps the header from the log.
 use Rattle.std.proofs.Common.{◌≡◌, ◌∙◌, ◌⊎◌, inl, inr, ⊎_elim, ◌+◌, ℕ, zero, suc, true, false, List, [], ◌∷◌, ◌++◌, ap, sym, refl, arith}
-use Rattle.std.specs.Prelude.{Some, slice_get}
+use Rattle.std.specs.Prelude.{None, Some, slice_get}
 use Rattle.vx_history.specs.Doubts.{Doubted}
 use Rattle.vx_history.specs.Events.{linked_sites, new_link, opened}
 use Rattle.vx_history.specs.KeptLinks.{kept_link}
@@ -30,6 +30,7 @@ use Rattle.vx_events.specs.Effects.{EffectAt}
 use Rattle.vx_events.specs.GroupLines.{is_over_group}
 use Rattle.vx_effects.proofs.Fitting.{fit_happened}
 use Rattle.vx_events.specs.LinksFit.{LinksFit}
+use Rattle.vx_yard.proofs.OverGroup.{none_over}
 use Rattle.vx_link_lines.specs.Headed.{behind}
 use Rattle.vx_link_lines.proofs.NotedYard.{sure_open}
 use Rattle.vx_link_lines.proofs.PartLine.{IsKeptHeader}
@@ -148,8 +149,8 @@ module _ (d : Doubted) (p s : ℕ) (sync : SyncMode) where
   -- ---- as events that write a header
 
   module _ (fit : LinksFit d) where
-    pub made_header : is_over_group (w.nodes p) ≡ false → (step w made).said ≡ IsDone → IsKeptHeader d made p (state_with (w.nodes p) (header_links (step w made).world p))
-    made_header alone said = record {
+    pub made_header : (w.nodes p).group ≡ None → (step w made).said ≡ IsDone → IsKeptHeader d made p (state_with (w.nodes p) (header_links (step w made).world p))
+    made_header none said = record {
       header = record {
         row = updated (w.links p) s made_link;
         effect = made_f said;
@@ -160,15 +161,15 @@ module _ (d : Doubted) (p s : ℕ) (sync : SyncMode) where
         fits_before = fit;
         sets = refl;
         opens = made_opens said;
-        alone = alone;
+        none = none;
         writes = refl;
       };
       role = refl;
-      can = made_can said alone (fit.rows p).places;
+      can = made_can said (none_over (w.nodes p) none) (fit.rows p).places;
     }
 
-    pub marked_header : is_over_group (w.nodes s) ≡ false → (step w marked).said ≡ IsDone → IsKeptHeader d marked s (record (state_with (w.nodes s) (header_links w s)) { mark = Consistent })
-    marked_header alone said = record {
+    pub marked_header : (w.nodes s).group ≡ None → (step w marked).said ≡ IsDone → IsKeptHeader d marked s (record (state_with (w.nodes s) (header_links w s)) { mark = Consistent })
+    marked_header none said = record {
       header = record {
         row = w.links s;
         effect = marked_f said;
@@ -179,15 +180,15 @@ module _ (d : Doubted) (p s : ℕ) (sync : SyncMode) where
         fits_before = fit;
         sets = refl;
         opens = marked_opens said;
-        alone = alone;
+        none = none;
         writes = refl;
       };
       role = refl;
-      can = marked_can said alone;
+      can = marked_can said (none_over (w.nodes s) none);
     }
 
-    pub opened_header : is_over_group (w.nodes p) ≡ false → (step w opens).said ≡ IsDone → IsKeptHeader d opens p (state_with (w.nodes p) (header_links (step w opens).world p))
-    opened_header alone said = record {
+    pub opened_header : (w.nodes p).group ≡ None → (step w opens).said ≡ IsDone → IsKeptHeader d opens p (state_with (w.nodes p) (header_links (step w opens).world p))
+    opened_header none said = record {
       header = record {
         row = updated (w.links p) s opened_link;
         effect = opened_f said;
@@ -198,9 +199,9 @@ module _ (d : Doubted) (p s : ℕ) (sync : SyncMode) where
         fits_before = fit;
         sets = refl;
         opens = opened_opens said;
-        alone = alone;
+        none = none;
         writes = refl;
       };
       role = refl;
-      can = opened_can said alone;
+      can = opened_can said (none_over (w.nodes p) none);
     }

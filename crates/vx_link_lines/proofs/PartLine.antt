@@ -1,6 +1,6 @@
 -- A part of a line that writes one header, by the call on the disks of its site.
 use Rattle.std.proofs.Common.{◌≡◌, ◌∙◌, ◌<◌, ℕ, List, [], ap, sym, subst}
-use Rattle.std.specs.Prelude.{Option, Some, None, slice_get, slice_set, Result, Ok, Err}
+use Rattle.std.specs.Prelude.{Option, Some, slice_get, slice_set, Result, Ok, Err}
 use Rattle.vx_history.specs.Doubts.{Doubted}
 use Rattle.vx_history.specs.World.{Gathering, Node}
 use Rattle.vx_history.specs.declared.event.Event.{Event}
@@ -26,7 +26,6 @@ use Rattle.vx_yard.specs.Carries.{Carries}
 use Rattle.vx_link_lines.specs.Headed.{HeadedSo, NextFor, NotesAt, behind, noted_by}
 use Rattle.vx_yard.specs.Standing.{StandsFor}
 use Rattle.vx_yard.specs.Writes.{noted_facts}
-use Rattle.vx_yard.specs.Yards.{IsTold}
 use Rattle.vx_yard.specs.declared.yard.Yard.{Yard}
 use Rattle.vx_yard.proofs.Carrying.{LetsGoBy, SameLoad, carries_node}
 use Rattle.vx_link_lines.proofs.Headed.{headed_done, headed_refused}
@@ -37,7 +36,7 @@ use Rattle.vx_yard.proofs.OneSite.{Changed, role_kept, told_by}
 -- ---- any header
 
 module _ {R : Type 0} {g : Ghosts R} (note : (ℕ → Node) → ℕ → Node) (s : ℕ) (notes : NotesAt s note) (d : Doubted) (e : Event) (m : Node) (ls : List KeptLink) (gathered : Option Gathering)
-    (h : IsHeader d e s m ls gathered) (none : (d.world.nodes s).group ≡ None) (old : Yard R g) (before : DiskSet R g) (stands : StandsFor (noted_by note d) old) (below : s < d.world.sites) (at : slice_get old.disk_sets.items s ≡ Some before) where
+    (h : IsHeader d e s m ls gathered) (old : Yard R g) (before : DiskSet R g) (stands : StandsFor (noted_by note d) old) (below : s < d.world.sites) (at : slice_get old.disk_sets.items s ≡ Some before) where
   -- the site as it stands before the call
   pub header_stood : SiteStands (beside_of d s) (worked (d.world.nodes s)) before
   header_stood = subst (λ (k : Node). SiteStands (beside_of d s) k before) (notes.here d.world.nodes) (stands.disk_sets.sites s before below at)
@@ -45,13 +44,13 @@ module _ {R : Type 0} {g : Ghosts R} (note : (ℕ → Node) → ℕ → Node) (s
   module _ (new : Yard R g) (after : DiskSet R g) (changed : Changed old new s before after) where
     pub header_done : RoleIs m after → Answered CrashedAt (beside_of d s) (worked (d.world.nodes s)) (worked m) ls before after (Ok tt) → LeavesFuse NoMore Done before after → new.facts.items ≡ facts_over (behind d e).world
         → (Carries (noted_by note d) old → Carries (noted_by note (behind d e)) new) → NextFor [] (noted_by note d) (noted_by note (behind d e)) old new
-    header_done kind is calls facts carries = headed_done note s notes d e m ls gathered h none old new before after stands below changed kind is calls facts carries
+    header_done kind is calls facts carries = headed_done note s notes d e m ls gathered h old new before after stands below changed kind is calls facts carries
 
     pub header_refused : RoleIs (d.world.nodes s) after → (why : No) (said : Said) (f f' : SiteFacts) → said ≡ Refused why → Answered CrashedAt (beside_of d s) (worked (d.world.nodes s)) (worked m) ls before after (Err why)
         → LeavesFuse NoMore (Refused why) before after → slice_get old.facts.items s ≡ Some f → f' ≡ noted_facts why f → new.facts.items ≡ slice_set old.facts.items s f' → LetsGoBy why old new s
         → HeadedSo note d e s old new (Err said)
     header_refused kind why said f f' says is calls there shown facts lets =
-        (why, says, headed_refused note s notes d e m ls gathered h none old new before after stands below changed kind why f f' is calls there shown facts lets)
+        (why, says, headed_refused note s notes d e m ls gathered h old new before after stands below changed kind why f f' is calls there shown facts lets)
 
 -- ---- one that keeps a state
 
@@ -61,17 +60,7 @@ pub record IsKeptHeader (d : Doubted) (e : Event) (s : ℕ) (st : State) : Type 
   pub role : st.role ≡ (d.world.nodes s).role
   pub can : CanKeep (beside_of d s) (worked (d.world.nodes s)) st
 
--- what the yard carries does not look at it
-pub kept_carries : {R : Type 0} {g : Ghosts R} (note : (ℕ → Node) → ℕ → Node) (s : ℕ) (notes : NotesAt s note) (d : Doubted) (e : Event) (st : State) (h : IsKeptHeader d e s st) (old new : Yard R g)
-    → (IsTold new → IsTold old) → SameLoad old new → Carries (noted_by note d) old → Carries (noted_by note (behind d e)) new
-kept_carries note s notes d e st h old new told load =
-    let n : Node = d.world.nodes s in
-    let w = done_effect note s notes d e (restated n st) h.header.row st.links (d.world.gathering s) h.header.effect h.header.kept h.header.sure in
-    let here : (noted_by note d).world.nodes s ≡ worked n = notes.here d.world.nodes in
-    carries_node s (noted_by note d) (noted_by note (behind d e)) (worked (restated n st)) old new load w.site w.sent w.gathering w.is.node (sym (ap (λ (k : Node). k.state) here))
-    (h.role ∙ sym (ap (λ (k : Node). k.role) here)) (sym (ap (λ (k : Node). k.fed_by) here)) told
-
-module _ {R : Type 0} {g : Ghosts R} (note : (ℕ → Node) → ℕ → Node) (s : ℕ) (notes : NotesAt s note) (d : Doubted) (e : Event) (st : State) (h : IsKeptHeader d e s st) (none : (d.world.nodes s).group ≡ None) (old : Yard R g) (before : DiskSet R g)
+module _ {R : Type 0} {g : Ghosts R} (note : (ℕ → Node) → ℕ → Node) (s : ℕ) (notes : NotesAt s note) (d : Doubted) (e : Event) (st : State) (h : IsKeptHeader d e s st) (old : Yard R g) (before : DiskSet R g)
     (stands : StandsFor (noted_by note d) old) (below : s < d.world.sites) (at : slice_get old.disk_sets.items s ≡ Some before) where
   abbrev n : Node
   n = d.world.nodes s
@@ -100,13 +89,16 @@ module _ {R : Type 0} {g : Ghosts R} (note : (ℕ → Node) → ℕ → Node) (s
     pub kept_done : KeptAt (beside_of d s) (worked n) st before after (Ok tt) → LeavesFuse NoMore Done before after → new.facts.items ≡ facts_over (behind d e).world → SameLoad old new
         → NextFor [] (noted_by note d) (noted_by note (behind d e)) old new
     kept_done is calls facts load =
-        header_done note s notes d e (restated n st) st.links (d.world.gathering s) h.header none old before stands below at new after changed (role_like n (restated n st) after (ap is_origin h.role) kind) (answered_keep CrashedAt (beside_of d s) (worked n) st before after (Ok tt) is) calls facts
-        (kept_carries note s notes d e st h old new (λ told. told_by old new s before after changed told) load)
+        let w = done_effect note s notes d e (restated n st) h.header.row st.links (d.world.gathering s) h.header.effect h.header.kept h.header.sure in
+        let here : (noted_by note d).world.nodes s ≡ worked n = notes.here d.world.nodes in
+        header_done note s notes d e (restated n st) st.links (d.world.gathering s) h.header old before stands below at new after changed (role_like n (restated n st) after (ap is_origin h.role) kind) (answered_keep CrashedAt (beside_of d s) (worked n) st before after (Ok tt) is) calls facts
+        (carries_node s (noted_by note d) (noted_by note (behind d e)) (worked (restated n st)) old new load w.site w.sent w.gathering w.is.node (sym (ap (λ (k : Node). k.state) here))
+        (h.role ∙ sym (ap (λ (k : Node). k.role) here)) (sym (ap (λ (k : Node). k.fed_by) here)) (λ told. told_by old new s before after changed told))
 
     pub kept_refused : (why : No) (said : Said) (f f' : SiteFacts) → said ≡ Refused why → KeptAt (beside_of d s) (worked n) st before after (Err why) → LeavesFuse NoMore (Refused why) before after
         → slice_get old.facts.items s ≡ Some f → f' ≡ noted_facts why f → new.facts.items ≡ slice_set old.facts.items s f' → LetsGoBy why old new s → HeadedSo note d e s old new (Err said)
     kept_refused why said f f' says is calls there shown facts lets =
-        header_refused note s notes d e (restated n st) st.links (d.world.gathering s) h.header none old before stands below at new after changed kind why said f f' says
+        header_refused note s notes d e (restated n st) st.links (d.world.gathering s) h.header old before stands below at new after changed kind why said f f' says
         (answered_keep CrashedAt (beside_of d s) (worked n) st before after (Err why) is) calls there shown facts lets
 
     module _ (x : State) (is : x ≡ st) where

@@ -105,13 +105,13 @@ pump_told w s to l f one two (RefusedSo (Device disk)) is why same other = subst
 pump_told w s to l f one two (RefusedSo any) is why same other = absurd is
 
 -- the same of one over disks that tell nothing, which sent these packets
-pub pump_other : (told : Type 0) (d : Doubted) (p s : List ℕ) (more : List Packet) → PumpSends d.world (site_number d.world p) (site_number d.world s) more → (told → ⊥) → IsDone told d (Pump p s) [] Done (record d { world = pumped_with d.world (site_number d.world p) (site_number d.world s) more })
+pump_other : (told : Type 0) (d : Doubted) (p s : List ℕ) (more : List Packet) → PumpSends d.world (site_number d.world p) (site_number d.world s) more → (told → ⊥) → IsDone told d (Pump p s) [] Done (record d { world = pumped_with d.world (site_number d.world p) (site_number d.world s) more })
 pump_other told d p s more any untold =
     let v : World = pumped_with d.world (site_number d.world p) (site_number d.world s) more in
     record { ends = LinksFind untold (record d { world = v }) (SendsOther p s more refl any refl refl refl) (record { world = refl; after = λ i. refl; strayed = refl }); counts = tt; works = tt; calls = tt }
 
 -- and of one of which nothing could be read
-pub pump_none : (told : Type 0) (d : Doubted) (p s : List ℕ) (why : No) → (told → ⊥) → IsUnreadable why → IsDone told d (Pump p s) [] (Refused why) d
+pump_none : (told : Type 0) (d : Doubted) (p s : List ℕ) (why : No) → (told → ⊥) → IsUnreadable why → IsDone told d (Pump p s) [] (Refused why) d
 pump_none told d p s why untold other =
     record { ends = LinksFind untold d (ReadsNone p s why refl other refl refl refl) (record { world = refl; after = λ i. refl; strayed = refl }); counts = tt; works = tt; calls = tt }
 

@@ -1,5 +1,5 @@
 -- The sites of a line of links that are over no group of disks with a replicated volume group: their disks are those of raw sets.
-use Rattle.std.proofs.Common.{◌≡◌, ◌∙◌, ◌<◌, ◌≤◌, ℕ, List, Bool, true, false, refl, ap, subst, sym, arith}
+use Rattle.std.proofs.Common.{◌≡◌, ◌∙◌, ◌<◌, ℕ, List, Bool, true, false, refl, ap, subst, sym, arith}
 use Rattle.std.proofs.lemmas.Bool.Decides.{nat_tests}
 use Rattle.std.specs.Prelude.{◌||◌, ◌&&◌, ltb, Option, Some, None, slice_get}
 use Rattle.vx_history.specs.Doubts.{Doubted}
@@ -40,17 +40,6 @@ target_is w o p t is to below =
 pub target_off : (w : World) (o : Option Packet) (p : Packet) (t : ℕ) → o ≡ Some p → p.target ≡ t → t < w.sites → rvg_target w o ≡ false → is_over_rvg (w.nodes t) ≡ false
 target_off w o p t is to below off = sym (target_is w o p t is to below) ∙ off
 
-pub target_over : (w : World) (o : Option Packet) (p : Packet) (t : ℕ) → o ≡ Some p → p.target ≡ t → t < w.sites → rvg_target w o ≡ true → is_over_rvg (w.nodes t) ≡ true
-target_over w o p t is to below over = sym (target_is w o p t is to below) ∙ over
-
--- no site is the target of a packet that goes past the sites
-past_false : (a b : ℕ) → b ≤ a → ltb a b ≡ false
-past_false a b past = grind (arith, nat_tests)
-
-pub target_past : (w : World) (o : Option Packet) (p : Packet) → o ≡ Some p → w.sites ≤ p.target → rvg_target w o ≡ false
-target_past w o p is past =
-    ap (λ (x : Option Packet). rvg_target w x) is ∙ ap (λ (b : Bool). b && is_over_rvg (w.nodes p.target)) (past_false p.target w.sites past)
-
 module _ {R : Type 0} {g : Ghosts R} where
   pub raw_there : (d : Doubted) (y : Yard R g) (s : ℕ) (e : DiskSet R g) → StandsFor d y → s < d.world.sites → slice_get y.disk_sets.items s ≡ Some e
       → is_over_rvg (d.world.nodes s) ≡ false → IsRawSet e
@@ -63,18 +52,10 @@ module _ {R : Type 0} {g : Ghosts R} where
       raw_site (beside_of (noted_by note d) s) ((noted_by note d).world.nodes s) e (ap (λ (n : Node). n.group) (notes.here d.world.nodes) ∙ none)
       (stands.disk_sets.sites s e below at)
 
-  pub raw_noted : (d : Doubted) (y : Yard R g) (s : ℕ) (e : DiskSet R g) → StandsFor d y → s < d.world.sites → slice_get y.disk_sets.items s ≡ Some e
-      → (d.world.nodes s).group ≡ None → IsRawSet e
-  raw_noted d y s e stands below at none = raw_site (beside_of d s) (d.world.nodes s) e none (stands.disk_sets.sites s e below at)
-
   -- the site of this name
   pub named_off : (d : Doubted) (y : Yard R g) (name : List ℕ) (s : ℕ) → StandsFor d y → seat_of y.facts.items name ≡ Some s → over_rvg_at d.world name ≡ false
       → is_over_rvg (d.world.nodes s) ≡ false
   named_off d y name s stands seat off = subst (λ (k : ℕ). is_over_rvg (d.world.nodes k) ≡ false) (place_at d y name s stands seat).number off
-
-  pub named_over : (d : Doubted) (y : Yard R g) (name : List ℕ) (s : ℕ) → StandsFor d y → seat_of y.facts.items name ≡ Some s → over_rvg_at d.world name ≡ true
-      → is_over_rvg (d.world.nodes s) ≡ true
-  named_over d y name s stands seat over = subst (λ (k : ℕ). is_over_rvg (d.world.nodes k) ≡ true) (place_at d y name s stands seat).number over
 
   pub raw_seat : (d : Doubted) (y : Yard R g) (name : List ℕ) (s : ℕ) (e : DiskSet R g) → StandsFor d y → seat_of y.facts.items name ≡ Some s
       → slice_get y.disk_sets.items s ≡ Some e → over_rvg_at d.world name ≡ false → IsRawSet e

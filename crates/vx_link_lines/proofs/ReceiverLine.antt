@@ -29,6 +29,7 @@ use Rattle.vx_history.specs.Steps.{burned, worked}
 use Rattle.vx_history.specs.World.{DataAck, Gathering, Link, Node, Packet, World}
 use Rattle.vx_history.specs.declared.event.Event.{Event}
 use Rattle.vx_history.specs.declared.event.Event.TheVariants.{Apply as ApplyAt}
+use Rattle.vx_history.specs.declared.event.Said.{Said as EventSaid}
 use Rattle.vx_history.specs.declared.event.Said.TheVariants.{DoneAt as IsDoneAt}
 use Rattle.vx_history.specs.declared.receiver.RAction.TheVariants.{Nothing as DoesNothing}
 use Rattle.vx_history.specs.declared.receiver.RState.{RState}
@@ -40,12 +41,14 @@ use Rattle.vx_effects.proofs.Rises.{applied_effect, idle_effect}
 use Rattle.vx_effects.specs.Applies.{applied_up_to, behind_apply, mark_behind}
 use Rattle.vx_effects.specs.Facts.{fact_of, marked_fact, marked_group}
 use Rattle.vx_events.proofs.Passing.{is_at_work, is_site}
+use Rattle.vx_events.specs.Doubts.{run_as}
 use Rattle.vx_events.specs.Effects.{ChangesNode, EffectAt}
-use Rattle.vx_events.specs.Ends.{Ends, NoNumber}
+use Rattle.vx_events.specs.Ends.{AllDone, Ends, IsLeft, NoNumber}
 use Rattle.vx_events.specs.Facts.{group_by, site_number}
 use Rattle.vx_events.specs.GroupLines.{is_over_group}
 use Rattle.vx_events.specs.LinksFit.{LinksFit}
 use Rattle.vx_events.specs.Lists.{Choice}
+use Rattle.vx_events.specs.Sayings.{RepeatsSaid, Replies}
 use Rattle.vx_events.specs.Stamps.{most_stamp_at, waiting_of}
 use Rattle.vx_events.specs.declared.said.Said.{Said}
 use Rattle.vx_events.specs.declared.said.Said.TheVariants.{DoneAt, Refused}
@@ -57,7 +60,6 @@ use Rattle.vx_diskset.proofs.Worked.{stands_worked}
 use Rattle.vx_diskset.specs.Blames.{BlamesSite}
 use Rattle.vx_diskset.specs.Asked.{FusedAs, LeavesFuse, size_in}
 use Rattle.vx_diskset.specs.Burning.{Burnt, NoMore}
-use Rattle.vx_diskset.specs.DiskSets.{no_number}
 use Rattle.vx_diskset.specs.Holds.{beside_of}
 use Rattle.vx_diskset.specs.Received.{CanReceive, ReachedAt, ReachedBy, reached}
 use Rattle.vx_diskset.specs.Needs.{NoneNeeds}
@@ -76,7 +78,7 @@ use Rattle.vx_yard.specs.Standing.{Leads, StandsFor}
 use Rattle.vx_yard.specs.Writes.{noted_facts}
 use Rattle.vx_yard.specs.Yards.{IsTold}
 use Rattle.vx_yard.specs.declared.yard.Yard.{Yard}
-use Rattle.vx_yard.proofs.ApplySite.{CanApplyAt, applied_ends, apply_refused, calls_keep, comes_effect, worked_effect, worked_for}
+use Rattle.vx_yard.proofs.ApplySite.{CanApplyAt, apply_refused, calls_keep, comes_effect, worked_effect, worked_for}
 use Rattle.vx_yard.proofs.Carrying.{Feeds, LetsGoBy, carries_node, feeds_like, feeds_same}
 use Rattle.vx_yard.proofs.CrashLine.{fuse_fact, rose_still}
 use Rattle.vx_yard.proofs.FailsStay.{fails_then}
@@ -94,7 +96,7 @@ quiet_mark n count quiet =
     let s : RState = record (plain_receiver n) { waiting = waiting_of n - count } in
     ap (λ (f : SPhase). let r : RState = if is_log_phase f && leb n.end (applied_up_to n count) then record s { mark = Consistent } else s in r.mark) quiet
 
-pub behind_is : (n : Node) (count : ℕ) → n.phase ≡ Quiet → worked (behind_apply n count) ≡ reached n (applied_up_to n count)
+behind_is : (n : Node) (count : ℕ) → n.phase ≡ Quiet → worked (behind_apply n count) ≡ reached n (applied_up_to n count)
 behind_is n count quiet = ap (λ (m : Mark). worked (applied n (applied_up_to n count) m)) (quiet_mark n count quiet)
 
 same_marked : (n : Node) (t : SiteState) → marked_group n.mark (group_by t n) ≡ group_by t n
@@ -104,7 +106,7 @@ same_marked n IsDeported = refl
 same_marked n IsDown = refl
 
 -- and the tests of a line see nothing new
-pub behind_shown : (n : Node) (row : ℕ → Link) (sites count : ℕ) → is_origin n.role ≡ false → n.phase ≡ Quiet → fact_of (worked (behind_apply n count)) row sites ≡ fact_of n row sites
+behind_shown : (n : Node) (row : ℕ → Link) (sites count : ℕ) → is_origin n.role ≡ false → n.phase ≡ Quiet → fact_of (worked (behind_apply n count)) row sites ≡ fact_of n row sites
 behind_shown n row sites count receives quiet =
     fact_like (behind_apply n count) (worked (behind_apply n count)) row sites (fuse_fact (behind_apply n count) (burned n.fuse)) (λ i l. refl)
     ∙ marked_is n row sites (applied_up_to n count) (mark_behind n count) receives ∙ ap (λ (m : Mark). marked_fact m (fact_of n row sites)) (quiet_mark n count quiet)
@@ -119,7 +121,7 @@ module _ (w : World) (s count number : ℕ) (below : s < w.sites) (up : (w.nodes
       let o : Outcome = if is_origin (w.nodes s).role then reached_at w s count number else apply_at w s count in
       is_site w s (at_work w s o) below ∙ is_at_work w s o up runs ∙ ap (λ (b : Bool). if b then reached_at w s count number else apply_at w s count) receives
 
-  pub apply_said : (b : Bool) → eqb (min count (waiting_of (w.nodes s))) 0 ≡ b → (step w (ApplyAt s count number)).said ≡ (if b then IsDoneAt (w.nodes s).safe else IsDoneAt (applied_up_to (w.nodes s) count))
+  apply_said : (b : Bool) → eqb (min count (waiting_of (w.nodes s))) 0 ≡ b → (step w (ApplyAt s count number)).said ≡ (if b then IsDoneAt (w.nodes s).safe else IsDoneAt (applied_up_to (w.nodes s) count))
   apply_said true is =
       ap (λ (o : Outcome). o.said) apply_is
       ∙ ap (λ (b : Bool). let r : Received = if b then record { state = plain_receiver (w.nodes s); action = DoesNothing } else with_applied (plain_receiver (w.nodes s)) (waiting_of (w.nodes s) - count) in (applied_by w s r.state r.action).said) is
@@ -128,21 +130,11 @@ module _ (w : World) (s count number : ℕ) (below : s < w.sites) (up : (w.nodes
       ∙ ap (λ (b : Bool). let r : Received = if b then record { state = plain_receiver (w.nodes s); action = DoesNothing } else with_applied (plain_receiver (w.nodes s)) (waiting_of (w.nodes s) - count) in (applied_by w s r.state r.action).said) is
 
 -- what the rule says of the answer
-pub reached_says : {R : Type 0} {g : Ghosts R} (d : Doubted) (s count : ℕ) (r : Reached) (before after : DiskSet R g) (b : Bool) → eqb (min count (waiting_of (d.world.nodes s))) 0 ≡ b → ReachedAt (beside_of d s) (d.world.nodes s) count before after (Ok r)
+reached_says : {R : Type 0} {g : Ghosts R} (d : Doubted) (s count : ℕ) (r : Reached) (before after : DiskSet R g) (b : Bool) → eqb (min count (waiting_of (d.world.nodes s))) 0 ≡ b → ReachedAt (beside_of d s) (d.world.nodes s) count before after (Ok r)
     → ReachedBy (let h : Received = if b then record { state = plain_receiver (d.world.nodes s); action = DoesNothing } else with_applied (plain_receiver (d.world.nodes s)) (waiting_of (d.world.nodes s) - count) in h.action) (beside_of d s) (d.world.nodes s) r after
 reached_says d s count r before after b is h =
     let n : Node = d.world.nodes s in
     subst (λ (t : Bool). ReachedBy (let x : Received = if t then record { state = plain_receiver n; action = DoesNothing } else with_applied (plain_receiver n) (waiting_of n - count) in x.action) (beside_of d s) n r after) is h
-
--- no number was left for all that waits
-pub none_ends : (told : Type 0) (d : Doubted) (name : List ℕ) (count s : ℕ) → site_number d.world name ≡ s → (why : No) → why ≡ no_number → is_origin (d.world.nodes s).role ≡ false
-    → (told → MOST_NUMBER ≤ most_stamp_at d.world s + waiting_of (d.world.nodes s)) → Ends told d (Apply name count) (site_number d.world name) [] (Refused why) (with_one d s (worked (d.world.nodes s)))
-none_ends told d name count s number why is receives lacks =
-    let c : Choice = record { kept = 0; reached = 0 } in
-    let e : Doubted = with_one d s (worked (d.world.nodes s)) in
-    subst (λ (i : ℕ). Ends told d (Apply name count) i [] (Refused why) e) (sym number)
-    (subst (λ (x : No). Ends told d (Apply name count) s [] (Refused x) e) (sym is)
-    (NoNumber c false [] (ApplyAt s count 0) [] (ap (λ (i : ℕ). let es : List Event = ApplyAt i count 0 ∷ [] in es) number) tt (λ t. (receives, lacks t)) refl refl (record { world = refl; after = λ i. refl; strayed = refl })))
 
 -- none of its links needs a number of its log, as it has none
 pub can_receive : (d : Doubted) (s : ℕ) → LinksFit d → is_origin (d.world.nodes s).role ≡ false → (d.world.nodes s).state ≡ IsUp → (d.world.nodes s).halted ≡ None → CanReceive (beside_of d s) (d.world.nodes s)
@@ -192,19 +184,6 @@ module _ {R : Type 0} {g : Ghosts R} where
     pub assemblies : new.assemblies.items ≡ old.assemblies.items
     pub feeders : new.feeders.items ≡ old.feeders.items
 
-  -- what the yard carries behind a line that was done
-  pub received_carries : (d : Doubted) (old new : Yard R g) (s count number : ℕ) (m : Node) (packets more : List Packet)
-      → EffectAt s d (happened d (ApplyAt s count number) false) m (d.world.links s) (d.world.headers s) (d.after s) packets (d.world.gathering s) → packets ≡ d.world.packets ++ more
-      → m ≡ record (d.world.nodes s) { base = m.base; safe = m.safe; mark = m.mark } → (Carries d old → FlightStands packets new.flight) → new.assemblies.items ≡ old.assemblies.items → new.feeders.items ≡ old.feeders.items
-      → (IsTold new → IsTold old) → Carries d old → Carries (worked_for (happened d (ApplyAt s count number) false) s) new
-  received_carries d old new s count number m packets more effect sent same flight assemblies feeders told carries =
-      let n : Node = d.world.nodes s in
-      let h : Doubted = happened d (ApplyAt s count number) false in
-      let eff = worked_effect s d h m (d.world.links s) (d.world.headers s) (d.after s) packets (d.world.gathering s) effect in
-      carries_sent s d (worked_for h s) more old new eff.site eff.gathering (eff.sent ∙ sent)
-      (subst (λ (x : Node). Feeds n x) (sym eff.is.node) (feeds_like n (worked m) (ap (λ (x : Node). x.state) same) (ap (λ (x : Node). x.role) same) (ap (λ (x : Node). x.fed_by) same)))
-      (subst (λ (ps : List Packet). FlightStands ps new.flight) (sym eff.sent) (flight carries)) assemblies feeders told carries
-
   module _ (d : Doubted) (old new : Yard R g) (name : List ℕ) (count s : ℕ) (before after : DiskSet R g) (stands : StandsFor d old) (here : CanApplyAt d old name s) (changed : Changed old new s before after) (keeps : KeepsRole before after) (receives : is_origin (d.world.nodes s).role ≡ false)
       (off : is_over_rvg (d.world.nodes s) ≡ false) where
     abbrev n : Node
@@ -220,14 +199,21 @@ module _ {R : Type 0} {g : Ghosts R} where
         → LeavesFuse NoMore (DoneAt number) before after → new.facts.items ≡ old.facts.items → (Carries d old → FlightStands packets new.flight) → new.assemblies.items ≡ old.assemblies.items → new.feeders.items ≡ old.feeders.items
         → Leads d (Apply name count) (DoneAt number) old new
     leads_as number m packets more effect sent said same stood shown calls facts flight assemblies feeders =
+        let k : ℕ = site_number d.world name in
+        let c : Choice = record { kept = 0; reached = number } in
         let h : Doubted = happened d (ApplyAt s count number) false in
         let e : Doubted = worked_for h s in
         let eff = worked_effect s d h m (d.world.links s) (d.world.headers s) (d.after s) packets (d.world.gathering s) effect in
+        let ev : (let es : List Event = ApplyAt k count number ∷ [] in es) ≡ ApplyAt s count number ∷ [] = ap (λ (i : ℕ). let es : List Event = ApplyAt i count number ∷ [] in es) here.seat.number in
         record {
           next = e;
           fails = [];
           done = record {
-            ends = applied_ends (IsTold new) d name count s here.seat.number number said;
+            ends = subst (λ (i : ℕ). Ends (IsTold new) d (Apply name count) i [] (DoneAt number) e) (sym here.seat.number)
+                (AllDone c false tt
+                (subst (λ (es : List Event). Replies (IsTold new) (Apply name count) s false d es (DoneAt number)) (sym ev)
+                (subst (λ (o : EventSaid). RepeatsSaid (step d.world (ApplyAt s count number)).world s o (DoneAt number)) (sym said) refl))
+                (subst (λ (es : List Event). IsLeft s (Apply name count) false d (run_as false d es) e) (sym ev) (record { world = refl; after = λ i. refl; strayed = refl })));
             counts = tt;
             works = tt;
             calls = tt;
@@ -239,7 +225,9 @@ module _ {R : Type 0} {g : Ghosts R} where
               (fuse (worked m) number (ap (λ (x : Node). burned x.fuse) same) calls) (role_kept d old s before after stands here.seat.below changed.there keeps))
               (λ _. noted_off (beside_of d s) (worked m) (e.world.nodes s) after stood (ap is_over_rvg same ∙ off)) here.seat.apart (ap is_over_group eff.is.node ∙ ap is_over_group same ∙ here.seat.apart)
               (fact_same (worked m) (e.world.nodes s) (d.world.links s) (e.world.links s) d.world.sites e.world.sites eff.is.node (λ j. eff.is.links j) eff.site.sites ∙ shown) facts;
-          carries = received_carries d old new s count number m packets more effect sent same flight assemblies feeders (told_by old new s before after changed);
+          carries = λ carries. carries_sent s d e more old new eff.site eff.gathering (eff.sent ∙ sent)
+              (subst (λ (x : Node). Feeds n x) (sym eff.is.node) (feeds_like n (worked m) (ap (λ (x : Node). x.state) same) (ap (λ (x : Node). x.role) same) (ap (λ (x : Node). x.fed_by) same)))
+              (subst (λ (ps : List Packet). FlightStands ps new.flight) (sym eff.sent) (flight carries)) assemblies feeders (told_by old new s before after changed) carries;
           rose = rose_still old new s before after changed.there changed.later changed.disk_sets;
         }
 
@@ -268,7 +256,10 @@ module _ {R : Type 0} {g : Ghosts R} where
     none_left : (what : Counted) (most : ℕ) (f f' : SiteFacts) → ReachedAt (beside_of d s) n count before after (Err (Limit what most)) → LeavesFuse NoMore (Refused (Limit what most)) before after → slice_get old.facts.items s ≡ Some f → f' ≡ f
         → new.facts.items ≡ slice_set old.facts.items s f' → LetsGoBy (Limit what most) old new s → Leads d (Apply name count) (Refused (Limit what most)) old new
     none_left what most f f' is calls at noted facts lets =
+        let k : ℕ = site_number d.world name in
+        let c : Choice = record { kept = 0; reached = 0 } in
         let e : Doubted = with_one d s (worked n) in
+        let ev : (let es : List Event = ApplyAt k count 0 ∷ [] in es) ≡ ApplyAt s count 0 ∷ [] = ap (λ (i : ℕ). let es : List Event = ApplyAt i count 0 ∷ [] in es) here.seat.number in
         let within = slice_get_within old.disk_sets.items s before changed.there in
         let lacks : IsTold new → MOST_NUMBER ≤ most_stamp_at d.world s + waiting_of n
         = λ told.
@@ -278,7 +269,9 @@ module _ {R : Type 0} {g : Ghosts R} where
           next = e;
           fails = [];
           done = record {
-            ends = none_ends (IsTold new) d name count s here.seat.number (Limit what most) is.0 receives lacks;
+            ends = subst (λ (i : ℕ). Ends (IsTold new) d (Apply name count) i [] (Refused (Limit what most)) e) (sym here.seat.number)
+                (subst (λ (why : No). Ends (IsTold new) d (Apply name count) s [] (Refused why) e) (sym is.0)
+                (NoNumber c false [] (ApplyAt s count 0) [] ev tt (λ told. (receives, lacks told)) refl refl (record { world = refl; after = λ i. refl; strayed = refl })));
             counts = tt;
             works = tt;
             calls = tt;
@@ -303,7 +296,7 @@ module _ {R : Type 0} {g : Ghosts R} where
     received_refused why said f f' says blames is calls at noted facts lets = subst (λ (r : Said). Leads d (Apply name count) r old new) (sym says) (by_why why blames is calls noted lets)
       where
         by_why : (why : No) → BlamesSite n why → ReachedAt (beside_of d s) n count before after (Err why) → LeavesFuse NoMore (Refused why) before after → f' ≡ noted_facts why f → LetsGoBy why old new s → Leads d (Apply name count) (Refused why) old new
-        by_why (Device disk) blames is calls noted lets = apply_refused d old new name count s before after stands here off changed keeps (Device disk) (Refused (Device disk)) f f' refl blames is calls at noted facts lets
+        by_why (Device disk) blames is calls noted lets = apply_refused d old new name count s before after stands here changed keeps (Device disk) (Refused (Device disk)) f f' refl blames is calls at noted facts lets
         by_why (Limit what most) blames is calls noted lets = none_left what most f f' is calls at noted facts lets
-        by_why Off blames is calls noted lets = apply_refused d old new name count s before after stands here off changed keeps Off (Refused Off) f f' refl blames is calls at noted facts lets
+        by_why Off blames is calls noted lets = apply_refused d old new name count s before after stands here changed keeps Off (Refused Off) f f' refl blames is calls at noted facts lets
         by_why other blames is calls noted lets = absurd is

@@ -50,7 +50,7 @@ use Rattle.vx_events.specs.Sayings.{RepeatsSaid}
 use Rattle.vx_events.specs.declared.said.Said.{Said}
 use Rattle.vx_events.specs.declared.said.Said.TheVariants.{Done, Refused}
 use Rattle.vx_linked.proofs.PartFacts.{sets}
-use Rattle.vx_link_lines.proofs.RawParts.{none_seat}
+use Rattle.vx_link_lines.proofs.RawParts.{named_off, none_seat}
 use Rattle.vx_link_lines.specs.Headed.{NextFor, behind, noted_by}
 use Rattle.vx_events.specs.RvgSteps.{over_rvg_at}
 use Rattle.vx_yard.specs.Standing.{Leads, StandsFor}
@@ -79,7 +79,8 @@ set_open w p s sync said =
     (λ _. Tests.site_ends Q w none s (at_work w p led) (λ _. Tests.work_ends Q w none p led (λ up runs _. (up, runs)))) said
 
 module _ {R : Type 0} {g : Ghosts R} (d : Doubted) (old : Yard R g) (first second : List ℕ) (sync : SyncMode) (free_prot : Prot) (s q : ℕ) (before : DiskSet R g) (stands : StandsFor d old)
-    (free : IsFree old (Set first second sync free_prot)) (seat : seat_of old.facts.items first ≡ Some s) (seat_too : seat_of old.facts.items second ≡ Some q) (at : slice_get old.disk_sets.items s ≡ Some before) where
+    (free : IsFree old (Set first second sync free_prot)) (seat : seat_of old.facts.items first ≡ Some s) (seat_too : seat_of old.facts.items second ≡ Some q) (at : slice_get old.disk_sets.items s ≡ Some before)
+    (off : over_rvg_at d.world first ≡ false) where
   abbrev n : Node
   n = d.world.nodes s
 
@@ -89,8 +90,8 @@ module _ {R : Type 0} {g : Ghosts R} (d : Doubted) (old : Yard R g) (first secon
   abbrev event : Event
   event = SetAt s q sync FailsWhenFull
 
-  pub set_there : PlaceAt d old second q
-  set_there = place_at d old second q stands seat_too
+  there : PlaceAt d old second q
+  there = place_at d old second q stands seat_too
 
   tested : refused_over w (in_files old) (Set first second sync free_prot) ≡ None
   tested = ap (λ (fs : List SiteFacts). line_refusal fs (in_files old) (Set first second sync free_prot)) (sym stands.facts) ∙ free
@@ -99,13 +100,13 @@ module _ {R : Type 0} {g : Ghosts R} (d : Doubted) (old : Yard R g) (first secon
   pub set_alone : is_over_group n ≡ false
   set_alone = subst (λ (k : ℕ). is_over_group (w.nodes k) ≡ false) (place_at d old first s stands seat).number (set_apart w (in_files old) first second sync free_prot tested)
 
-  pub set_here : SiteAt d old first s
-  set_here = site_at d old first s stands set_alone seat
+  here : SiteAt d old first s
+  here = site_at d old first s stands set_alone seat
 
   pub set_said : (step w event).said ≡ IsDone
   set_said =
-      subst (λ (k : ℕ). (step w (SetAt k q sync FailsWhenFull)).said ≡ IsDone) set_here.number
-      (subst (λ (k : ℕ). (step w (SetAt (site_number w first) k sync FailsWhenFull)).said ≡ IsDone) set_there.number (set_agrees w (in_files old) first second sync free_prot tested))
+      subst (λ (k : ℕ). (step w (SetAt k q sync FailsWhenFull)).said ≡ IsDone) here.number
+      (subst (λ (k : ℕ). (step w (SetAt (site_number w first) k sync FailsWhenFull)).said ≡ IsDone) there.number (set_agrees w (in_files old) first second sync free_prot tested))
 
   pub set_opens : IsOpen n
   set_opens = set_open w s q sync set_said
@@ -126,8 +127,8 @@ module _ {R : Type 0} {g : Ghosts R} (d : Doubted) (old : Yard R g) (first secon
   pub set_can : CanKeep (beside_of d s) (worked n) state
   set_can = record { up = set_opens.0; running = set_opens.1; apart = set_alone; line = refl; role = refl; needs = λ k l is needing. set_needs w s q sync (worked n) set_said k l is needing }
 
-  pub set_header : IsKeptHeader d event s state
-  set_header = record {
+  header : IsKeptHeader d event s state
+  header = record {
     header = record {
       row = row;
       effect = effect;
@@ -138,46 +139,25 @@ module _ {R : Type 0} {g : Ghosts R} (d : Doubted) (old : Yard R g) (first secon
       fits_before = stands.links;
       sets = refl;
       opens = set_opens;
-      alone = set_alone;
+      none = none_seat d old first s stands seat set_alone off;
       writes = refl;
     };
     role = refl;
     can = set_can;
   }
 
-  pub set_numbers : (prot : Prot) → link_events w (Set first second sync prot) ≡ event ∷ []
-  set_numbers prot =
-      ap (λ (k : ℕ). let es : List Event = SetAt k (site_number w second) sync FailsWhenFull ∷ [] in es) set_here.number
-      ∙ ap (λ (k : ℕ). let es : List Event = SetAt s k sync FailsWhenFull ∷ [] in es) set_there.number
+  noted : StandsFor (noted_by (note_one s) d) old
+  noted = stands_noted d old s before stands here.below at (named_off d old first s stands seat off)
 
-  -- how the line goes
-  pub set_notes : (prot : Prot) (v : World) → link_noted w (Set first second sync prot) v ≡ record v { nodes = note_one s v.nodes }
-  set_notes prot v = ap (λ (k : ℕ). worked_on v k) set_here.number
-
-  pub set_behind : (prot : Prot) → IsBehind d (Set first second sync prot) (note_one s) event s d
-  set_behind prot = record {
-    before = [];
-    rest = [];
-    split = set_numbers prot;
-    runs = refl;
-    none = refl;
-    opens = set_opens;
-    writes = refl;
-    takes = refl;
-    notes = set_notes prot;
-    fused = λ f. f;
-  }
-
-  pub set_ends : (told : Type 0) (prot : Prot) → LinkEnds told d (Set first second sync prot) [] Done (noted_by (note_one s) (behind d event))
-  set_ends told prot =
-      LinksDone (behind d event) (subst (λ (es : List Event). Runs d es (behind d event)) (sym (set_numbers prot)) (false, refl)) (ap (λ (es : List Event). all_fails es) (set_numbers prot)) refl
-      (subst (λ (es : List Event). LinkReplies (Set first second sync prot) d (behind d event) es Done) (sym (set_numbers prot)) (subst (λ (o : EventSaid). RepeatsSaid (step w event).world 0 o Done) (sym set_said) refl))
-      (record { world = sym (set_notes prot (behind d event).world); after = λ i. refl; strayed = refl })
+  numbers : (prot : Prot) → link_events w (Set first second sync prot) ≡ event ∷ []
+  numbers prot =
+      ap (λ (k : ℕ). let es : List Event = SetAt k (site_number w second) sync FailsWhenFull ∷ [] in es) here.number
+      ∙ ap (λ (k : ℕ). let es : List Event = SetAt s k sync FailsWhenFull ∷ [] in es) there.number
 
   -- ---- the call on the disks
 
   pub set_stood : SiteStands (beside_of d s) (worked n) before
-  set_stood = stands_worked (beside_of d s) n before (stands.disk_sets.sites s before set_here.below at)
+  set_stood = stands_worked (beside_of d s) n before (stands.disk_sets.sites s before here.below at)
 
   pub set_kept : (after : DiskSet R g) (st : State) (result : Result (Unit {0}) No) → st ≡ state
       → ((beside : KeptBeside) (m : Node) → SiteStands beside m before → CanKeep beside m st → KeptAt beside m st before after result) → KeptAt (beside_of d s) (worked n) state before after result
@@ -190,54 +170,63 @@ module _ {R : Type 0} {g : Ghosts R} (d : Doubted) (old : Yard R g) (first secon
       → ((beside : KeptBeside) (m : Node) (v : World) → SiteStands beside m disks → m.state ≡ IsUp → is_over_group m ≡ false → old.facts.items ≡ facts_over v → HasPlaces v.sites (v.links s) → (step v event).said ≡ IsDone
       → st ≡ state_with m (header_links (step v event).world s)) → st ≡ state
   set_state_is disks st there_too is =
-      is (beside_of d s) n w (stands.disk_sets.sites s disks set_here.below there_too) set_opens.0 set_alone stands.facts (stands.links.rows s).places set_said
+      is (beside_of d s) n w (stands.disk_sets.sites s disks here.below there_too) set_opens.0 set_alone stands.facts (stands.links.rows s).places set_said
 
-  -- ---- the yard behind it, where the site has no replicated volume group over a group
+  -- ---- the yard behind it
 
-  module _ (off : over_rvg_at d.world first ≡ false) where
-    -- nor has it a replicated volume group over one
-    none : n.group ≡ None
-    none = none_seat d old first s stands seat set_alone off
+  module _ (new : Yard R g) (after : DiskSet R g) (changed : Changed old new s before after) (keeps : KeepsRole before after) (prot : Prot) where
+    abbrev line : ScriptLine
+    line = Set first second sync prot
 
-    noted : StandsFor (noted_by (note_one s) d) old
-    noted = stands_noted d old s before stands set_here.below at
+    leads_by : {e : Doubted} {fails : List (ℕ × ℕ)} {said : Said} → LinkEnds (IsTold new) d line fails said e → (said ≡ Done → (n.failing 0 ≡ false) × MayPass header_calls n.fuse)
+        → NextFor fails (noted_by (note_one s) d) e old new → Leads d line said old new
+    leads_by {e} {fails} ends needs next = record {
+      next = e;
+      fails = fails;
+      done = record {
+        ends = ends;
+        counts = tt;
+        works = λ is. subst (λ (k : ℕ). (w.nodes k).failing 0 ≡ false) (sym here.number) (needs is).0;
+        calls = λ is. subst (λ (k : ℕ). MayPass header_calls (w.nodes k).fuse) (sym here.number) (needs is).1;
+      };
+      stands = next.stands;
+      carries = λ carries. next.carries (carries_noted d old s carries);
+      rose = next.rose;
+    }
 
-    module _ (new : Yard R g) (after : DiskSet R g) (changed : Changed old new s before after) (keeps : KeepsRole before after) (prot : Prot) where
-      abbrev line : ScriptLine
-      line = Set first second sync prot
+    notes : (v : World) → link_noted w line v ≡ record v { nodes = note_one s v.nodes }
+    notes v = ap (λ (k : ℕ). worked_on v k) here.number
 
-      leads_by : {e : Doubted} {fails : List (ℕ × ℕ)} {said : Said} → LinkEnds (IsTold new) d line fails said e → (said ≡ Done → (n.failing 0 ≡ false) × MayPass header_calls n.fuse)
-          → NextFor fails (noted_by (note_one s) d) e old new → Leads d line said old new
-      leads_by {e} {fails} {said} ends needs next = record {
-        next = e;
-        fails = fails;
-        done = record {
-          ends = ends;
-          counts = tt;
-          works = λ is. subst (λ (k : ℕ). (w.nodes k).failing 0 ≡ false) (sym set_here.number) (needs is).0;
-          calls = λ is. subst (λ (k : ℕ). MayPass header_calls (w.nodes k).fuse) (sym set_here.number) (needs is).1;
-        };
-        stands = next.stands;
-        carries = λ carries. next.carries (carries_noted d old s carries);
-        rose = next.rose;
-      }
+    -- it is done
+    pub set_leads : ((r : R) → IsRack (g.meaning r)) → HeadUnder 2 Done before after → KeptAt (beside_of d s) (worked n) state before after (Ok tt) → LeavesFuse NoMore Done before after → new.facts.items ≡ facts_over (step w event).world → SameLoad old new → Leads d line Done old new
+    set_leads racks head is calls facts load =
+        let stood : SiteStands (beside_of d s) n before = stands.disk_sets.sites s before here.below at in
+        leads_by {fails = []}
+        (LinksDone (behind d event) (subst (λ (es : List Event). Runs d es (behind d event)) (sym (numbers prot)) (false, refl)) (ap (λ (es : List Event). all_fails es) (numbers prot)) refl
+        (subst (λ (es : List Event). LinkReplies line d (behind d event) es Done) (sym (numbers prot)) (subst (λ (o : EventSaid). RepeatsSaid (step w event).world 0 o Done) (sym set_said) refl))
+        (record { world = sym (notes (behind d event).world); after = λ i. refl; strayed = refl }))
+        (λ is. (
+          head_works racks 2 (beside_of d s) n before after stood head (omega arith) (stands.failing s before here.below at),
+          head_passes racks 2 (beside_of d s) n before after stood head (stands.fuses s before here.below at),
+        ))
+        (kept_done (note_one s) s (notes_one s) d event state header old before noted here.below at new after changed keeps is calls facts load)
 
-      -- it is done
-      pub set_leads : ((r : R) → IsRack (g.meaning r)) → HeadUnder 2 Done before after → KeptAt (beside_of d s) (worked n) state before after (Ok tt) → LeavesFuse NoMore Done before after → new.facts.items ≡ facts_over (step w event).world → SameLoad old new → Leads d line Done old new
-      set_leads racks head is calls facts load =
-          let stood : SiteStands (beside_of d s) n before = stands.disk_sets.sites s before set_here.below at in
-          leads_by {fails = []}
-          (set_ends (IsTold new) prot)
-          (λ is. (
-            head_works racks 2 (beside_of d s) n before after stood head (omega arith) (stands.failing s before set_here.below at),
-            head_passes racks 2 (beside_of d s) n before after stood head (stands.fuses s before set_here.below at),
-          ))
-          (kept_done (note_one s) s (notes_one s) d event state set_header none old before noted set_here.below at new after changed keeps is calls facts load)
-
-      -- it was refused
-      pub set_refused : (why : No) (said : Said) (x x' : SiteFacts) → said ≡ Refused why → KeptAt (beside_of d s) (worked n) state before after (Err why) → LeavesFuse NoMore (Refused why) before after → slice_get old.facts.items s ≡ Some x
-          → x' ≡ noted_facts why x → new.facts.items ≡ slice_set old.facts.items s x' → LetsGoBy why old new s → Leads d line said old new
-      set_refused why said x x' says is calls there_too shown facts lets =
-          let h = kept_refused (note_one s) s (notes_one s) d event state set_header none old before noted set_here.below at new after changed keeps why said x x' says is calls there_too shown facts lets in
-          let e = headed_ends d line (note_one s) event s d (set_behind prot) old new h.0 h.2 in
-          subst (λ (r : Said). Leads d line r old new) (sym h.1) (leads_by e.ends (λ (is : Refused h.0 ≡ Done). absurd (refused_undone h.0 is)) e.goes)
+    -- it was refused
+    pub set_refused : (why : No) (said : Said) (x x' : SiteFacts) → said ≡ Refused why → KeptAt (beside_of d s) (worked n) state before after (Err why) → LeavesFuse NoMore (Refused why) before after → slice_get old.facts.items s ≡ Some x
+        → x' ≡ noted_facts why x → new.facts.items ≡ slice_set old.facts.items s x' → LetsGoBy why old new s → Leads d line said old new
+    set_refused why said x x' says is calls there_too shown facts lets =
+        let h = kept_refused (note_one s) s (notes_one s) d event state header old before noted here.below at new after changed keeps why said x x' says is calls there_too shown facts lets in
+        let b : IsBehind d line (note_one s) event s d = record {
+          before = [];
+          rest = [];
+          split = numbers prot;
+          runs = refl;
+          none = refl;
+          opens = set_opens;
+          writes = refl;
+          takes = refl;
+          notes = notes;
+          fused = λ f. f;
+        } in
+        let e = headed_ends d line (note_one s) event s d b old new h.0 h.2 in
+        subst (λ (r : Said). Leads d line r old new) (sym h.1) (leads_by e.ends (λ (is : Refused h.0 ≡ Done). absurd (refused_undone h.0 is)) e.goes)

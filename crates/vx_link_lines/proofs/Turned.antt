@@ -12,14 +12,11 @@ use Rattle.vx_diskset.specs.Holds.{KeptBeside, beside_of}
 use Rattle.vx_diskset.specs.Noted.{NotedAt}
 use Rattle.vx_diskset.specs.Stands.{RoleIs, SiteStands}
 use Rattle.vx_diskset.specs.declared.disk_set.DiskSet.{DiskSet}
-use Rattle.vx_effects.proofs.Effects.{changes_then}
 use Rattle.vx_events.specs.Effects.{ChangesNode}
 use Rattle.vx_events.specs.StepsOver.{facts_over}
 use Rattle.vx_events.specs.LinksFit.{LinksFit}
-use Rattle.vx_yard.specs.Carries.{Carries}
 use Rattle.vx_yard.specs.Standing.{IsSameSite, SitesAgree, StandsFor, BeginsFirst}
 use Rattle.vx_yard.specs.declared.yard.Yard.{Yard}
-use Rattle.vx_yard.proofs.Reaching.{Reaches}
 use Rattle.vx_yard.proofs.Lists.{get-set_other, length-set}
 use Rattle.vx_yard.proofs.OneSite.{Changed, at_set, beside_same}
 
@@ -32,19 +29,6 @@ module _ {R : Type 0} {g : Ghosts R} where
     pub failing : FailsAs (e.world.nodes s) after
     pub fuse : FusedAs (e.world.nodes s) after
     pub role : RoleIs (e.world.nodes s) after
-
-  -- The site is this node then, whose disk set is this one: all but which disks are made to fail, what its fuse has left and what it notes of a group. The tests
-  -- of lines see it so, and the yard carries the world, if it did so before.
-  pub record Moves (d e : Doubted) (s : ℕ) (m : Node) (old new : Yard R g) (after : DiskSet R g) : Type 0 where
-    pub changes : ChangesNode s d e
-    pub node : e.world.nodes s ≡ m
-    pub links : LinksFit e
-    pub stands : SiteStands (beside_of e s) m after
-    pub role : RoleIs m after
-    pub first : BeginsFirst s m
-    pub doubt : (a : After) → e.after s ≡ Some a → IsSameSite m a.node
-    pub facts : new.facts.items ≡ facts_over e.world
-    pub carries : Carries d old → Carries e new
 
   -- the yard stands for the world that this one comes to
   pub stands_turned : (d e : Doubted) (old new : Yard R g) (s : ℕ) (before after : DiskSet R g) → StandsFor d old → s < d.world.sites → Changed old new s before after → Turned d e s after
@@ -91,31 +75,3 @@ module _ {R : Type 0} {g : Ghosts R} where
 
       here : (i : ℕ) (x : DiskSet R g) → slice_get new.disk_sets.items i ≡ Some x → slice_get (slice_set old.disk_sets.items s after) i ≡ Some x
       here i x is = sym (ap (λ es. slice_get es i) changed.disk_sets) ∙ is
-
-  -- so it does where the disk set has all that a site has
-  pub stands_moved : (d e : Doubted) (s : ℕ) (m : Node) (old new : Yard R g) (before after : DiskSet R g) → StandsFor d old → s < d.world.sites → Changed old new s before after → Moves d e s m old new after
-      → FailsAs m after → FusedAs m after → NotedAt m after → StandsFor e new
-  stands_moved d e s m old new before after stands below changed moves fails lit noted =
-      let there : m ≡ e.world.nodes s = sym moves.node in
-      stands_turned d e old new s before after stands below changed
-      (record {
-        changes = moves.changes;
-        links = moves.links;
-        stands = subst (λ (k : Node). SiteStands (beside_of e s) k after) there moves.stands;
-        failing = subst (λ (k : Node). FailsAs k after) there fails;
-        fuse = subst (λ (k : Node). FusedAs k after) there lit;
-        role = subst (λ (k : Node). RoleIs k after) there moves.role;
-      })
-      (λ _. subst (λ (k : Node). BeginsFirst s k) there moves.first) (λ _. subst (λ (k : Node). NotedAt k after) there noted) moves.facts
-      (λ a is. subst (λ (k : Node). IsSameSite k a.node) there (moves.doubt a is))
-
-  -- from a world in which the site was another already
-  pub moves_reach : (d start e : Doubted) (s : ℕ) (m : Node) (old new : Yard R g) (after : DiskSet R g) → ChangesNode s d start → Moves start e s m old new after → Reaches d e s m after
-  moves_reach d start e s m old new after first moves = record {
-    changes = changes_then s d start e first moves.changes;
-    here = moves.node;
-    links = moves.links;
-    stands = moves.stands;
-    role = moves.role;
-    doubt = λ was a is. moves.doubt a is;
-  }

@@ -136,7 +136,6 @@ pub record SameSite (n k : Node) : Type 0 where
   pub blocks : k.blocks ≡ n.blocks
   pub volumes : k.volumes ≡ n.volumes
   pub group : k.group ≡ n.group
-  pub state : k.state ≡ n.state
   pub role : k.role ≡ n.role
   pub failing : k.failing ≡ n.failing
   pub fuse : k.fuse ≡ n.fuse
@@ -148,7 +147,6 @@ same_site n k is = record {
   blocks = ap (λ (m : Node). m.blocks) is;
   volumes = ap (λ (m : Node). m.volumes) is;
   group = ap (λ (m : Node). m.group) is;
-  state = ap (λ (m : Node). m.state) is;
   role = ap (λ (m : Node). m.role) is;
   failing = ap (λ (m : Node). m.failing) is;
   fuse = ap (λ (m : Node). m.fuse) is;
@@ -161,13 +159,12 @@ written_site n k source x is = record {
   blocks = ap (λ (m : Node). m.blocks) is;
   volumes = ap (λ (m : Node). m.volumes) is;
   group = ap (λ (m : Node). m.group) is;
-  state = ap (λ (m : Node). m.state) is;
   role = ap (λ (m : Node). m.role) is;
   failing = ap (λ (m : Node). m.failing) is;
   fuse = ap (λ (m : Node). m.fuse) is;
 }
 
-pub over_site : (n k : Node) → SameSite n k → is_over_group k ≡ is_over_group n
+over_site : (n k : Node) → SameSite n k → is_over_group k ≡ is_over_group n
 over_site n k same =
     ap (λ (o : Option GroupNode). is_some o && eqb (length k.volumes) 0) same.group ∙ ap (λ (vs : List Volume). is_some n.group && eqb (length vs) 0) same.volumes
 
@@ -193,30 +190,7 @@ last_shown n m row sites source last x receives none (inr more) many =
     let long : last ≡ length n.log + 1 = many ∙ ap (λ (k : Node). length k.log) more ∙ length-append n.log (x ∷ []) in
     ap (λ (k : ℕ). received_fact k (fact_of n row sites)) long ∙ sym (received_is n row sites source x receives none) ∙ ap (λ (k : Node). fact_of k row sites) (sym more)
 
--- the facts of the target behind the line
-pub worked_shown : (d : Doubted) (s : ℕ) (h : Doubted) (m : Node) (packets : List Packet) (gathered : Option Gathering) → EffectAt s d h m (d.world.links s) (d.world.headers s) (d.after s) packets gathered
-    → fact_over (worked_for h s).world s ≡ over_of m (d.world.links s) d.world.sites
-worked_shown d s h m packets gathered eff =
-    let noted = worked_effect s d h m (d.world.links s) (d.world.headers s) (d.after s) packets gathered eff in
-    ap (λ (k : Node). over_of k ((worked_for h s).world.links s) (worked_for h s).world.sites) noted.is.node ∙ ap (λ (k : ℕ). over_of (worked m) ((worked_for h s).world.links s) k) noted.site.sites
-    ∙ over_same (worked m) (d.world.links s) ((worked_for h s).world.links s) d.world.sites noted.is.links ∙ over_burnt m (d.world.links s) d.world.sites
-
 module _ {R : Type 0} {g : Ghosts R} where
-  -- ---- what a line makes of an effect at its target, with other facts of it or with the same
-
-  abbrev pub MakesNew : (d : Doubted) (number : ℕ) (p : Packet) (old new : Yard R g) (after : DiskSet R g) (T : Type 0) (L : Said → Type 0) → Type 0
-  MakesNew d number p old new after T L =
-      (h : Doubted) (m : Node) (packets : List Packet) (gathered : Option Gathering) (said : Said) (f : SiteFacts) → EffectAt p.target d h m (d.world.links p.target) (d.world.headers p.target) (d.after p.target) packets gathered
-      → LinksFit (worked_for h p.target) → LinkEnds T d (Deliver number) [] said (worked_for h p.target) → is_over_group (d.world.nodes p.target) ≡ false → SameSite (d.world.nodes p.target) m
-      → SiteStands (beside_of d p.target) m after → f ≡ fact_of m (d.world.links p.target) d.world.sites → new.facts.items ≡ slice_set old.facts.items p.target f
-      → (Carries d old → Carries (worked_for h p.target) new) → L said
-
-  abbrev pub MakesSame : (d : Doubted) (number : ℕ) (p : Packet) (old new : Yard R g) (after : DiskSet R g) (T : Type 0) (L : Said → Type 0) → Type 0
-  MakesSame d number p old new after T L =
-      (h : Doubted) (m : Node) (packets : List Packet) (gathered : Option Gathering) (said : Said) → EffectAt p.target d h m (d.world.links p.target) (d.world.headers p.target) (d.after p.target) packets gathered
-      → LinksFit (worked_for h p.target) → LinkEnds T d (Deliver number) [] said (worked_for h p.target) → m ≡ d.world.nodes p.target → SiteStands (beside_of d p.target) m after → new.facts.items ≡ old.facts.items
-      → (Carries d old → Carries (worked_for h p.target) new) → L said
-
   -- ---- what the yard carries
 
   pub carries_handed : (d e : Doubted) (s feeder : ℕ) (a : Assembled) (more : List Packet) (old new : Yard R g) → ChangesNode s d e → e.world.packets ≡ d.world.packets ++ more → FlightStands e.world.packets new.flight
@@ -273,7 +247,10 @@ module _ {R : Type 0} {g : Ghosts R} where
 
     -- the facts of the target behind it
     shown : (h : Doubted) (m : Node) (packets : List Packet) (gathered : Option Gathering) → EffectAt s d h m (d.world.links s) (d.world.headers s) (d.after s) packets gathered → fact_over (worked_for h s).world s ≡ over_of m (d.world.links s) d.world.sites
-    shown h m packets gathered eff = worked_shown d s h m packets gathered eff
+    shown h m packets gathered eff =
+        let noted = worked_effect s d h m (d.world.links s) (d.world.headers s) (d.after s) packets gathered eff in
+        ap (λ (k : Node). over_of k ((worked_for h s).world.links s) (worked_for h s).world.sites) noted.is.node ∙ ap (λ (k : ℕ). over_of (worked m) ((worked_for h s).world.links s) k) noted.site.sites
+        ∙ over_same (worked m) (d.world.links s) ((worked_for h s).world.links s) d.world.sites noted.is.links ∙ over_burnt m (d.world.links s) d.world.sites
 
     abbrev Ends : Doubted → Said → Type 0
     Ends h said = LinkEnds (IsTold new) d (Deliver number) [] said (worked_for h s)

@@ -13,8 +13,6 @@ use Rattle.vx_history.specs.declared.event.Event.TheVariants.{Link as LinkAt}
 use Rattle.vx_history.specs.declared.event.LinkPart.TheVariants.{Joins}
 use Rattle.vx_history.specs.declared.event.Said.TheVariants.{Done as IsDone}
 use Rattle.vx_srlfmt.specs.Headers.{CanSpellState}
-use Rattle.vx_script.specs.declared.line.ScriptLine.{ScriptLine}
-use Rattle.vx_script.specs.declared.line.ScriptLine.TheVariants.{Link}
 use Rattle.vx_diskset.specs.Holds.{header_links, state_with}
 use Rattle.vx_effects.specs.LinkParts.{kept_over}
 use Rattle.vx_events.specs.Facts.{site_number}
@@ -55,8 +53,3 @@ pub record IsLinking (d : Doubted) (first second : List ℕ) (p s : ℕ) (sync :
   pub number_too : site_number d.world second ≡ s
   pub said : (step d.world (LinkAt p s sync FailsWhenFull Joins)).said ≡ IsDone
   pub are : AreLinkStates d.world p s sync states
-
--- a line that links no sites
-abbrev pub LinksNone : ScriptLine → Type 0
-LinksNone (Link first second sync prot) = ⊥
-LinksNone other = Unit {0}

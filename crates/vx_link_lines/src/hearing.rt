@@ -20,7 +20,6 @@ ghost use Rattle.vx_diskset.specs.Asked.{HeadUnder};
 ghost use Rattle.vx_diskset.specs.Holds.{KeptBeside, beside_of, header_links, state_with};
 ghost use Rattle.vx_diskset.specs.Stands.{SiteStands};
 ghost use Rattle.vx_joins.specs.Hearings.{IsListening, world_behind};
-ghost use Rattle.vx_yard.specs.AboveLines.{LeadsLinkedIs};
 ghost use Rattle.vx_yard.specs.Carries.{Carries};
 ghost use Rattle.vx_yard.specs.OfSites.{AllSameFailing, OfSite, heard_calls};
 ghost use Rattle.vx_yard.specs.Replies.{refusal_in};
@@ -127,9 +126,7 @@ pub(crate) fn hear_answer<R: Rack>(
     requires few { target < MOST_SITES }
     ensures leads { (d : Doubted) (p : Packet) → StandsFor d yard.old → is_over_rvg (d.world.nodes target) ≡ false → Carries d yard.old → GoodFor d yard.old → packet_at d.world.packets number ≡ Some p → p.target ≡ target
         → p.source ≡ source → target < d.world.sites → is_answer p.message ≡ true → LeadsIs d (Deliver number) yard.old yard.new result }
-    ensures above { (d : Doubted) (p : Packet) → StandsFor d yard.old → is_over_rvg (d.world.nodes target) ≡ true → Carries d yard.old → GoodFor d yard.old → packet_at d.world.packets number ≡ Some p
-        → p.target ≡ target → p.source ≡ source → target < d.world.sites → is_answer p.message ≡ true → LeadsLinkedIs d (Deliver number) yard.old yard.new result }
-    ensures asked { (d : Doubted) → StandsFor d yard.old → is_over_rvg (d.world.nodes target) ≡ false → target < d.world.sites → AllSameFailing yard.old yard.new }
+    ensures asked { (d : Doubted) → StandsFor d yard.old → target < d.world.sites → AllSameFailing yard.old yard.new }
     // One header where the link comes to count more as stored, and else no call.
     ensures called { (d : Doubted) (p : Packet) → StandsFor d yard.old → is_over_rvg (d.world.nodes target) ≡ false → Carries d yard.old → packet_at d.world.packets number ≡ Some p → p.target ≡ target → p.source ≡ source → target < d.world.sites
         → is_answer p.message ≡ true → IfOk result (λ said. OfSite (HeadUnder (heard_calls d.world number target source) said) target yard.old yard.new) }

@@ -50,8 +50,8 @@ pub(crate) fn make_link<R: Rack>(
         → (d.world.nodes here).group ≡ None → (d.world.nodes there).session ≡ session → (step d.world (LinkAt here there sync FailsWhenFull Made)).said ≡ IsDone
         → state.now ≡ state_with (d.world.nodes here) (header_links (step d.world (LinkAt here there sync FailsWhenFull Made)).world here)
         → HeadedSo note d (LinkAt here there sync FailsWhenFull Made) here yard.old yard.new result }
-    ensures asked { (d : Doubted) → StandsFor d yard.old → here < d.world.sites → (d.world.nodes here).group ≡ None → OfSite SameFailing here yard.old yard.new }
-    ensures called { (d : Doubted) → StandsFor d yard.old → here < d.world.sites → (d.world.nodes here).group ≡ None → OfSite (HeadUnder 2 (part_said result)) here yard.old yard.new }
+    ensures asked { (d : Doubted) → StandsFor d yard.old → here < d.world.sites → OfSite SameFailing here yard.old yard.new }
+    ensures called { (d : Doubted) → StandsFor d yard.old → here < d.world.sites → OfSite (HeadUnder 2 (part_said result)) here yard.old yard.new }
     ensures many { length yard.new.facts.items ≡ length yard.old.facts.items }
     ensures disk_sets { length yard.new.disk_sets.items ≡ length yard.old.disk_sets.items }
     ensures flight { yard.new.flight ≡ yard.old.flight }
@@ -83,8 +83,8 @@ pub(crate) fn mark_site<R: Rack>(
     ensures heads { (d : Doubted) (note : (ℕ → Node) → ℕ → Node) (here : ℕ) (sync : SyncValue) → NotesAt there note → StandsFor (noted_by note d) yard.old → LinksFit d → there < d.world.sites
         → (d.world.nodes there).group ≡ None → (step d.world (LinkAt here there sync FailsWhenFull Marked)).said ≡ IsDone → state.now ≡ record (state_with (d.world.nodes there) (header_links d.world there)) { mark = Consistent }
         → HeadedSo note d (LinkAt here there sync FailsWhenFull Marked) there yard.old yard.new result }
-    ensures asked { (d : Doubted) → StandsFor d yard.old → there < d.world.sites → (d.world.nodes there).group ≡ None → OfSite SameFailing there yard.old yard.new }
-    ensures called { (d : Doubted) → StandsFor d yard.old → there < d.world.sites → (d.world.nodes there).group ≡ None → OfSite (HeadUnder 2 (part_said result)) there yard.old yard.new }
+    ensures asked { (d : Doubted) → StandsFor d yard.old → there < d.world.sites → OfSite SameFailing there yard.old yard.new }
+    ensures called { (d : Doubted) → StandsFor d yard.old → there < d.world.sites → OfSite (HeadUnder 2 (part_said result)) there yard.old yard.new }
     ensures many { length yard.new.facts.items ≡ length yard.old.facts.items }
     ensures disk_sets { length yard.new.disk_sets.items ≡ length yard.old.disk_sets.items }
     ensures flight { yard.new.flight ≡ yard.old.flight }
@@ -119,8 +119,8 @@ pub(crate) fn open_link<R: Rack>(
         → (d.world.nodes here).group ≡ None → (d.world.nodes here).safe ≡ last → (step d.world (LinkAt here there sync FailsWhenFull Opened)).said ≡ IsDone
         → state.now ≡ state_with (d.world.nodes here) (header_links (step d.world (LinkAt here there sync FailsWhenFull Opened)).world here)
         → HeadedSo note d (LinkAt here there sync FailsWhenFull Opened) here yard.old yard.new result }
-    ensures asked { (d : Doubted) → StandsFor d yard.old → here < d.world.sites → (d.world.nodes here).group ≡ None → OfSite SameFailing here yard.old yard.new }
-    ensures called { (d : Doubted) → StandsFor d yard.old → here < d.world.sites → (d.world.nodes here).group ≡ None → OfSite (HeadUnder 2 (part_said result)) here yard.old yard.new }
+    ensures asked { (d : Doubted) → StandsFor d yard.old → here < d.world.sites → OfSite SameFailing here yard.old yard.new }
+    ensures called { (d : Doubted) → StandsFor d yard.old → here < d.world.sites → OfSite (HeadUnder 2 (part_said result)) here yard.old yard.new }
     ensures many { length yard.new.facts.items ≡ length yard.old.facts.items }
     ensures disk_sets { length yard.new.disk_sets.items ≡ length yard.old.disk_sets.items }
     ensures flight { yard.new.flight ≡ yard.old.flight }

@@ -2,8 +2,6 @@
 ghost use Rattle.std.specs.Prelude.{◌≡◌, IfOk, IsOk, false, true};
 ghost use Rattle.vx_history.specs.Doubts.{Doubted};
 ghost use Rattle.vx_events.specs.RvgLinks.{links_rvg};
-ghost use Rattle.vx_link_lines.specs.Linking.{LinksNone};
-ghost use Rattle.vx_yard.specs.AboveLines.{LeadsLinkedIs};
 ghost use Rattle.vx_yard.specs.Carries.{Carries};
 ghost use Rattle.vx_yard.specs.LinkLines.{is_on_links};
 ghost use Rattle.vx_yard.specs.OfSites.{AsAsked, HasCalled};
@@ -37,8 +35,6 @@ pub fn work_link<R: Rack>(
     requires kept { IsYardKept yard.old }
     requires free { IsFree yard.old words.now }
     ensures leads { (d : Doubted) → StandsFor d yard.old → links_rvg d.world words.now ≡ false → Carries d yard.old → LeadsIs d words.now yard.old yard.new result }
-    // Where a site of it is over a group of disks with a replicated volume group; of one that links sites nothing is said yet.
-    ensures above { (d : Doubted) → StandsFor d yard.old → links_rvg d.world words.now ≡ true → Carries d yard.old → LinksNone words.now → LeadsLinkedIs d words.now yard.old yard.new result }
     ensures asked { (d : Doubted) → StandsFor d yard.old → links_rvg d.world words.now ≡ false → AsAsked d.world words.now yard.old yard.new }
     ensures called { (d : Doubted) → StandsFor d yard.old → links_rvg d.world words.now ≡ false → IfOk result (λ said. HasCalled d.world words.now said yard.old yard.new) }
     // Memory is short for no line that takes none.

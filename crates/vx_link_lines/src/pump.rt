@@ -1,9 +1,8 @@
 // The line that sends what the receiver of a link may lack.
-ghost use Rattle.std.specs.Prelude.{◌≡◌, IfOk, false, true};
+ghost use Rattle.std.specs.Prelude.{◌≡◌, IfOk, false};
 ghost use Rattle.vx_history.specs.Doubts.{Doubted};
 ghost use Rattle.vx_events.specs.RvgLinks.{links_rvg};
 ghost use Rattle.vx_script.specs.declared.line.ScriptLine.TheVariants.{Pump};
-ghost use Rattle.vx_yard.specs.AboveLines.{LeadsLinkedIs};
 ghost use Rattle.vx_yard.specs.Carries.{Carries};
 ghost use Rattle.vx_yard.specs.OfSites.{AsAsked, HasCalled};
 ghost use Rattle.vx_yard.specs.Standing.{LeadsIs, StandsFor};
@@ -28,8 +27,7 @@ pub fn pump_line<R: Rack>(
     requires kept { IsYardKept yard.old }
     requires free { IsFree yard.old (Pump first.now second.now) }
     ensures leads { (d : Doubted) → StandsFor d yard.old → links_rvg d.world (Pump first.now second.now) ≡ false → Carries d yard.old → LeadsIs d (Pump first.now second.now) yard.old yard.new result }
-    ensures above { (d : Doubted) → StandsFor d yard.old → links_rvg d.world (Pump first.now second.now) ≡ true → Carries d yard.old → LeadsLinkedIs d (Pump first.now second.now) yard.old yard.new result }
-    ensures asked { (d : Doubted) → StandsFor d yard.old → links_rvg d.world (Pump first.now second.now) ≡ false → AsAsked d.world (Pump first.now second.now) yard.old yard.new }
+    ensures asked { (d : Doubted) → StandsFor d yard.old → AsAsked d.world (Pump first.now second.now) yard.old yard.new }
     ensures called { (d : Doubted) → StandsFor d yard.old → links_rvg d.world (Pump first.now second.now) ≡ false → IfOk result (λ said. HasCalled d.world (Pump first.now second.now) said yard.old yard.new) }
     ensures told { IsTold yard.new → IsTold yard.old }
     ensures files { in_files yard.new ≡ in_files yard.old }

@@ -15,7 +15,6 @@ ghost use Rattle.vx_model.specs.declared.site.SiteState.TheVariants.{Up};
 ghost use Rattle.vx_net.specs.Flights.{greatest_packet};
 ghost use Rattle.vx_packet.specs.Messages.{IsCounted};
 ghost use Rattle.vx_script.specs.declared.line.ScriptLine.TheVariants.{Apply};
-ghost use Rattle.vx_yard.specs.AboveLines.{LeadsAboveIs};
 ghost use Rattle.vx_yard.specs.Carries.{Carries};
 ghost use Rattle.vx_yard.specs.OfSites.{AsAsked, HasCalled};
 ghost use Rattle.vx_yard.specs.Standing.{LeadsIs, StandsFor};
@@ -76,8 +75,6 @@ pub(crate) fn apply_received<R: Rack>(
     requires free { IsFree yard.old (Apply name.now count) }
     ensures leads { (d : Doubted) (s : ℕ) → StandsFor d yard.old → is_for_rvg d.world (Apply name.now count) ≡ false → Carries d yard.old → seat_of yard.old.facts.items name.now ≡ Some s → is_origin (d.world.nodes s).role ≡ false
         → LeadsIs d (Apply name.now count) yard.old yard.new result }
-    ensures above { (d : Doubted) (s : ℕ) → StandsFor d yard.old → is_for_rvg d.world (Apply name.now count) ≡ true → Carries d yard.old → seat_of yard.old.facts.items name.now ≡ Some s → is_origin (d.world.nodes s).role ≡ false
-        → LeadsAboveIs d (Apply name.now count) yard.old yard.new result }
     ensures asked { (d : Doubted) → StandsFor d yard.old → is_for_rvg d.world (Apply name.now count) ≡ false → AsAsked d.world (Apply name.now count) yard.old yard.new }
     ensures called { (d : Doubted) → StandsFor d yard.old → is_for_rvg d.world (Apply name.now count) ≡ false → IfOk result (λ said. HasCalled d.world (Apply name.now count) said yard.old yard.new) }
     ensures told { IsTold yard.new → IsTold yard.old }

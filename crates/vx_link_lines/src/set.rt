@@ -1,5 +1,5 @@
 // The line that gives a link another setting.
-ghost use Rattle.std.specs.Prelude.{◌≡◌, ◌<◌, IfOk, IfSome, false, length, true};
+ghost use Rattle.std.specs.Prelude.{◌≡◌, ◌<◌, IfOk, IfSome, false, length};
 ghost use Rattle.vx_model.specs.declared.link.Prot.TheVariants.{Fail as FailsWhenFull};
 ghost use Rattle.vx_model.specs.declared.link.Prot.{Prot};
 ghost use Rattle.vx_model.specs.declared.site.SiteState.TheVariants.{Up as UpState};
@@ -16,7 +16,6 @@ ghost use Rattle.vx_diskset.specs.Stands.{SiteStands};
 ghost use Rattle.vx_events.specs.GroupLines.{is_over_group};
 ghost use Rattle.vx_events.specs.RvgLinks.{links_rvg};
 ghost use Rattle.vx_events.specs.StepsOver.{facts_over};
-ghost use Rattle.vx_yard.specs.AboveLines.{LeadsLinkedIs};
 ghost use Rattle.vx_yard.specs.OfSites.{AsAsked, HasCalled};
 ghost use Rattle.vx_yard.specs.Standing.{LeadsIs, StandsFor};
 ghost use Rattle.vx_yard.specs.Working.{IsFree};
@@ -70,7 +69,6 @@ pub(crate) fn set_line<R: Rack>(
     requires kept { IsYardKept yard.old }
     requires free { (prot : Prot) × IsFree yard.old (Set first.now second.now sync prot) }
     ensures leads { (d : Doubted) (prot : Prot) → StandsFor d yard.old → links_rvg d.world (Set first.now second.now sync prot) ≡ false → LeadsIs d (Set first.now second.now sync prot) yard.old yard.new result }
-    ensures above { (d : Doubted) (prot : Prot) → StandsFor d yard.old → links_rvg d.world (Set first.now second.now sync prot) ≡ true → LeadsLinkedIs d (Set first.now second.now sync prot) yard.old yard.new result }
     // It makes no disk fail, and touches no other site.
     ensures asked { (d : Doubted) (prot : Prot) → StandsFor d yard.old → links_rvg d.world (Set first.now second.now sync prot) ≡ false → AsAsked d.world (Set first.now second.now sync prot) yard.old yard.new }
     // It is one header, and no other call.

@@ -7,5 +7,4 @@ pub mod Delivers
 pub mod Hears
 pub mod Links
 pub mod MorePackets
-pub mod Asking
 pub mod GatherWaits

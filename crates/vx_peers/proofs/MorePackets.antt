@@ -1,5 +1,4 @@
 -- What is under way behind a call is what was, and some packets more.
-use Rattle.std.specs.Prelude.{None, Some}
 use Rattle.std.proofs.Common.{◌≡◌, ◌⊎◌, inl, inr, ◌+◌, ◌<◌, ℕ, List, [], ◌++◌, length, sym, subst, map, refl, arith}
 use Rattle.std.proofs.lemmas.List.{append-nil, length-map}
 use Rattle.vx_model.specs.declared.call.Update.{Update}
@@ -7,14 +6,14 @@ use Rattle.vx_model.specs.declared.history.Line.{Line}
 use Rattle.vx_history.specs.Sends.{packets_of, updates}
 use Rattle.vx_history.specs.World.{NetAck, Packet}
 use Rattle.vx_history.specs.declared.sender.Action.{Action}
-use Rattle.vx_history.specs.declared.sender.Action.TheVariants.{Ignored, Nothing, Taken, Updates}
+use Rattle.vx_history.specs.declared.sender.Action.TheVariants.{Ignored, Nothing, Taken}
 use Rattle.vx_courier.specs.UnderWay.{FlightStands}
 use Rattle.vx_net.specs.Flights.{Flying, greatest_packet}
 use Rattle.vx_packet.specs.declared.message.Envelope.{Envelope}
 use Rattle.vx_rvg.specs.Contents.{write_of_update}
 use Rattle.vx_rvg.specs.Views.{Core}
 use Rattle.vx_peers.specs.Receivers.{SendsOn, acks_of}
-use Rattle.vx_peers.specs.Senders.{AsksFor, Sends, SendsBy, SendsRange}
+use Rattle.vx_peers.specs.Senders.{Sends, SendsBy, SendsRange}
 
 -- nothing was sent
 pub more_none : (f f' : Flying) → f' ≡ f → Sends [] f f'
@@ -37,12 +36,3 @@ pub none_asked : (a : Action) (e : Envelope) (f : Flying) → (a ≡ Nothing) �
 none_asked a e f (inl nothing) = subst (λ (b : Action). SendsBy b e f f) (sym nothing) refl
 none_asked a e f (inr (inl ignored)) = subst (λ (b : Action). SendsBy b e f f) (sym ignored) refl
 none_asked a e f (inr (inr taken)) = subst (λ (b : Action). SendsBy b e f f) (sym taken) refl
-
--- and what it sends
-pub asks_none : (a : Action) → (a ≡ Nothing) ⊎ ((a ≡ Ignored) ⊎ (a ≡ Taken)) → AsksFor a None
-asks_none a (inl nothing) = subst (λ (b : Action). AsksFor b None) (sym nothing) refl
-asks_none a (inr (inl ignored)) = subst (λ (b : Action). AsksFor b None) (sym ignored) refl
-asks_none a (inr (inr taken)) = subst (λ (b : Action). AsksFor b None) (sym taken) refl
-
-pub asks_some : (a : Action) (from to : ℕ) → a ≡ Updates from to → AsksFor a (Some (from, to))
-asks_some a from to is = subst (λ (b : Action). AsksFor b (Some (from, to))) (sym is) refl

@@ -1,5 +1,5 @@
 -- The sending end of a link, over the group of its site.
-use Rattle.std.specs.Prelude.{◌≡◌, ℕ, ◌+◌, ◌-◌, ◌<◌, List, ◌++◌, map, take, drop, length, true, Option, None, Some, slice_get, IsTrue}
+use Rattle.std.specs.Prelude.{◌≡◌, ℕ, ◌+◌, ◌-◌, ◌<◌, List, ◌++◌, map, take, drop, length, true, Option, Some, slice_get, IsTrue}
 use Rattle.vx_model.specs.Content.{Write}
 use Rattle.vx_model.specs.declared.call.Update.{Update}
 use Rattle.vx_model.specs.declared.errors.Stop.{Stop}
@@ -81,11 +81,6 @@ pump_asks l safe = (sent_step l Pump (record { safe = safe; line_ok = true })).a
 -- the link as its rule leaves it behind a pump, at a site with so many durable writes
 abbrev pub pumped_at : PlainLink → (safe : ℕ) → PlainLink
 pumped_at l safe = (sent_step l Pump (record { safe = safe; line_ok = true })).link
-
--- the first and the last number of the updates that an action sends
-abbrev pub AsksFor : Action → Option (ℕ × ℕ) → Type 0
-AsksFor (Updates from to) r = r ≡ Some (from, to)
-AsksFor other r = r ≡ None
 
 -- ---- refusals of a read
 

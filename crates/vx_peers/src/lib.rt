@@ -10,5 +10,4 @@ mod sending;
 
 pub use answering::{deliver_answer, heard_link};
 pub use delivering::deliver_update;
-pub use pumping::{asked, pump, send_read};
-pub use reading::read_updates;
+pub use pumping::pump;

@@ -1,5 +1,5 @@
 // What a site sends on a link as it is pumped.
-ghost use Rattle.std.specs.Prelude.{◌≡◌, ◌≢◌, ◌+◌, ◌<◌, ◌≤◌, ℕ, length, map, None, OnOk, OnErr, IfErr, IfSome, IsTrue, true, ◌&&◌};
+ghost use Rattle.std.specs.Prelude.{◌≡◌, ◌≢◌, ◌+◌, ◌<◌, ◌≤◌, ℕ, None, OnOk, OnErr, IfErr, IsTrue, true, ◌&&◌};
 ghost use Rattle.vx_courier.specs.UnderWay.{FlightStands};
 ghost use Rattle.vx_disk.specs.Causes.{OnDisks};
 ghost use Rattle.vx_disk.specs.Disks.{Untouched};
@@ -7,15 +7,12 @@ ghost use Rattle.vx_disk.specs.Shelf.{Goes, Nothing};
 ghost use Rattle.vx_history.specs.Admission.{is_live_link};
 ghost use Rattle.vx_history.specs.LinkForms.{plain_link};
 ghost use Rattle.vx_history.specs.Sending.{by_log};
-ghost use Rattle.vx_history.specs.Sends.{updates as updates_of};
 ghost use Rattle.vx_history.specs.World.{World};
 ghost use Rattle.vx_history.specs.declared.sender.Action.TheVariants.{Nothing as SendsNothing};
 ghost use Rattle.vx_history.specs.declared.sender.SEvent.TheVariants.{Pump};
-ghost use Rattle.vx_model.specs.declared.limits.TheConstants.{MOST_NUMBER};
 ghost use Rattle.vx_packet.specs.Messages.{IsCounted};
-ghost use Rattle.vx_peers.specs.Senders.{AsksFor, BlamesStop, LinkMoved, ReadCause, Sends, SendsBy, SendsFrom, SendsRange, SentRange, pump_asks, pumped_at, way_from};
+ghost use Rattle.vx_peers.specs.Senders.{BlamesStop, LinkMoved, ReadCause, SendsBy, SendsFrom, SendsRange, SentRange, pump_asks, pumped_at, way_from};
 ghost use Rattle.vx_disk.specs.Spends.{Spends};
-ghost use Rattle.vx_rvg.specs.Contents.{write_of_update};
 ghost use Rattle.vx_rvg.specs.Holdings.{Holding};
 ghost use Rattle.vx_rvg.specs.Stands.{Stands};
 ghost use Rattle.vx_rvg.specs.Views.{last_of};
@@ -24,7 +21,7 @@ use crate::reading::read_updates;
 use crate::sending::send_updates;
 use std::alloc::Global;
 use vx_disk::Shelf;
-use vx_model::{Line, Link, Stop, Update};
+use vx_model::{Link, Stop};
 use vx_net::Net;
 use vx_packet::Envelope;
 use vx_rvg::Rvg;
@@ -122,51 +119,4 @@ pub fn pump<S: Shelf, N: Net>(
             Ok(())
         }
     }
-}
-
-/// Brings a link to where its rule has it as it is pumped, at a site with so many durable writes, and answers the first and the last number of the
-/// updates that it then sends, where there are any.
-pub fn asked(link: &mut Link, safe: u64) -> Option<(u64, u64)>
-    ensures link { link.new ≡ pumped_at link.old safe }
-    ensures asks { AsksFor (pump_asks link.old safe) result }
-    ensures lies { IfSome result (λ x. (x.0 ≤ x.1) × (x.1 ≤ safe) × (link.old.stored < x.0) × ((is_live_link link.old && by_log link.old.mode) ≡ true)) }
-{
-    let facts = SFacts {
-        safe,
-        line_ok: true,
-    };
-    match vx_sender::step(link, &SEvent::Pump, &facts) {
-        Action::Nothing | Action::Ignored | Action::Taken => None,
-        Action::Updates { from, to } => Some((from, to)),
-    }
-}
-
-/// Sends updates of a line that were read, the first under this number, from a site to another one. It answers want of memory where they are more
-/// than are ever sent, and then sends none.
-pub fn send_read<N: Net>(
-    flight: &mut N,
-    source: u32,
-    target: u32,
-    line: Line,
-    first: u64,
-    updates: &[Update],
-) -> Result<(), Stop>
-    requires generation { IsCounted line.generation }
-    requires numbers { first + length updates.now ≤ MOST_NUMBER + 1 }
-    ensures flies { OnOk result (Sends (updates_of source target line first (map write_of_update updates.now)) (N.flying flight.old) (N.flying flight.new)) }
-    ensures unsent { OnErr result (N.flying flight.new ≡ N.flying flight.old) }
-    ensures short { IfErr result (λ e. e ≡ Stop.OutOfMemory) }
-{
-    let count = updates.len() as u64;
-    // So many packets are never sent.
-    if count >= 0x1_0000_0000 || flight.count() >= 0x4000_0000_0000_0000 {
-        return Err(Stop::OutOfMemory);
-    }
-    let envelope = Envelope {
-        source,
-        target,
-        line,
-    };
-    send_updates(flight, &envelope, first, updates);
-    Ok(())
 }

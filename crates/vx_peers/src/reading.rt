@@ -42,7 +42,7 @@ fn blank() -> Update {
 /// The writes that a group's log holds under these numbers, the first and as many as `count`. It changes nothing.
 ///
 /// It takes memory for them. Refusals: 7 where a device call failed, 6 where the shelf is down, 22 for a record with another digest.
-pub fn read_updates<S: Shelf>(
+pub(crate) fn read_updates<S: Shelf>(
     alloc: Global,
     rvg: &mut Rvg<S>,
     first: u64,

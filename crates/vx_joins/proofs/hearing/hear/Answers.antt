@@ -18,7 +18,7 @@ use Rattle.vx_joins.proofs.StoresLink.{heard_not, heard_ok, none_above, part_hea
 use Rattle.vx_joins.proofs.hearing.hear.Goals as goal
 
 pub returns-in-Err-clause-heard : goal.returns-in-Err-clause-heard
-returns-in-Err-clause-heard g c = λ d p site at target answers one flight listening link assembly stands state.
+returns-in-Err-clause-heard g c = λ d p site at target answers one flight listening link assembly stands state raw.
     let f = g.N.Net.flying c.args.flight.now in
     let a = c.args.assembly.now in
     subst
@@ -30,13 +30,13 @@ returns-in-Err-clause-heard g c = λ d p site at target answers one flight liste
     let listens = (let l : Listens (d.world.nodes p.target) (d.world.links p.target p.source) c.last-safe.result c.args.state.now.line =
     record { up = listening.up; running = listening.running; keeps = listening.keeps; linked = listening.linked; safe_is = safe; line_is = line } in l) in
     let heard = c.heard_link-heard.ensures d.world p p.target at refl answers flight listens link in
-    let stored = c.in-Err.ensures.kept (beside_of d p.target) (d.world.nodes p.target) stands listening.up listening.running listening.apart state (none_above d c.args.number p at answers f flight c.last-safe.result c.args.state.now.line listens listening.plain c.args.link.now c.heard_link-heard.result link heard) in
+    let stored = c.in-Err.ensures.kept (beside_of d p.target) (d.world.nodes p.target) stands raw listening.up listening.running listening.apart state (none_above d c.args.number p at answers f flight c.last-safe.result c.args.state.now.line listens listening.plain c.args.link.now c.heard_link-heard.result link heard) in
     heard_not d c.args.number p at answers f flight c.last-safe.result c.args.state.now.line listens listening.plain c.args.disks.now c.keep_stored.new.disks c.args.link.now a c.in-Err.stop
     (stored_as d c.args.number p at answers f flight c.last-safe.result c.args.state.now.line listens listening.plain c.args.disks.now c.keep_stored.new.disks c.args.link.now c.heard_link-heard.result (Err c.in-Err.stop) link heard stored))
     listening link stands state
 
 pub returns-in-Ok-clause-heard : goal.returns-in-Ok-clause-heard
-returns-in-Ok-clause-heard g c = λ d p site at target answers one flight listening link assembly stands state.
+returns-in-Ok-clause-heard g c = λ d p site at target answers one flight listening link assembly stands state raw.
     let f = g.N.Net.flying c.args.flight.now in
     let new = c.deliver_answer.new.assembly in
     let moved = c.deliver_answer.new.link in
@@ -50,7 +50,7 @@ returns-in-Ok-clause-heard g c = λ d p site at target answers one flight listen
     let listens = (let l : Listens (d.world.nodes p.target) (d.world.links p.target p.source) c.last-safe.result c.args.state.now.line =
     record { up = listening.up; running = listening.running; keeps = listening.keeps; linked = listening.linked; safe_is = safe; line_is = line } in l) in
     let heard = c.heard_link-heard.ensures d.world p p.target at refl answers flight listens link in
-    let stored = c.in-Ok.ensures.kept (beside_of d p.target) (d.world.nodes p.target) stands listening.up listening.running listening.apart state (none_above d c.args.number p at answers f flight c.last-safe.result c.args.state.now.line listens listening.plain c.args.link.now c.heard_link-heard.result link heard) in
+    let stored = c.in-Ok.ensures.kept (beside_of d p.target) (d.world.nodes p.target) stands raw listening.up listening.running listening.apart state (none_above d c.args.number p at answers f flight c.last-safe.result c.args.state.now.line listens listening.plain c.args.link.now c.heard_link-heard.result link heard) in
     let answered = c.deliver_answer.ensures.exact d.world p p.target at refl answers one flight listens link assembly in
     heard_ok d c.args.number p at answers f flight c.last-safe.result c.args.state.now.line listens listening.plain c.args.disks.now c.keep_stored.new.disks moved new said
     (stored_as d c.args.number p at answers f flight c.last-safe.result c.args.state.now.line listens listening.plain c.args.disks.now c.keep_stored.new.disks c.args.link.now c.heard_link-heard.result (Ok tt) link heard stored)
@@ -58,13 +58,13 @@ returns-in-Ok-clause-heard g c = λ d p site at target answers one flight listen
     listening link assembly stands state
 
 pub returns-in-Err-clause-called : goal.returns-in-Err-clause-called
-returns-in-Err-clause-called g c = λ beside n stands raw. c.in-Err.ensures.called beside n stands raw
+returns-in-Err-clause-called g c = λ beside n stands. c.in-Err.ensures.called beside n stands
 
 pub returns-in-Ok-clause-called : goal.returns-in-Ok-clause-called
-returns-in-Ok-clause-called g c = λ beside n stands raw. c.in-Ok.ensures.called beside n stands raw
+returns-in-Ok-clause-called g c = λ beside n stands. c.in-Ok.ensures.called beside n stands
 
 pub returns-in-Err-clause-part : goal.returns-in-Err-clause-part
-returns-in-Err-clause-part g c = λ d p site at target answers flight listening link stands state.
+returns-in-Err-clause-part g c = λ d p site at target answers flight listening link stands state raw.
     let f = g.N.Net.flying c.args.flight.now in
     subst
     (λ (t : ℕ). IsListening (d.world.nodes t) (d.world.links t p.source) → c.args.link.now ≡ plain_link p.source (d.world.links t p.source) → SiteStands (beside_of d t) (d.world.nodes t) c.args.disks.now
@@ -75,13 +75,13 @@ returns-in-Err-clause-part g c = λ d p site at target answers flight listening 
     let listens = (let l : Listens (d.world.nodes p.target) (d.world.links p.target p.source) c.last-safe.result c.args.state.now.line =
     record { up = listening.up; running = listening.running; keeps = listening.keeps; linked = listening.linked; safe_is = safe; line_is = line } in l) in
     let heard = c.heard_link-heard.ensures d.world p p.target at refl answers flight listens link in
-    let stored = c.in-Err.ensures.kept (beside_of d p.target) (d.world.nodes p.target) stands listening.up listening.running listening.apart state (none_above d c.args.number p at answers f flight c.last-safe.result c.args.state.now.line listens listening.plain c.args.link.now c.heard_link-heard.result link heard) in
+    let stored = c.in-Err.ensures.kept (beside_of d p.target) (d.world.nodes p.target) stands raw listening.up listening.running listening.apart state (none_above d c.args.number p at answers f flight c.last-safe.result c.args.state.now.line listens listening.plain c.args.link.now c.heard_link-heard.result link heard) in
     part_heard_not d c.args.number p at answers f flight c.last-safe.result c.args.state.now.line listens listening.plain c.args.disks.now c.keep_stored.new.disks c.args.link.now c.in-Err.stop
     (stored_as d c.args.number p at answers f flight c.last-safe.result c.args.state.now.line listens listening.plain c.args.disks.now c.keep_stored.new.disks c.args.link.now c.heard_link-heard.result (Err c.in-Err.stop) link heard stored))
     listening link stands state
 
 pub returns-in-Ok-clause-part : goal.returns-in-Ok-clause-part
-returns-in-Ok-clause-part g c = λ d p site at target answers flight listening link stands state.
+returns-in-Ok-clause-part g c = λ d p site at target answers flight listening link stands state raw.
     let f = g.N.Net.flying c.args.flight.now in
     let moved = c.deliver_answer.new.link in
     let said = c.deliver_answer.result in
@@ -94,7 +94,7 @@ returns-in-Ok-clause-part g c = λ d p site at target answers flight listening l
     let listens = (let l : Listens (d.world.nodes p.target) (d.world.links p.target p.source) c.last-safe.result c.args.state.now.line =
     record { up = listening.up; running = listening.running; keeps = listening.keeps; linked = listening.linked; safe_is = safe; line_is = line } in l) in
     let heard = c.heard_link-heard.ensures d.world p p.target at refl answers flight listens link in
-    let stored = c.in-Ok.ensures.kept (beside_of d p.target) (d.world.nodes p.target) stands listening.up listening.running listening.apart state (none_above d c.args.number p at answers f flight c.last-safe.result c.args.state.now.line listens listening.plain c.args.link.now c.heard_link-heard.result link heard) in
+    let stored = c.in-Ok.ensures.kept (beside_of d p.target) (d.world.nodes p.target) stands raw listening.up listening.running listening.apart state (none_above d c.args.number p at answers f flight c.last-safe.result c.args.state.now.line listens listening.plain c.args.link.now c.heard_link-heard.result link heard) in
     let answered = c.deliver_answer.ensures.part d.world p p.target at refl answers flight listens link in
     part_heard_ok d c.args.number p at answers f flight c.last-safe.result c.args.state.now.line listens listening.plain c.args.disks.now c.keep_stored.new.disks moved said
     (stored_as d c.args.number p at answers f flight c.last-safe.result c.args.state.now.line listens listening.plain c.args.disks.now c.keep_stored.new.disks c.args.link.now c.heard_link-heard.result (Ok tt) link heard stored)
@@ -119,7 +119,7 @@ returns-in-Err-clause-rises g c = λ d p site why at target answers flight liste
     listening link stands state
 
 pub returns-in-Ok-clause-headed : goal.returns-in-Ok-clause-headed
-returns-in-Ok-clause-headed g c = λ d p site at target answers flight listening link stands state raw some.
+returns-in-Ok-clause-headed g c = λ d p site at target answers flight listening link stands state some.
     subst
     (λ (t : ℕ). IsListening (d.world.nodes t) (d.world.links t p.source) → c.args.link.now ≡ plain_link p.source (d.world.links t p.source) → SiteStands (beside_of d t) (d.world.nodes t) c.args.disks.now
     → c.args.state.now ≡ state_with (d.world.nodes t) (header_links d.world t)
@@ -131,11 +131,11 @@ returns-in-Ok-clause-headed g c = λ d p site at target answers flight listening
     record { up = listening.up; running = listening.running; keeps = listening.keeps; linked = listening.linked; safe_is = safe; line_is = line } in l) in
     let heard = c.heard_link-heard.ensures d.world p p.target at refl answers flight listens link in
     stores_as c.args.link.now.stored (d.world.links p.target p.source).stored c.heard_link-heard.result.stored ((world_behind d.world c.args.number).links p.target p.source).stored (reply_by (let r : Result Said Stop = Ok c.deliver_answer.result in r))
-    c.args.disks.now c.keep_stored.new.disks (ap (λ (k : PlainLink). k.stored) link) (ap (λ (k : PlainLink). k.stored) heard) (c.in-Ok.ensures.headed (beside_of d p.target) (d.world.nodes p.target) stands raw (λ is. never_stops tt OutOfMemory is)))
+    c.args.disks.now c.keep_stored.new.disks (ap (λ (k : PlainLink). k.stored) link) (ap (λ (k : PlainLink). k.stored) heard) (c.in-Ok.ensures.headed (beside_of d p.target) (d.world.nodes p.target) stands (λ is. never_stops tt OutOfMemory is)))
     listening link stands state
 
 pub returns-in-Err-clause-headed : goal.returns-in-Err-clause-headed
-returns-in-Err-clause-headed g c = λ d p site at target answers flight listening link stands state raw some.
+returns-in-Err-clause-headed g c = λ d p site at target answers flight listening link stands state some.
     subst
     (λ (t : ℕ). IsListening (d.world.nodes t) (d.world.links t p.source) → c.args.link.now ≡ plain_link p.source (d.world.links t p.source) → SiteStands (beside_of d t) (d.world.nodes t) c.args.disks.now
     → c.args.state.now ≡ state_with (d.world.nodes t) (header_links d.world t)
@@ -147,5 +147,5 @@ returns-in-Err-clause-headed g c = λ d p site at target answers flight listenin
     record { up = listening.up; running = listening.running; keeps = listening.keeps; linked = listening.linked; safe_is = safe; line_is = line } in l) in
     let heard = c.heard_link-heard.ensures d.world p p.target at refl answers flight listens link in
     stores_as c.args.link.now.stored (d.world.links p.target p.source).stored c.heard_link-heard.result.stored ((world_behind d.world c.args.number).links p.target p.source).stored (reply_by (let r : Result Said Stop = Err c.in-Err.stop in r))
-    c.args.disks.now c.keep_stored.new.disks (ap (λ (k : PlainLink). k.stored) link) (ap (λ (k : PlainLink). k.stored) heard) (c.in-Err.ensures.headed (beside_of d p.target) (d.world.nodes p.target) stands raw (λ is. some (stop_under (Unit {0}) Said c.in-Err.stop OutOfMemory is))))
+    c.args.disks.now c.keep_stored.new.disks (ap (λ (k : PlainLink). k.stored) link) (ap (λ (k : PlainLink). k.stored) heard) (c.in-Err.ensures.headed (beside_of d p.target) (d.world.nodes p.target) stands (λ is. some (stop_under (Unit {0}) Said c.in-Err.stop OutOfMemory is))))
     listening link stands state

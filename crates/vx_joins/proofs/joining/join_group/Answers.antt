@@ -5,8 +5,7 @@ use Rattle.vx_disk.specs.Moves.{Moves}
 use Rattle.vx_rvg.specs.Saves.{RestartIs, change_blocks, restart_refusal, with_restart}
 use Rattle.vx_rvg.specs.Stands.{Saving}
 use Rattle.std.specs.Prelude.{Some}
-use Rattle.vx_diskset.proofs.Blamed.{disks_are}
-use Rattle.vx_joins.proofs.JoinGroup.{join_calls, join_cut, joined_as, may_join, none_applied}
+use Rattle.vx_joins.proofs.JoinGroup.{join_calls, join_cut, joined_as, none_applied}
 use Rattle.vx_joins.proofs.joining.join_group.Goals as goal
 
 pub returns-then-is_down-clause-joined : goal.returns-then-is_down-clause-joined
@@ -15,7 +14,7 @@ returns-then-is_down-clause-joined g c = λ beside a p n up can is.
     let old = c.args.rvg.now.core in
     let m = g.R.Shelf.meaning c.args.rvg.now.shelf in
     let new = g.R.Shelf.meaning c.change-answer.new.self.shelf in
-    join_cut a p n old c.change-answer.new.self.core m new up (may_join can) (lawful c.args.rvg.now.shelf) (lawful c.change-answer.new.self.shelf)
+    join_cut a p n old c.change-answer.new.self.core m new up can (lawful c.args.rvg.now.shelf) (lawful c.change-answer.new.self.shelf)
     (subst (λ (s : State). Moves (change_blocks (Some 0) old m) (Saving old (with_restart old s 0) m) m new) is c.change-answer.ensures.moves) (sym c.is_down.ensures ∙ c.if-is_down.true)
 
 pub returns-clause-joined : goal.returns-clause-joined
@@ -25,16 +24,16 @@ returns-clause-joined g c = λ beside a p n up can is.
     let old = c.args.rvg.now.core in
     let m = g.R.Shelf.meaning c.args.rvg.now.shelf in
     let new = g.R.Shelf.meaning c.change-answer.new.self.shelf in
-    joined_as a p n old c.change-answer.new.self.core m new up (may_join can) (lawful c.args.rvg.now.shelf) (lawful c.change-answer.new.self.shelf)
+    joined_as a p n old c.change-answer.new.self.core m new up can (lawful c.args.rvg.now.shelf) (lawful c.change-answer.new.self.shelf)
     (subst (λ (s : State). Moves (change_blocks (Some 0) old m) (Saving old (with_restart old s 0) m) m new) is c.change-answer.ensures.moves) (sym c.is_down.ensures ∙ c.if-is_down.false) c.change-answer.new.self.sound.log_unit
-    c.args.rvg.now.sound.log_unit (λ none. disks_are m (is_rack c.args.rvg.now.shelf)) c.ring-ring.ensures.run c.change-answer.result
+    c.args.rvg.now.sound.log_unit (is_rack c.args.rvg.now.shelf) c.ring-ring.ensures.run c.change-answer.result
     (subst (λ (s : State). RestartIs (restart_refusal old 0) old (with_restart old s 0) m new c.change-answer.new.self.core c.change-answer.result) is c.change-answer.ensures.answers)
     (λ some. ap g.R.Shelf.meaning (c.change-answer.ensures.unchanged some)) c.change-answer.ensures.stands
-    (c.change-answer.ensures.blames (none_applied n old m up (may_join can)))
+    (c.change-answer.ensures.blames (none_applied n old m up can))
 
 pub returns-then-is_down-clause-short : goal.returns-then-is_down-clause-short
 returns-then-is_down-clause-short g c = λ beside n up can.
-    c.change-answer.ensures.short (none_applied n c.args.rvg.now.core (g.R.Shelf.meaning c.args.rvg.now.shelf) up (may_join can))
+    c.change-answer.ensures.short (none_applied n c.args.rvg.now.core (g.R.Shelf.meaning c.args.rvg.now.shelf) up can)
 
 pub returns-clause-calls : goal.returns-clause-calls
 returns-clause-calls g c =
@@ -42,7 +41,7 @@ returns-clause-calls g c =
 
 pub returns-clause-short : goal.returns-clause-short
 returns-clause-short g c = λ beside n up can.
-    c.change-answer.ensures.short (none_applied n c.args.rvg.now.core (g.R.Shelf.meaning c.args.rvg.now.shelf) up (may_join can))
+    c.change-answer.ensures.short (none_applied n c.args.rvg.now.core (g.R.Shelf.meaning c.args.rvg.now.shelf) up can)
 
 pub returns-clause-works : goal.returns-clause-works
 returns-clause-works g c = c.change-answer.ensures.works

@@ -9,9 +9,8 @@ use Rattle.vx_yard.specs.OfSites.{HasCalled, OfSite, TouchesNone, heard_calls}
 use Rattle.vx_link_lines.proofs.DeliverCalls.{answer_calls, if_ok_then, unsited_calls, update_calls}
 use Rattle.vx_link_lines.proofs.DeliverLine.{found, kind_answer, kind_update, never_lost, packet_kept, sites_many}
 use Rattle.vx_link_lines.proofs.HeardLine.{unsited_stays}
-use Rattle.vx_link_lines.proofs.RawParts.{target_off, target_over, target_past}
+use Rattle.vx_link_lines.proofs.RawParts.{target_off}
 use Rattle.vx_yard.proofs.OfSites.{all_still}
-use Rattle.vx_yard.proofs.OverGroup.{both_ways}
 use Rattle.vx_link_lines.proofs.deliver.deliver_line.Goals as goal
 
 pub returns-in_default-clause-leads : goal.returns-in_default-clause-leads
@@ -20,7 +19,7 @@ returns-in_default-clause-leads g c = λ d stands off carries good.
     absurd (never_lost c.part_at.result (packet_at d.world.packets c.args.number) q.0 (c.part_at.ensures d.world.packets carries.flight) q.1 c.in_default.is)
 
 pub returns-in_default-clause-asked : goal.returns-in_default-clause-asked
-returns-in_default-clause-asked g c = λ d stands none. all_still c.args.yard.now _ refl
+returns-in_default-clause-asked g c = λ d stands off. all_still c.args.yard.now _ refl
 
 pub returns-in_default-clause-told : goal.returns-in_default-clause-told
 returns-in_default-clause-told g c = λ told. told
@@ -36,7 +35,7 @@ returns-then-target-len-clause-leads g c = λ d stands off carries good.
     unsited_stays d c.args.number f.packet y f.at stands past
 
 pub returns-then-target-len-clause-asked : goal.returns-then-target-len-clause-asked
-returns-then-target-len-clause-asked g c = λ d stands none. all_still c.args.yard.now _ refl
+returns-then-target-len-clause-asked g c = λ d stands off. all_still c.args.yard.now _ refl
 
 pub returns-then-target-len-clause-told : goal.returns-then-target-len-clause-told
 returns-then-target-len-clause-told g c = λ told. told
@@ -69,7 +68,7 @@ returns-then-part-eq-UPDATE-clause-leads g c = λ d stands off carries good.
     c.hand_update.ensures.leads d f.packet update.0 update.1 stands (target_off d.world (packet_at d.world.packets c.args.number) f.packet c.in-Some.part.target f.at f.to below off) carries good f.at f.to below update.2
 
 pub returns-then-part-eq-UPDATE-clause-asked : goal.returns-then-part-eq-UPDATE-clause-asked
-returns-then-part-eq-UPDATE-clause-asked g c = λ d stands none. c.hand_update.ensures.asked
+returns-then-part-eq-UPDATE-clause-asked g c = λ d stands off. c.hand_update.ensures.asked
 
 pub returns-then-part-eq-UPDATE-clause-told : goal.returns-then-part-eq-UPDATE-clause-told
 returns-then-part-eq-UPDATE-clause-told g c = c.hand_update.ensures.told
@@ -98,9 +97,9 @@ returns-clause-leads g c = λ d stands off carries good.
     c.hear_answer.ensures.leads d f.packet stands (target_off d.world (packet_at d.world.packets c.args.number) f.packet c.in-Some.part.target f.at f.to below off) carries good f.at f.to f.from below (kind_answer f.packet (λ e. omega (arith, c.if-part-eq-UPDATE.false, kind, e)))
 
 pub returns-clause-asked : goal.returns-clause-asked
-returns-clause-asked g c = λ d stands none.
+returns-clause-asked g c = λ d stands off.
     let y = c.args.yard.now in
-    c.hear_answer.ensures.asked d stands (none c.in-Some.part.target) (omega (arith, c.if-target-len.false, c.len.ensures, y.facts.ok, sites_many d y stands))
+    c.hear_answer.ensures.asked d stands (omega (arith, c.if-target-len.false, c.len.ensures, y.facts.ok, sites_many d y stands))
 
 pub returns-clause-told : goal.returns-clause-told
 returns-clause-told g c = c.hear_answer.ensures.told
@@ -144,34 +143,3 @@ returns-clause-called g c = λ d stands off carries.
     if_ok_then (λ said. OfSite (HeadUnder (heard_calls d.world c.args.number t q) said) t y new) (λ said. HasCalled d.world (Deliver c.args.number) said y new) c.hear_answer.result
     (λ said calls. answer_calls d.world c.args.number f.packet said y new t f.at f.to below q f.from answers calls)
     (c.hear_answer.ensures.called d f.packet stands (target_off d.world (packet_at d.world.packets c.args.number) f.packet c.in-Some.part.target f.at f.to below off) carries f.at f.to f.from below answers)
-
--- ---- of a target over a group of disks with a replicated volume group
-
-pub returns-in_default-clause-above : goal.returns-in_default-clause-above
-returns-in_default-clause-above g c = λ d stands over carries good.
-    let q = packet_kept d c.args.yard.now c.args.number carries c.requires.free in
-    absurd (never_lost c.part_at.result (packet_at d.world.packets c.args.number) q.0 (c.part_at.ensures d.world.packets carries.flight) q.1 c.in_default.is)
-
-pub returns-then-target-len-clause-above : goal.returns-then-target-len-clause-above
-returns-then-target-len-clause-above g c = λ d stands over carries good.
-    let y = c.args.yard.now in
-    let f = found d y c.args.number c.part_at.result c.in-Some.part carries c.requires.free (c.part_at.ensures d.world.packets carries.flight) c.in-Some.is in
-    let past : d.world.sites ≤ f.packet.target = omega (arith, c.if-target-len.true, c.len.ensures, y.facts.ok, sites_many d y stands, f.to) in
-    absurd (both_ways over (target_past d.world (packet_at d.world.packets c.args.number) f.packet f.at past))
-
-pub returns-then-part-eq-UPDATE-clause-above : goal.returns-then-part-eq-UPDATE-clause-above
-returns-then-part-eq-UPDATE-clause-above g c = λ d stands over carries good.
-    let y = c.args.yard.now in
-    let f = found d y c.args.number c.part_at.result c.in-Some.part carries c.requires.free (c.part_at.ensures d.world.packets carries.flight) c.in-Some.is in
-    let kind = ap (λ (x : Part). x.kind) f.is in
-    let update = kind_update f.packet (omega (arith, c.if-part-eq-UPDATE.true, kind)) in
-    let below : c.in-Some.part.target < d.world.sites = omega (arith, c.if-target-len.false, c.len.ensures, y.facts.ok, sites_many d y stands) in
-    c.hand_update.ensures.above d f.packet update.0 update.1 stands (target_over d.world (packet_at d.world.packets c.args.number) f.packet c.in-Some.part.target f.at f.to below over) carries good f.at f.to below update.2
-
-pub returns-clause-above : goal.returns-clause-above
-returns-clause-above g c = λ d stands over carries good.
-    let y = c.args.yard.now in
-    let f = found d y c.args.number c.part_at.result c.in-Some.part carries c.requires.free (c.part_at.ensures d.world.packets carries.flight) c.in-Some.is in
-    let kind = ap (λ (x : Part). x.kind) f.is in
-    let below : c.in-Some.part.target < d.world.sites = omega (arith, c.if-target-len.false, c.len.ensures, y.facts.ok, sites_many d y stands) in
-    c.hear_answer.ensures.above d f.packet stands (target_over d.world (packet_at d.world.packets c.args.number) f.packet c.in-Some.part.target f.at f.to below over) carries good f.at f.to f.from below (kind_answer f.packet (λ e. omega (arith, c.if-part-eq-UPDATE.false, kind, e)))

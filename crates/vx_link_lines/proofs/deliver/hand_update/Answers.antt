@@ -1,6 +1,6 @@
 -- The packet of an update at its target, case by case.
-use Rattle.std.proofs.Common.{◌≡◌, ◌∙◌, ◌<◌, ℕ, ap, false, true, sym, subst, refl, arith}
-use Rattle.std.specs.Prelude.{Err, Some, slice_get, slice_set}
+use Rattle.std.proofs.Common.{◌≡◌, ◌∙◌, ◌<◌, ℕ, ap, false, sym, subst, refl, arith}
+use Rattle.std.specs.Prelude.{Some, slice_get, slice_set}
 use Rattle.std.proofs.lemmas.Result.{err_from_is_err_and}
 use Rattle.vx_history.specs.Events.{delivered, packet_at}
 use Rattle.vx_history.specs.Fits.{WriteFits}
@@ -10,23 +10,21 @@ use Rattle.vx_events.proofs.Places.{some_same}
 use Rattle.vx_script.specs.declared.line.ScriptLine.TheVariants.{Deliver}
 use Rattle.vx_diskset.specs.Holds.{beside_of}
 use Rattle.vx_diskset.specs.Stands.{RoleIs, SiteStands}
-use Rattle.vx_diskset.proofs.NotedLikes.{noted_stays}
 use Rattle.vx_joins.proofs.TakesUpdate.{alone_same, later_same}
 use Rattle.vx_joins.proofs.UpdatesFit.{are_one, update_fits}
 use Rattle.vx_joins.specs.Deliveries.{DeliveredTo, TookTo}
 use Rattle.vx_world.proofs.Doubting.{world_good}
-use Rattle.vx_link_lines.proofs.Behind.{behind_ignored, behind_short, behind_taken, ignored_above, taken_above}
-use Rattle.vx_yard.proofs.OverGroup.{noted_off, receives_apart}
+use Rattle.vx_link_lines.proofs.Behind.{behind_ignored, behind_short, behind_taken}
+use Rattle.vx_yard.proofs.OverGroup.{receives_apart}
 use Rattle.vx_yard.proofs.ChangeSite.{told_before}
-use Rattle.vx_link_lines.proofs.Deaf.{deaf_leads, fact_at, ignored_by, last_received, none_start, took_ignored}
+use Rattle.vx_link_lines.proofs.Deaf.{deaf_leads, fact_at, last_received, none_start, took_ignored}
 use Rattle.vx_yard.proofs.Leads.{room_receives}
 use Rattle.vx_yard.proofs.FailsStay.{alone_keeps}
 use Rattle.vx_events.specs.declared.said.Said.TheVariants.{Ignored, Refused, Taken}
 use Rattle.vx_events.specs.RvgViews.{is_over_rvg}
 use Rattle.vx_yard.specs.OfSites.{TouchesNone}
 use Rattle.vx_link_lines.proofs.DeliverCalls.{no_answer, waits_alone}
-use Rattle.vx_link_lines.proofs.HeardAbove.{unheard_above}
-use Rattle.vx_link_lines.proofs.LinkAbove.{stays_linked}
+use Rattle.vx_link_lines.proofs.RawParts.{raw_there}
 use Rattle.vx_yard.proofs.OfSites.{all_of_site, all_still, site_still}
 use Rattle.vx_yard.proofs.Lists.{get-set_same, get_at, length-set, set_same}
 use Rattle.vx_link_lines.proofs.deliver.hand_update.Goals as goal
@@ -66,8 +64,7 @@ returns-in_err-said-clause-leads g c = λ d p k x stands off carries good at to 
     let fed = get_at old.feeders.items t c.index_mut-2.result.now c.requires.feeder c.index_mut-2.ensures.value in
     let was = get_at old.assemblies.items t c.index_mut-3.result.now c.requires.place c.index_mut-3.ensures.value in
     behind_short d (Deliver c.args.number) old _ before after t c.from_residual.result _ (err_from_is_err_and c.from_residual.result c.from_residual.ensures.1).1 stands below
-    (record { there = there; later = c.deliver_update.ensures.later; disk_sets = refl; racks = refl }) c.deliver_update.ensures.still (c.deliver_update.ensures.role.kept (d.world.nodes t) (stands.roles.each t before below there))
-    (λ _. noted_off (beside_of d t) (d.world.nodes t) (d.world.nodes t) after (c.in_err-said.ensures.stands (beside_of d t) (d.world.nodes t) (stands.disk_sets.sites t before below there)) off) c.in_err-said.ensures.stands refl
+    (record { there = there; later = c.deliver_update.ensures.later; disk_sets = refl; racks = refl }) c.deliver_update.ensures.still (c.deliver_update.ensures.role.kept (d.world.nodes t) (stands.roles.each t before below there)) off c.in_err-said.ensures.stands refl
     (record {
       flight = c.in_err-said.ensures.unsent;
       assemblies = ap (λ b. slice_set old.assemblies.items t b) c.in_err-said.ensures.assembly ∙ set_same old.assemblies.items t c.index_mut-3.result.now was;
@@ -88,27 +85,29 @@ returns-in-Taken-clause-leads g c = λ d p k x stands off carries good at to bel
     let same_before = some_same (sym (get_at old.disk_sets.items t c.index.result.now c.requires.disk_set c.index.ensures) ∙ there) in
     let here = stands.disk_sets.sites t before below there in
     let role = stands.roles.each t before below there in
+    let raw = raw_there d old t before stands below there off in
     let opens = room_receives (beside_of d t) (d.world.nodes t) c.index.result.now c.receives.result c.receives.ensures c.if-not-receives.false (subst (λ e. SiteStands (beside_of d t) (d.world.nodes t) e) (sym same_before) here) in
     let fed = carries.feeders t c.index_mut-2.result.now (get_at old.feeders.items t c.index_mut-2.result.now c.requires.feeder c.index_mut-2.ensures.value) opens.0 opens.1 in
     let told = told_before old.disk_sets.items t before after there c.deliver_update.ensures.later in
     let up = subst (λ (i : ℕ). (d.world.nodes i).state ≡ Up) (sym to) opens.0 in
-    let took = c.in_ok-said.ensures.took d p k x at to message carries.flight here role fed in
+    let took = c.in_ok-said.ensures.took d p k x at to message carries.flight here role raw fed in
     let last = c.received-last.result in
     let seen = c.index_mut-in-Taken.result.now in
     let shown = fact_at d old t seen stands below (receives_apart (beside_of d t) (d.world.nodes t) before here opens.1) (get_at old.facts.items t seen c.requires.site c.index_mut-in-Taken.ensures.value) in
     let same_after = some_same (sym (get-set_same old.disk_sets.items t after c.requires.disk_set)
     ∙ get_at (slice_set old.disk_sets.items t after) t c.index-in-Taken.result.now (omega (arith, c.requires.disk_set, length-set old.disk_sets.items t after)) c.index-in-Taken.ensures) in
-    behind_taken d c.args.number p k x old _ before after feeder was a stands at message t to c.deliver_update.ensures.still off last
+    behind_taken d c.args.number p k x old _ before after feeder was a stands at message c.deliver_update.ensures.still t to last
     (record {
       below = below;
       changed = record { there = there; later = c.deliver_update.ensures.later; disk_sets = refl; racks = refl };
       role = c.deliver_update.ensures.role.kept (d.world.nodes t) role;
+      off = off;
       handed = record { assemblies = refl; feeders = refl; below = c.requires.few; told = told };
       took = subst (λ r. TookTo d.world c.args.number p k (beside_of d t) after feeder was a old.flight flight r) c.in-Taken.is took;
       exact = λ tells.
           let world = world_good d (good (told tells)) in
           subst (λ r. DeliveredTo (delivered d.world c.args.number (packet_at d.world.packets c.args.number)) (beside_of d t) t after feeder a flight r) c.in-Taken.is
-          (c.in_ok-said.ensures.delivered d p k x at to message (are_one d.world world) carries.flight here role fed
+          (c.in_ok-said.ensures.delivered d p k x at to message (are_one d.world world) carries.flight here role raw fed
           (carries.assemblies (told tells) t was (get_at old.assemblies.items t was c.requires.place c.index_mut-3.ensures.value))
           (subst (λ (i : ℕ). p.line ≡ (d.world.nodes i).line → WriteFits (d.world.nodes i) x) to (update_fits d.world c.args.number p k x world at message up)));
       receives = opens.1;
@@ -139,58 +138,25 @@ returns-in_default g c = record {
       let same_before = some_same (sym (get_at old.disk_sets.items t c.index.result.now c.requires.disk_set c.index.ensures) ∙ there) in
       let here = stands.disk_sets.sites t before below there in
       let role = stands.roles.each t before below there in
+      let raw = raw_there d old t before stands below there off in
       let opens = room_receives (beside_of d t) (d.world.nodes t) c.index.result.now c.receives.result c.receives.ensures c.if-not-receives.false (subst (λ e. SiteStands (beside_of d t) (d.world.nodes t) e) (sym same_before) here) in
       let fed = carries.feeders t c.index_mut-2.result.now (get_at old.feeders.items t c.index_mut-2.result.now c.requires.feeder c.index_mut-2.ensures.value) opens.0 opens.1 in
       let told = told_before old.disk_sets.items t before after there c.deliver_update.ensures.later in
       let up = subst (λ (i : ℕ). (d.world.nodes i).state ≡ Up) (sym to) opens.0 in
-      let took = c.in_ok-said.ensures.took d p k x at to message carries.flight here role fed in
+      let took = c.in_ok-said.ensures.took d p k x at to message carries.flight here role raw fed in
       let ignored = took_ignored d.world c.args.number p k (beside_of d t) after feeder was a old.flight flight c.in_ok-said.said took c.in_default.not-Taken in
-      behind_ignored d c.args.number p k x old _ before after feeder was a stands at message t to c.deliver_update.ensures.still off
+      behind_ignored d c.args.number p k x old _ before after feeder was a stands at message c.deliver_update.ensures.still t to
       (record {
         below = below;
         changed = record { there = there; later = c.deliver_update.ensures.later; disk_sets = refl; racks = refl };
         role = c.deliver_update.ensures.role.kept (d.world.nodes t) role;
+        off = off;
         handed = record { assemblies = refl; feeders = refl; below = c.requires.few; told = told };
         took = subst (λ r. TookTo d.world c.args.number p k (beside_of d t) after feeder was a old.flight flight r) ignored took;
         exact = λ tells.
             let world = world_good d (good (told tells)) in
             subst (λ r. DeliveredTo (delivered d.world c.args.number (packet_at d.world.packets c.args.number)) (beside_of d t) t after feeder a flight r) ignored
-            (c.in_ok-said.ensures.delivered d p k x at to message (are_one d.world world) carries.flight here role fed
-            (carries.assemblies (told tells) t was (get_at old.assemblies.items t was c.requires.place c.index_mut-3.ensures.value))
-            (subst (λ (i : ℕ). p.line ≡ (d.world.nodes i).line → WriteFits (d.world.nodes i) x) to (update_fits d.world c.args.number p k x world at message up)));
-        receives = opens.1;
-        none = none_start (d.world.nodes t) (d.world.links t) d.world.sites (stands.links.starts t) opens.1;
-      }) refl;
-  above = λ d p k x stands over carries good at to below message.
-      let old = c.args.yard.now in
-      let t = c.args.target in
-      let before = c.index_mut.result.now in
-      let after = c.deliver_update.new.disks in
-      let feeder = c.deliver_update.new.fed_by in
-      let was = c.index_mut-3.result.now in
-      let a = c.deliver_update.new.assembly in
-      let flight = c.deliver_update.new.flight in
-      let there = get_at old.disk_sets.items t before c.requires.disk_set c.index_mut.ensures.value in
-      let same_before = some_same (sym (get_at old.disk_sets.items t c.index.result.now c.requires.disk_set c.index.ensures) ∙ there) in
-      let here = stands.disk_sets.sites t before below there in
-      let role = stands.roles.each t before below there in
-      let opens = room_receives (beside_of d t) (d.world.nodes t) c.index.result.now c.receives.result c.receives.ensures c.if-not-receives.false (subst (λ e. SiteStands (beside_of d t) (d.world.nodes t) e) (sym same_before) here) in
-      let fed = carries.feeders t c.index_mut-2.result.now (get_at old.feeders.items t c.index_mut-2.result.now c.requires.feeder c.index_mut-2.ensures.value) opens.0 opens.1 in
-      let told = told_before old.disk_sets.items t before after there c.deliver_update.ensures.later in
-      let up = subst (λ (i : ℕ). (d.world.nodes i).state ≡ Up) (sym to) opens.0 in
-      let took = c.in_ok-said.ensures.took d p k x at to message carries.flight here role fed in
-      let ignored = took_ignored d.world c.args.number p k (beside_of d t) after feeder was a old.flight flight c.in_ok-said.said took c.in_default.not-Taken in
-      ignored_above d c.args.number p k x old _ before after feeder was a stands at message t to c.deliver_update.ensures.notes over opens.0
-      (record {
-        below = below;
-        changed = record { there = there; later = c.deliver_update.ensures.later; disk_sets = refl; racks = refl };
-        role = c.deliver_update.ensures.role.kept (d.world.nodes t) role;
-        handed = record { assemblies = refl; feeders = refl; below = c.requires.few; told = told };
-        took = subst (λ r. TookTo d.world c.args.number p k (beside_of d t) after feeder was a old.flight flight r) ignored took;
-        exact = λ tells.
-            let world = world_good d (good (told tells)) in
-            subst (λ r. DeliveredTo (delivered d.world c.args.number (packet_at d.world.packets c.args.number)) (beside_of d t) t after feeder a flight r) ignored
-            (c.in_ok-said.ensures.delivered d p k x at to message (are_one d.world world) carries.flight here role fed
+            (c.in_ok-said.ensures.delivered d p k x at to message (are_one d.world world) carries.flight here role raw fed
             (carries.assemblies (told tells) t was (get_at old.assemblies.items t was c.requires.place c.index_mut-3.ensures.value))
             (subst (λ (i : ℕ). p.line ≡ (d.world.nodes i).line → WriteFits (d.world.nodes i) x) to (update_fits d.world c.args.number p k x world at message up)));
         receives = opens.1;
@@ -207,83 +173,6 @@ returns-in_default g c = record {
     did = alone_keeps c.index_mut.result.now c.deliver_update.new.disks c.deliver_update.ensures.still;
   });
 }
-
--- ---- over a group of disks with a replicated volume group
-
-pub returns-then-not-receives-clause-above : goal.returns-then-not-receives-clause-above
-returns-then-not-receives-clause-above g c = λ d p k x stands over carries good at to below message.
-    let old = c.args.yard.now in
-    let t = c.args.target in
-    let e = c.index.result.now in
-    let there = get_at old.disk_sets.items t e c.requires.disk_set c.index.ensures in
-    unheard_above d c.args.number p at old e stands (subst (λ (i : ℕ). i < d.world.sites) (sym to) below) (subst (λ (i : ℕ). slice_get old.disk_sets.items i ≡ Some e) (sym to) there)
-    (subst (λ (i : ℕ). is_over_rvg (d.world.nodes i) ≡ true) (sym to) over)
-    (ignored_by d c.args.number p k x at message (beside_of d p.target) e c.receives.result c.receives.ensures c.if-not-receives.true (subst (λ (i : ℕ). RoleIs (d.world.nodes i) e) (sym to) (stands.roles.each t e below there))
-    (subst (λ (i : ℕ). SiteStands (beside_of d i) (d.world.nodes i) e) (sym to) (stands.disk_sets.sites t e below there)))
-
-pub returns-in_err-said-clause-above : goal.returns-in_err-said-clause-above
-returns-in_err-said-clause-above g c = λ d p k x stands over carries good at to below message.
-    let old = c.args.yard.now in
-    let t = c.args.target in
-    let before = c.index_mut.result.now in
-    let after = c.deliver_update.new.disks in
-    let there = get_at old.disk_sets.items t before c.requires.disk_set c.index_mut.ensures.value in
-    let fed = get_at old.feeders.items t c.index_mut-2.result.now c.requires.feeder c.index_mut-2.ensures.value in
-    let was = get_at old.assemblies.items t c.index_mut-3.result.now c.requires.place c.index_mut-3.ensures.value in
-    let short = err_from_is_err_and c.from_residual.result c.from_residual.ensures.1 in
-    stays_linked d (Deliver c.args.number) old _ c.from_residual.result short.0 short.1
-    (behind_short d (Deliver c.args.number) old _ before after t (Err short.0) short.0 refl stands below (record { there = there; later = c.deliver_update.ensures.later; disk_sets = refl; racks = refl }) c.deliver_update.ensures.still
-    (c.deliver_update.ensures.role.kept (d.world.nodes t) (stands.roles.each t before below there))
-    (noted_stays (d.world.nodes t) (d.world.nodes t) (record { name = refl; disks = refl; blocks = refl; volumes = refl; group = refl; state = refl; fuse = refl }) before after c.deliver_update.ensures.noted)
-    c.in_err-said.ensures.stands refl
-    (record {
-      flight = c.in_err-said.ensures.unsent;
-      assemblies = ap (λ b. slice_set old.assemblies.items t b) c.in_err-said.ensures.assembly ∙ set_same old.assemblies.items t c.index_mut-3.result.now was;
-      feeders = ap (λ b. slice_set old.feeders.items t b) c.in_err-said.ensures.fed_by ∙ set_same old.feeders.items t c.index_mut-2.result.now fed;
-    }) (told_before old.disk_sets.items t before after there c.deliver_update.ensures.later))
-
-pub returns-in-Taken-clause-above : goal.returns-in-Taken-clause-above
-returns-in-Taken-clause-above g c = λ d p k x stands over carries good at to below message.
-    let old = c.args.yard.now in
-    let t = c.args.target in
-    let before = c.index_mut.result.now in
-    let after = c.deliver_update.new.disks in
-    let feeder = c.deliver_update.new.fed_by in
-    let was = c.index_mut-3.result.now in
-    let a = c.deliver_update.new.assembly in
-    let flight = c.deliver_update.new.flight in
-    let there = get_at old.disk_sets.items t before c.requires.disk_set c.index_mut.ensures.value in
-    let same_before = some_same (sym (get_at old.disk_sets.items t c.index.result.now c.requires.disk_set c.index.ensures) ∙ there) in
-    let here = stands.disk_sets.sites t before below there in
-    let role = stands.roles.each t before below there in
-    let opens = room_receives (beside_of d t) (d.world.nodes t) c.index.result.now c.receives.result c.receives.ensures c.if-not-receives.false (subst (λ e. SiteStands (beside_of d t) (d.world.nodes t) e) (sym same_before) here) in
-    let fed = carries.feeders t c.index_mut-2.result.now (get_at old.feeders.items t c.index_mut-2.result.now c.requires.feeder c.index_mut-2.ensures.value) opens.0 opens.1 in
-    let told = told_before old.disk_sets.items t before after there c.deliver_update.ensures.later in
-    let up = subst (λ (i : ℕ). (d.world.nodes i).state ≡ Up) (sym to) opens.0 in
-    let took = c.in_ok-said.ensures.took d p k x at to message carries.flight here role fed in
-    let last = c.received-last.result in
-    let seen = c.index_mut-in-Taken.result.now in
-    let shown = fact_at d old t seen stands below (receives_apart (beside_of d t) (d.world.nodes t) before here opens.1) (get_at old.facts.items t seen c.requires.site c.index_mut-in-Taken.ensures.value) in
-    let same_after = some_same (sym (get-set_same old.disk_sets.items t after c.requires.disk_set)
-    ∙ get_at (slice_set old.disk_sets.items t after) t c.index-in-Taken.result.now (omega (arith, c.requires.disk_set, length-set old.disk_sets.items t after)) c.index-in-Taken.ensures) in
-    taken_above d c.args.number p k x old _ before after feeder was a stands at message t to c.deliver_update.ensures.notes over opens.0 last
-    (record {
-      below = below;
-      changed = record { there = there; later = c.deliver_update.ensures.later; disk_sets = refl; racks = refl };
-      role = c.deliver_update.ensures.role.kept (d.world.nodes t) role;
-      handed = record { assemblies = refl; feeders = refl; below = c.requires.few; told = told };
-      took = subst (λ r. TookTo d.world c.args.number p k (beside_of d t) after feeder was a old.flight flight r) c.in-Taken.is took;
-      exact = λ tells.
-          let world = world_good d (good (told tells)) in
-          subst (λ r. DeliveredTo (delivered d.world c.args.number (packet_at d.world.packets c.args.number)) (beside_of d t) t after feeder a flight r) c.in-Taken.is
-          (c.in_ok-said.ensures.delivered d p k x at to message (are_one d.world world) carries.flight here role fed
-          (carries.assemblies (told tells) t was (get_at old.assemblies.items t was c.requires.place c.index_mut-3.ensures.value))
-          (subst (λ (i : ℕ). p.line ≡ (d.world.nodes i).line → WriteFits (d.world.nodes i) x) to (update_fits d.world c.args.number p k x world at message up)));
-      receives = opens.1;
-      none = none_start (d.world.nodes t) (d.world.links t) d.world.sites (stands.links.starts t) opens.1;
-    })
-    (λ m stood running. c.received-last.ensures (beside_of d t) m (subst (λ e. SiteStands (beside_of d t) m e) same_after stood) running.0 running.1)
-    (ap (λ f. slice_set old.facts.items t f) (c.set_last.ensures ∙ last_received last seen ∙ ap (λ f. received_fact last f) shown))
 
 pub returns-then-not-receives-clause-asked : goal.returns-then-not-receives-clause-asked
 returns-then-not-receives-clause-asked g c = all_still c.args.yard.now _ refl

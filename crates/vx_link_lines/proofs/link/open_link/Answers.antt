@@ -14,7 +14,7 @@ use Rattle.vx_link_lines.proofs.LinkParts.{opened_header}
 use Rattle.vx_yard.proofs.OverGroup.{none_over}
 use Rattle.vx_yard.proofs.Lists.{get_at, length-set}
 use Rattle.vx_link_lines.proofs.PartLine.{part_done, part_refused}
-use Rattle.vx_link_lines.proofs.RawParts.{raw_noted, raw_part}
+use Rattle.vx_link_lines.proofs.RawParts.{raw_part}
 use Rattle.vx_link_lines.proofs.link.open_link.Goals as goal
 
 pub returns-in-Ok-clause-told : goal.returns-in-Ok-clause-told
@@ -36,8 +36,8 @@ returns-in-Ok-clause-heads g c = λ d note sync notes stands fit below alone las
     let apart = none_over (d.world.nodes s) alone in
     let raw = raw_part note s notes d old before stands below at alone in
     let shown = c.deref_mut.ensures.value ∙ stands.facts ∙ notes.shows d.world in
-    part_done note s notes d _ _ (opened_header d c.args.here c.args.there sync fit (none_over (d.world.nodes s) alone) said) alone old before stands below at _ c.keep.new.self (record { there = at; later = c.in-Ok.ensures.later; disk_sets = refl; racks = refl }) c.in-Ok.ensures.role c.args.state.now is
-    (λ beside m stood can. c.in-Ok.ensures.kept beside m stood can) (λ beside m stood. c.in-Ok.ensures.called beside m stood raw)
+    part_done note s notes d _ _ (opened_header d c.args.here c.args.there sync fit alone said) old before stands below at _ c.keep.new.self (record { there = at; later = c.in-Ok.ensures.later; disk_sets = refl; racks = refl }) c.in-Ok.ensures.role c.args.state.now is
+    (λ beside m stood can. c.in-Ok.ensures.kept beside m stood raw can) (λ beside m stood. c.in-Ok.ensures.called beside m stood)
     (with_items_is old.facts c.keep_opened.new.sites (c.keep_opened.auto.sites ∙ c.deref_mut.ensures.len) ∙ c.keep_opened.ensures.world d.world sync shown apart (fit.rows s).places last said)
     (record { flight = refl; assemblies = refl; feeders = refl })
 
@@ -48,14 +48,14 @@ returns-in-Err-clause-heads g c = λ d note sync notes stands fit below alone la
     let before = c.index_mut.result.now in
     let at = get_at old.disk_sets.items s before c.requires.disk_set c.index_mut.ensures.value in
     let raw = raw_part note s notes d old before stands below at alone in
-    part_refused note s notes d _ _ (opened_header d c.args.here c.args.there sync fit (none_over (d.world.nodes s) alone) said) alone old before stands below at _ c.keep.new.self (record { there = at; later = c.in-Err.ensures.later; disk_sets = refl; racks = refl }) c.in-Err.ensures.role c.args.state.now is
+    part_refused note s notes d _ _ (opened_header d c.args.here c.args.there sync fit alone said) old before stands below at _ c.keep.new.self (record { there = at; later = c.in-Err.ensures.later; disk_sets = refl; racks = refl }) c.in-Err.ensures.role c.args.state.now is
     c.in-Err.no c.refused.result c.index_mut-in-Err.result.now c.refused.new.facts c.refused.ensures.said
-    (λ beside m stood can. c.in-Err.ensures.kept beside m stood can) (λ beside m stood. c.in-Err.ensures.called beside m stood raw)
+    (λ beside m stood can. c.in-Err.ensures.kept beside m stood raw can) (λ beside m stood. c.in-Err.ensures.called beside m stood)
     (get_at old.facts.items s c.index_mut-in-Err.result.now c.requires.facts c.index_mut-in-Err.ensures.value) c.refused.ensures.noted refl
     (record { flight = refl; assemblies = c.let_go_if_down.ensures; feeders = refl })
 
 pub returns-in-Ok-clause-asked : goal.returns-in-Ok-clause-asked
-returns-in-Ok-clause-asked g c = λ d stands below none.
+returns-in-Ok-clause-asked g c = λ d stands below.
     let old = c.args.yard.now in
     let s = c.args.here in
     let before = c.index_mut.result.now in
@@ -65,11 +65,11 @@ returns-in-Ok-clause-asked g c = λ d stands below none.
       after = c.keep.new.self;
       there = at;
       disk_sets = refl;
-      did = calls_keep NoMore Done before c.keep.new.self (c.in-Ok.ensures.called (beside_of d s) (d.world.nodes s) (stands.disk_sets.sites s before below at) (raw_noted d old s before stands below at none));
+      did = calls_keep NoMore Done before c.keep.new.self (c.in-Ok.ensures.called (beside_of d s) (d.world.nodes s) (stands.disk_sets.sites s before below at));
     }
 
 pub returns-in-Err-clause-asked : goal.returns-in-Err-clause-asked
-returns-in-Err-clause-asked g c = λ d stands below none.
+returns-in-Err-clause-asked g c = λ d stands below.
     let old = c.args.yard.now in
     let s = c.args.here in
     let before = c.index_mut.result.now in
@@ -79,11 +79,11 @@ returns-in-Err-clause-asked g c = λ d stands below none.
       after = c.keep.new.self;
       there = at;
       disk_sets = refl;
-      did = calls_keep NoMore (Refused c.in-Err.no) before c.keep.new.self (c.in-Err.ensures.called (beside_of d s) (d.world.nodes s) (stands.disk_sets.sites s before below at) (raw_noted d old s before stands below at none));
+      did = calls_keep NoMore (Refused c.in-Err.no) before c.keep.new.self (c.in-Err.ensures.called (beside_of d s) (d.world.nodes s) (stands.disk_sets.sites s before below at));
     }
 
 pub returns-in-Ok-clause-called : goal.returns-in-Ok-clause-called
-returns-in-Ok-clause-called g c = λ d stands below none.
+returns-in-Ok-clause-called g c = λ d stands below.
     let old = c.args.yard.now in
     let s = c.args.here in
     let before = c.index_mut.result.now in
@@ -93,11 +93,11 @@ returns-in-Ok-clause-called g c = λ d stands below none.
       after = c.keep.new.self;
       there = at;
       disk_sets = refl;
-      did = c.in-Ok.ensures.headed (beside_of d s) (d.world.nodes s) (stands.disk_sets.sites s before below at) (raw_noted d old s before stands below at none);
+      did = c.in-Ok.ensures.headed (beside_of d s) (d.world.nodes s) (stands.disk_sets.sites s before below at);
     }
 
 pub returns-in-Err-clause-called : goal.returns-in-Err-clause-called
-returns-in-Err-clause-called g c = λ d stands below none.
+returns-in-Err-clause-called g c = λ d stands below.
     let old = c.args.yard.now in
     let s = c.args.here in
     let before = c.index_mut.result.now in
@@ -108,7 +108,7 @@ returns-in-Err-clause-called g c = λ d stands below none.
       there = at;
       disk_sets = refl;
       did = subst (λ (said : Said). HeadUnder 2 said before c.keep.new.self) (sym c.refused.ensures.said)
-          (c.in-Err.ensures.headed (beside_of d s) (d.world.nodes s) (stands.disk_sets.sites s before below at) (raw_noted d old s before stands below at none));
+          (c.in-Err.ensures.headed (beside_of d s) (d.world.nodes s) (stands.disk_sets.sites s before below at));
     }
 
 pub returns-in-Ok-clause-many : goal.returns-in-Ok-clause-many

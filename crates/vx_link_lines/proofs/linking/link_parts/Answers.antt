@@ -4,7 +4,7 @@ use Rattle.std.specs.Prelude.{Ok}
 use Rattle.vx_model.proofs.Lists.{get_there}
 use Rattle.vx_events.specs.declared.said.Said.TheVariants.{Done}
 use Rattle.vx_order.specs.declared.facts.LinkFacts.{LinkFacts}
-use Rattle.vx_link_lines.proofs.LinkEnding.{burns_done, burns_four, burns_one, burns_three, burns_two, under_one, under_three, under_two, comes_one, comes_three, comes_two, ends_done, ends_four, ends_one, ends_three, ends_two, below_one, below_three, below_two, raw_one, raw_three, raw_two}
+use Rattle.vx_link_lines.proofs.LinkEnding.{burns_done, burns_four, burns_one, burns_three, burns_two, under_one, under_three, under_two, comes_one, comes_three, comes_two, ends_done, ends_four, ends_one, ends_three, ends_two, below_one, below_three, below_two}
 use Rattle.vx_yard.proofs.OfSites.{all_of_site, all_then}
 use Rattle.vx_link_lines.proofs.linking.link_parts.Goals as goal
 
@@ -83,7 +83,7 @@ returns-in-Err-make_link-clause-asked g c = λ d first second prot stands l.
     let one = comes_one d first second prot c.args.here c.args.there c.args.sync c.args.states.now l c.args.yard.now stands c.join_site.new.yard (λ e note notes stood fit below first alone said is. c.in-Ok.ensures.heads e note c.args.sync notes stood fit below first alone said is) in
     (all_then c.args.yard.now c.join_site.new.yard c.make_link.new.yard
     (all_of_site c.args.there c.args.yard.now c.join_site.new.yard (c.in-Ok.ensures.asked d stands l.below_too))
-    (all_of_site c.args.here c.join_site.new.yard c.make_link.new.yard (c.in-Err-make_link.ensures.asked _ one.stands (below_one d first second prot c.args.here c.args.there c.args.sync c.args.states.now l c.args.yard.now stands c.args.here l.below) (raw_one d first second prot c.args.here c.args.there c.args.sync c.args.states.now l c.args.yard.now stands))))
+    (all_of_site c.args.here c.join_site.new.yard c.make_link.new.yard (c.in-Err-make_link.ensures.asked _ one.stands (below_one d first second prot c.args.here c.args.there c.args.sync c.args.states.now l c.args.yard.now stands c.args.here l.below))))
 
 pub returns-in-Err-make_link-clause-told : goal.returns-in-Err-make_link-clause-told
 returns-in-Err-make_link-clause-told g c = λ told. (c.in-Ok.ensures.told (c.in-Err-make_link.ensures.told told))
@@ -101,8 +101,8 @@ returns-in-Err-mark_site-clause-asked g c = λ d first second prot stands l.
     (all_then c.args.yard.now c.make_link.new.yard c.mark_site.new.yard
     (all_then c.args.yard.now c.join_site.new.yard c.make_link.new.yard
     (all_of_site c.args.there c.args.yard.now c.join_site.new.yard (c.in-Ok.ensures.asked d stands l.below_too))
-    (all_of_site c.args.here c.join_site.new.yard c.make_link.new.yard (c.in-Ok-make_link.ensures.asked _ one.stands (below_one d first second prot c.args.here c.args.there c.args.sync c.args.states.now l c.args.yard.now stands c.args.here l.below) (raw_one d first second prot c.args.here c.args.there c.args.sync c.args.states.now l c.args.yard.now stands))))
-    (all_of_site c.args.there c.make_link.new.yard c.mark_site.new.yard (c.in-Err-mark_site.ensures.asked _ two.stands (below_two d first second prot c.args.here c.args.there c.args.sync c.args.states.now l c.args.yard.now stands c.args.there l.below_too) (raw_two d first second prot c.args.here c.args.there c.args.sync c.args.states.now l c.args.yard.now stands))))
+    (all_of_site c.args.here c.join_site.new.yard c.make_link.new.yard (c.in-Ok-make_link.ensures.asked _ one.stands (below_one d first second prot c.args.here c.args.there c.args.sync c.args.states.now l c.args.yard.now stands c.args.here l.below))))
+    (all_of_site c.args.there c.make_link.new.yard c.mark_site.new.yard (c.in-Err-mark_site.ensures.asked _ two.stands (below_two d first second prot c.args.here c.args.there c.args.sync c.args.states.now l c.args.yard.now stands c.args.there l.below_too))))
 
 pub returns-in-Err-mark_site-clause-told : goal.returns-in-Err-mark_site-clause-told
 returns-in-Err-mark_site-clause-told g c = λ told. (c.in-Ok.ensures.told (c.in-Ok-make_link.ensures.told (c.in-Err-mark_site.ensures.told told)))
@@ -123,9 +123,9 @@ returns-in-Err-open_link-clause-asked g c = λ d first second prot stands l.
     (all_then c.args.yard.now c.make_link.new.yard c.mark_site.new.yard
     (all_then c.args.yard.now c.join_site.new.yard c.make_link.new.yard
     (all_of_site c.args.there c.args.yard.now c.join_site.new.yard (c.in-Ok.ensures.asked d stands l.below_too))
-    (all_of_site c.args.here c.join_site.new.yard c.make_link.new.yard (c.in-Ok-make_link.ensures.asked _ one.stands (below_one d first second prot c.args.here c.args.there c.args.sync c.args.states.now l c.args.yard.now stands c.args.here l.below) (raw_one d first second prot c.args.here c.args.there c.args.sync c.args.states.now l c.args.yard.now stands))))
-    (all_of_site c.args.there c.make_link.new.yard c.mark_site.new.yard (c.in-Ok-mark_site.ensures.asked _ two.stands (below_two d first second prot c.args.here c.args.there c.args.sync c.args.states.now l c.args.yard.now stands c.args.there l.below_too) (raw_two d first second prot c.args.here c.args.there c.args.sync c.args.states.now l c.args.yard.now stands))))
-    (all_of_site c.args.here c.mark_site.new.yard c.open_link.new.yard (c.in-Err-open_link.ensures.asked _ three.stands (below_three d first second prot c.args.here c.args.there c.args.sync c.args.states.now l c.args.yard.now stands c.args.here l.below) (raw_three d first second prot c.args.here c.args.there c.args.sync c.args.states.now l c.args.yard.now stands))))
+    (all_of_site c.args.here c.join_site.new.yard c.make_link.new.yard (c.in-Ok-make_link.ensures.asked _ one.stands (below_one d first second prot c.args.here c.args.there c.args.sync c.args.states.now l c.args.yard.now stands c.args.here l.below))))
+    (all_of_site c.args.there c.make_link.new.yard c.mark_site.new.yard (c.in-Ok-mark_site.ensures.asked _ two.stands (below_two d first second prot c.args.here c.args.there c.args.sync c.args.states.now l c.args.yard.now stands c.args.there l.below_too))))
+    (all_of_site c.args.here c.mark_site.new.yard c.open_link.new.yard (c.in-Err-open_link.ensures.asked _ three.stands (below_three d first second prot c.args.here c.args.there c.args.sync c.args.states.now l c.args.yard.now stands c.args.here l.below))))
 
 pub returns-in-Err-open_link-clause-told : goal.returns-in-Err-open_link-clause-told
 returns-in-Err-open_link-clause-told g c = λ told. (c.in-Ok.ensures.told (c.in-Ok-make_link.ensures.told (c.in-Ok-mark_site.ensures.told (c.in-Err-open_link.ensures.told told))))
@@ -137,9 +137,9 @@ returns-in-Ok-open_link-clause-leads g c = λ d first second prot stands l.
     let three = comes_three d first second prot c.args.here c.args.there c.args.sync c.args.states.now l c.args.yard.now stands c.make_link.new.yard c.mark_site.new.yard two (λ e note notes stood fit below alone said is. c.in-Ok-mark_site.ensures.heads e note c.args.here c.args.sync notes stood fit below alone said is) in
     let racks = (g.met.R.Rack g.world.𝓛 g.world.𝓜 g.world.𝓡 ((λ s x. x), (λ x. x), (λ x. x), λ x. x)).rack in
     let first_part = under_one d first second prot c.args.here c.args.there c.args.sync c.args.states.now l c.args.yard.now stands c.join_site.new.yard (Ok tt) (λ e note notes stood fit below alone said. c.in-Ok.ensures.called e note c.args.sync notes stood fit below alone said) in
-    let second_part = under_two d first second prot c.args.here c.args.there c.args.sync c.args.states.now l c.args.yard.now stands c.join_site.new.yard c.make_link.new.yard Done first_part (c.in-Ok-make_link.ensures.called _ one.stands (below_one d first second prot c.args.here c.args.there c.args.sync c.args.states.now l c.args.yard.now stands c.args.here l.below) (raw_one d first second prot c.args.here c.args.there c.args.sync c.args.states.now l c.args.yard.now stands)) in
-    let third_part = under_three d first second prot c.args.here c.args.there c.args.sync c.args.states.now l c.args.yard.now stands c.make_link.new.yard c.mark_site.new.yard Done second_part (c.in-Ok-mark_site.ensures.called _ two.stands (below_two d first second prot c.args.here c.args.there c.args.sync c.args.states.now l c.args.yard.now stands c.args.there l.below_too) (raw_two d first second prot c.args.here c.args.there c.args.sync c.args.states.now l c.args.yard.now stands)) in
-    let both = burns_done d first second prot c.args.here c.args.there c.args.sync c.args.states.now l c.args.yard.now stands c.mark_site.new.yard c.open_link.new.yard third_part (c.in-Ok-open_link.ensures.called _ three.stands (below_three d first second prot c.args.here c.args.there c.args.sync c.args.states.now l c.args.yard.now stands c.args.here l.below) (raw_three d first second prot c.args.here c.args.there c.args.sync c.args.states.now l c.args.yard.now stands)) in
+    let second_part = under_two d first second prot c.args.here c.args.there c.args.sync c.args.states.now l c.args.yard.now stands c.join_site.new.yard c.make_link.new.yard Done first_part (c.in-Ok-make_link.ensures.called _ one.stands (below_one d first second prot c.args.here c.args.there c.args.sync c.args.states.now l c.args.yard.now stands c.args.here l.below)) in
+    let third_part = under_three d first second prot c.args.here c.args.there c.args.sync c.args.states.now l c.args.yard.now stands c.make_link.new.yard c.mark_site.new.yard Done second_part (c.in-Ok-mark_site.ensures.called _ two.stands (below_two d first second prot c.args.here c.args.there c.args.sync c.args.states.now l c.args.yard.now stands c.args.there l.below_too)) in
+    let both = burns_done d first second prot c.args.here c.args.there c.args.sync c.args.states.now l c.args.yard.now stands c.mark_site.new.yard c.open_link.new.yard third_part (c.in-Ok-open_link.ensures.called _ three.stands (below_three d first second prot c.args.here c.args.there c.args.sync c.args.states.now l c.args.yard.now stands c.args.here l.below)) in
     ends_done d first second prot c.args.here c.args.there c.args.sync c.args.states.now l c.args.yard.now stands racks c.mark_site.new.yard c.open_link.new.yard three (λ e note notes stood fit below alone last said is. c.in-Ok-open_link.ensures.heads e note c.args.sync notes stood fit below alone last said is) both
 
 pub returns-in-Ok-open_link-clause-asked : goal.returns-in-Ok-open_link-clause-asked
@@ -151,9 +151,9 @@ returns-in-Ok-open_link-clause-asked g c = λ d first second prot stands l.
     (all_then c.args.yard.now c.make_link.new.yard c.mark_site.new.yard
     (all_then c.args.yard.now c.join_site.new.yard c.make_link.new.yard
     (all_of_site c.args.there c.args.yard.now c.join_site.new.yard (c.in-Ok.ensures.asked d stands l.below_too))
-    (all_of_site c.args.here c.join_site.new.yard c.make_link.new.yard (c.in-Ok-make_link.ensures.asked _ one.stands (below_one d first second prot c.args.here c.args.there c.args.sync c.args.states.now l c.args.yard.now stands c.args.here l.below) (raw_one d first second prot c.args.here c.args.there c.args.sync c.args.states.now l c.args.yard.now stands))))
-    (all_of_site c.args.there c.make_link.new.yard c.mark_site.new.yard (c.in-Ok-mark_site.ensures.asked _ two.stands (below_two d first second prot c.args.here c.args.there c.args.sync c.args.states.now l c.args.yard.now stands c.args.there l.below_too) (raw_two d first second prot c.args.here c.args.there c.args.sync c.args.states.now l c.args.yard.now stands))))
-    (all_of_site c.args.here c.mark_site.new.yard c.open_link.new.yard (c.in-Ok-open_link.ensures.asked _ three.stands (below_three d first second prot c.args.here c.args.there c.args.sync c.args.states.now l c.args.yard.now stands c.args.here l.below) (raw_three d first second prot c.args.here c.args.there c.args.sync c.args.states.now l c.args.yard.now stands))))
+    (all_of_site c.args.here c.join_site.new.yard c.make_link.new.yard (c.in-Ok-make_link.ensures.asked _ one.stands (below_one d first second prot c.args.here c.args.there c.args.sync c.args.states.now l c.args.yard.now stands c.args.here l.below))))
+    (all_of_site c.args.there c.make_link.new.yard c.mark_site.new.yard (c.in-Ok-mark_site.ensures.asked _ two.stands (below_two d first second prot c.args.here c.args.there c.args.sync c.args.states.now l c.args.yard.now stands c.args.there l.below_too))))
+    (all_of_site c.args.here c.mark_site.new.yard c.open_link.new.yard (c.in-Ok-open_link.ensures.asked _ three.stands (below_three d first second prot c.args.here c.args.there c.args.sync c.args.states.now l c.args.yard.now stands c.args.here l.below))))
 
 pub returns-in-Ok-open_link-clause-told : goal.returns-in-Ok-open_link-clause-told
 returns-in-Ok-open_link-clause-told g c = λ told. (c.in-Ok.ensures.told (c.in-Ok-make_link.ensures.told (c.in-Ok-mark_site.ensures.told (c.in-Ok-open_link.ensures.told told))))
@@ -167,16 +167,16 @@ returns-in-Err-make_link-clause-called g c = λ d first second prot stands l.
     let one = comes_one d first second prot c.args.here c.args.there c.args.sync c.args.states.now l c.args.yard.now stands c.join_site.new.yard (λ e note notes stood fit below first alone said is. c.in-Ok.ensures.heads e note c.args.sync notes stood fit below first alone said is) in
     let first_part = under_one d first second prot c.args.here c.args.there c.args.sync c.args.states.now l c.args.yard.now stands c.join_site.new.yard (Ok tt) (λ e note notes stood fit below alone said. c.in-Ok.ensures.called e note c.args.sync notes stood fit below alone said) in
     burns_two d first second prot c.args.here c.args.there c.args.sync c.args.states.now l c.args.yard.now stands c.join_site.new.yard c.make_link.new.yard c.in-Err-make_link.said one (λ e note notes stood fit below alone session said is. c.in-Err-make_link.ensures.heads e note notes stood fit below alone session said is) first_part
-    (c.in-Err-make_link.ensures.called _ one.stands (below_one d first second prot c.args.here c.args.there c.args.sync c.args.states.now l c.args.yard.now stands c.args.here l.below) (raw_one d first second prot c.args.here c.args.there c.args.sync c.args.states.now l c.args.yard.now stands))
+    (c.in-Err-make_link.ensures.called _ one.stands (below_one d first second prot c.args.here c.args.there c.args.sync c.args.states.now l c.args.yard.now stands c.args.here l.below))
 
 pub returns-in-Err-mark_site-clause-called : goal.returns-in-Err-mark_site-clause-called
 returns-in-Err-mark_site-clause-called g c = λ d first second prot stands l.
     let one = comes_one d first second prot c.args.here c.args.there c.args.sync c.args.states.now l c.args.yard.now stands c.join_site.new.yard (λ e note notes stood fit below first alone said is. c.in-Ok.ensures.heads e note c.args.sync notes stood fit below first alone said is) in
     let two = comes_two d first second prot c.args.here c.args.there c.args.sync c.args.states.now l c.args.yard.now stands c.join_site.new.yard c.make_link.new.yard one (λ e note notes stood fit below alone session said is. c.in-Ok-make_link.ensures.heads e note notes stood fit below alone session said is) in
     let first_part = under_one d first second prot c.args.here c.args.there c.args.sync c.args.states.now l c.args.yard.now stands c.join_site.new.yard (Ok tt) (λ e note notes stood fit below alone said. c.in-Ok.ensures.called e note c.args.sync notes stood fit below alone said) in
-    let second_part = under_two d first second prot c.args.here c.args.there c.args.sync c.args.states.now l c.args.yard.now stands c.join_site.new.yard c.make_link.new.yard Done first_part (c.in-Ok-make_link.ensures.called _ one.stands (below_one d first second prot c.args.here c.args.there c.args.sync c.args.states.now l c.args.yard.now stands c.args.here l.below) (raw_one d first second prot c.args.here c.args.there c.args.sync c.args.states.now l c.args.yard.now stands)) in
+    let second_part = under_two d first second prot c.args.here c.args.there c.args.sync c.args.states.now l c.args.yard.now stands c.join_site.new.yard c.make_link.new.yard Done first_part (c.in-Ok-make_link.ensures.called _ one.stands (below_one d first second prot c.args.here c.args.there c.args.sync c.args.states.now l c.args.yard.now stands c.args.here l.below)) in
     burns_three d first second prot c.args.here c.args.there c.args.sync c.args.states.now l c.args.yard.now stands c.make_link.new.yard c.mark_site.new.yard c.in-Err-mark_site.said two (λ e note notes stood fit below alone said is. c.in-Err-mark_site.ensures.heads e note c.args.here c.args.sync notes stood fit below alone said is) second_part
-    (c.in-Err-mark_site.ensures.called _ two.stands (below_two d first second prot c.args.here c.args.there c.args.sync c.args.states.now l c.args.yard.now stands c.args.there l.below_too) (raw_two d first second prot c.args.here c.args.there c.args.sync c.args.states.now l c.args.yard.now stands))
+    (c.in-Err-mark_site.ensures.called _ two.stands (below_two d first second prot c.args.here c.args.there c.args.sync c.args.states.now l c.args.yard.now stands c.args.there l.below_too))
 
 pub returns-in-Err-open_link-clause-called : goal.returns-in-Err-open_link-clause-called
 returns-in-Err-open_link-clause-called g c = λ d first second prot stands l.
@@ -184,10 +184,10 @@ returns-in-Err-open_link-clause-called g c = λ d first second prot stands l.
     let two = comes_two d first second prot c.args.here c.args.there c.args.sync c.args.states.now l c.args.yard.now stands c.join_site.new.yard c.make_link.new.yard one (λ e note notes stood fit below alone session said is. c.in-Ok-make_link.ensures.heads e note notes stood fit below alone session said is) in
     let three = comes_three d first second prot c.args.here c.args.there c.args.sync c.args.states.now l c.args.yard.now stands c.make_link.new.yard c.mark_site.new.yard two (λ e note notes stood fit below alone said is. c.in-Ok-mark_site.ensures.heads e note c.args.here c.args.sync notes stood fit below alone said is) in
     let first_part = under_one d first second prot c.args.here c.args.there c.args.sync c.args.states.now l c.args.yard.now stands c.join_site.new.yard (Ok tt) (λ e note notes stood fit below alone said. c.in-Ok.ensures.called e note c.args.sync notes stood fit below alone said) in
-    let second_part = under_two d first second prot c.args.here c.args.there c.args.sync c.args.states.now l c.args.yard.now stands c.join_site.new.yard c.make_link.new.yard Done first_part (c.in-Ok-make_link.ensures.called _ one.stands (below_one d first second prot c.args.here c.args.there c.args.sync c.args.states.now l c.args.yard.now stands c.args.here l.below) (raw_one d first second prot c.args.here c.args.there c.args.sync c.args.states.now l c.args.yard.now stands)) in
-    let third_part = under_three d first second prot c.args.here c.args.there c.args.sync c.args.states.now l c.args.yard.now stands c.make_link.new.yard c.mark_site.new.yard Done second_part (c.in-Ok-mark_site.ensures.called _ two.stands (below_two d first second prot c.args.here c.args.there c.args.sync c.args.states.now l c.args.yard.now stands c.args.there l.below_too) (raw_two d first second prot c.args.here c.args.there c.args.sync c.args.states.now l c.args.yard.now stands)) in
+    let second_part = under_two d first second prot c.args.here c.args.there c.args.sync c.args.states.now l c.args.yard.now stands c.join_site.new.yard c.make_link.new.yard Done first_part (c.in-Ok-make_link.ensures.called _ one.stands (below_one d first second prot c.args.here c.args.there c.args.sync c.args.states.now l c.args.yard.now stands c.args.here l.below)) in
+    let third_part = under_three d first second prot c.args.here c.args.there c.args.sync c.args.states.now l c.args.yard.now stands c.make_link.new.yard c.mark_site.new.yard Done second_part (c.in-Ok-mark_site.ensures.called _ two.stands (below_two d first second prot c.args.here c.args.there c.args.sync c.args.states.now l c.args.yard.now stands c.args.there l.below_too)) in
     burns_four d first second prot c.args.here c.args.there c.args.sync c.args.states.now l c.args.yard.now stands c.mark_site.new.yard c.open_link.new.yard c.in-Err-open_link.said three (λ e note notes stood fit below alone last said is. c.in-Err-open_link.ensures.heads e note c.args.sync notes stood fit below alone last said is) third_part
-    (c.in-Err-open_link.ensures.called _ three.stands (below_three d first second prot c.args.here c.args.there c.args.sync c.args.states.now l c.args.yard.now stands c.args.here l.below) (raw_three d first second prot c.args.here c.args.there c.args.sync c.args.states.now l c.args.yard.now stands))
+    (c.in-Err-open_link.ensures.called _ three.stands (below_three d first second prot c.args.here c.args.there c.args.sync c.args.states.now l c.args.yard.now stands c.args.here l.below))
 
 pub returns-in-Ok-open_link-clause-called : goal.returns-in-Ok-open_link-clause-called
 returns-in-Ok-open_link-clause-called g c = λ d first second prot stands l.
@@ -195,6 +195,6 @@ returns-in-Ok-open_link-clause-called g c = λ d first second prot stands l.
     let two = comes_two d first second prot c.args.here c.args.there c.args.sync c.args.states.now l c.args.yard.now stands c.join_site.new.yard c.make_link.new.yard one (λ e note notes stood fit below alone session said is. c.in-Ok-make_link.ensures.heads e note notes stood fit below alone session said is) in
     let three = comes_three d first second prot c.args.here c.args.there c.args.sync c.args.states.now l c.args.yard.now stands c.make_link.new.yard c.mark_site.new.yard two (λ e note notes stood fit below alone said is. c.in-Ok-mark_site.ensures.heads e note c.args.here c.args.sync notes stood fit below alone said is) in
     let first_part = under_one d first second prot c.args.here c.args.there c.args.sync c.args.states.now l c.args.yard.now stands c.join_site.new.yard (Ok tt) (λ e note notes stood fit below alone said. c.in-Ok.ensures.called e note c.args.sync notes stood fit below alone said) in
-    let second_part = under_two d first second prot c.args.here c.args.there c.args.sync c.args.states.now l c.args.yard.now stands c.join_site.new.yard c.make_link.new.yard Done first_part (c.in-Ok-make_link.ensures.called _ one.stands (below_one d first second prot c.args.here c.args.there c.args.sync c.args.states.now l c.args.yard.now stands c.args.here l.below) (raw_one d first second prot c.args.here c.args.there c.args.sync c.args.states.now l c.args.yard.now stands)) in
-    let third_part = under_three d first second prot c.args.here c.args.there c.args.sync c.args.states.now l c.args.yard.now stands c.make_link.new.yard c.mark_site.new.yard Done second_part (c.in-Ok-mark_site.ensures.called _ two.stands (below_two d first second prot c.args.here c.args.there c.args.sync c.args.states.now l c.args.yard.now stands c.args.there l.below_too) (raw_two d first second prot c.args.here c.args.there c.args.sync c.args.states.now l c.args.yard.now stands)) in
-    burns_done d first second prot c.args.here c.args.there c.args.sync c.args.states.now l c.args.yard.now stands c.mark_site.new.yard c.open_link.new.yard third_part (c.in-Ok-open_link.ensures.called _ three.stands (below_three d first second prot c.args.here c.args.there c.args.sync c.args.states.now l c.args.yard.now stands c.args.here l.below) (raw_three d first second prot c.args.here c.args.there c.args.sync c.args.states.now l c.args.yard.now stands))
+    let second_part = under_two d first second prot c.args.here c.args.there c.args.sync c.args.states.now l c.args.yard.now stands c.join_site.new.yard c.make_link.new.yard Done first_part (c.in-Ok-make_link.ensures.called _ one.stands (below_one d first second prot c.args.here c.args.there c.args.sync c.args.states.now l c.args.yard.now stands c.args.here l.below)) in
+    let third_part = under_three d first second prot c.args.here c.args.there c.args.sync c.args.states.now l c.args.yard.now stands c.make_link.new.yard c.mark_site.new.yard Done second_part (c.in-Ok-mark_site.ensures.called _ two.stands (below_two d first second prot c.args.here c.args.there c.args.sync c.args.states.now l c.args.yard.now stands c.args.there l.below_too)) in
+    burns_done d first second prot c.args.here c.args.there c.args.sync c.args.states.now l c.args.yard.now stands c.mark_site.new.yard c.open_link.new.yard third_part (c.in-Ok-open_link.ensures.called _ three.stands (below_three d first second prot c.args.here c.args.there c.args.sync c.args.states.now l c.args.yard.now stands c.args.here l.below))

@@ -1,16 +1,14 @@
 -- Each line that works on links.
-use Rattle.std.proofs.Common.{◌≡◌, ap, false, true, refl, subst, sym}
+use Rattle.std.proofs.Common.{◌≡◌, ap, false, refl, subst, sym}
 use Rattle.std.specs.Prelude.{IfOk}
 use Rattle.vx_model.specs.declared.link.Prot.TheVariants.{Fail}
 use Rattle.vx_script.specs.declared.line.ScriptLine.{ScriptLine}
 use Rattle.vx_events.specs.RvgLinks.{links_rvg}
-use Rattle.vx_yard.specs.AboveLines.{LeadsLinkedIs}
 use Rattle.vx_yard.specs.OfSites.{AsAsked, HasCalled}
 use Rattle.vx_yard.specs.Standing.{Leads, LeadsIs}
 use Rattle.vx_yard.specs.Stands.{AreTold}
 use Rattle.vx_yard.specs.Working.{IsFree}
 use Rattle.vx_link_lines.proofs.AnswerFor.{if_ok, memory_taken}
-use Rattle.vx_link_lines.specs.Linking.{LinksNone}
 use Rattle.vx_link_lines.proofs.links.work_link.Goals as goal
 
 pub link_line-requires-clause-free : goal.link_line-requires-clause-free
@@ -152,7 +150,7 @@ returns-in-Pump-clause-leads g c = λ d stands off carries.
 
 pub returns-in-Pump-clause-asked : goal.returns-in-Pump-clause-asked
 returns-in-Pump-clause-asked g c = λ d stands off.
-    subst (λ (line : ScriptLine). AsAsked d.world line c.args.yard.now c.pump_line.new.yard) (sym c.in-Pump.is) (c.pump_line.ensures.asked d stands (subst (λ (line : ScriptLine). links_rvg d.world line ≡ false) c.in-Pump.is off))
+    subst (λ (line : ScriptLine). AsAsked d.world line c.args.yard.now c.pump_line.new.yard) (sym c.in-Pump.is) (c.pump_line.ensures.asked d stands)
 
 pub returns-in-Pump-clause-called : goal.returns-in-Pump-clause-called
 returns-in-Pump-clause-called g c = λ d stands off.
@@ -184,44 +182,3 @@ returns-in-Tick-clause-whole g c = λ none. refl
 
 pub returns-in-Wait-clause-whole : goal.returns-in-Wait-clause-whole
 returns-in-Wait-clause-whole g c = λ none. refl
-
--- ---- where a site of it is over a group of disks with a replicated volume group
-
-pub returns-in-Link-clause-above : goal.returns-in-Link-clause-above
-returns-in-Link-clause-above g c = λ d stands over carries none. absurd (subst (λ (line : ScriptLine). LinksNone line) c.in-Link.is none)
-
-pub returns-in-Set-clause-above : goal.returns-in-Set-clause-above
-returns-in-Set-clause-above g c = λ d stands over carries none.
-    subst (λ (line : ScriptLine). LeadsLinkedIs d line c.args.yard.now c.set_line.new.yard c.set_line.result) (sym c.in-Set.is)
-    (c.set_line.ensures.above d _ stands (subst (λ (line : ScriptLine). links_rvg d.world line ≡ true) c.in-Set.is over))
-
-pub returns-in-Pump-clause-above : goal.returns-in-Pump-clause-above
-returns-in-Pump-clause-above g c = λ d stands over carries none.
-    subst (λ (line : ScriptLine). LeadsLinkedIs d line c.args.yard.now c.pump_line.new.yard c.pump_line.result) (sym c.in-Pump.is)
-    (c.pump_line.ensures.above d stands (subst (λ (line : ScriptLine). links_rvg d.world line ≡ true) c.in-Pump.is over) carries)
-
--- these work at no site
-
-pub returns-in-Connect-clause-above : goal.returns-in-Connect-clause-above
-returns-in-Connect-clause-above g c = λ d stands over carries none.
-    absurd (let apart : false ≡ true = subst (λ (line : ScriptLine). links_rvg d.world line ≡ true) c.in-Connect.is over in cc)
-
-pub returns-in-Cut-clause-above : goal.returns-in-Cut-clause-above
-returns-in-Cut-clause-above g c = λ d stands over carries none.
-    absurd (let apart : false ≡ true = subst (λ (line : ScriptLine). links_rvg d.world line ≡ true) c.in-Cut.is over in cc)
-
-pub returns-in-Pause-clause-above : goal.returns-in-Pause-clause-above
-returns-in-Pause-clause-above g c = λ d stands over carries none.
-    absurd (let apart : false ≡ true = subst (λ (line : ScriptLine). links_rvg d.world line ≡ true) c.in-Pause.is over in cc)
-
-pub returns-in-Resume-clause-above : goal.returns-in-Resume-clause-above
-returns-in-Resume-clause-above g c = λ d stands over carries none.
-    absurd (let apart : false ≡ true = subst (λ (line : ScriptLine). links_rvg d.world line ≡ true) c.in-Resume.is over in cc)
-
-pub returns-in-Tick-clause-above : goal.returns-in-Tick-clause-above
-returns-in-Tick-clause-above g c = λ d stands over carries none.
-    absurd (let apart : false ≡ true = subst (λ (line : ScriptLine). links_rvg d.world line ≡ true) c.in-Tick.is over in cc)
-
-pub returns-in-Wait-clause-above : goal.returns-in-Wait-clause-above
-returns-in-Wait-clause-above g c = λ d stands over carries none.
-    absurd (let apart : false ≡ true = subst (λ (line : ScriptLine). links_rvg d.world line ≡ true) c.in-Wait.is over in cc)

@@ -24,8 +24,7 @@ use Rattle.vx_yard.proofs.Lists.{get_at}
 use Rattle.vx_yard.proofs.NamedSite.{asks_at}
 use Rattle.vx_yard.proofs.RawSites.{raw_site, raw_told}
 use Rattle.vx_link_lines.proofs.PumpLine.{asked_named, moved_named, pump_brings, pump_finds, pump_stops, pump_told, pumped_named, pumping, sent_named}
-use Rattle.vx_link_lines.proofs.PumpAbove.{known_or, pump_brings_above, pump_finds_above, pump_stops_above, told_above}
-use Rattle.vx_link_lines.proofs.RawParts.{named_over, none_seat}
+use Rattle.vx_link_lines.proofs.RawParts.{none_seat, raw_seat}
 use Rattle.vx_link_lines.proofs.pump.pump_line.Goals as goal
 
 pub site_of-here-requires-clause-named : goal.site_of-here-requires-clause-named
@@ -70,16 +69,17 @@ returns-in-Ok-clause-leads g c = λ d stands off carries.
     (subst (λ fs. FoundLink fs p q) (sym c.deref.ensures.value) there) in
     let stood = stands.disk_sets.sites s before asks.seat.below at in
     let none = none_seat d old p s stands c.site_of-here.ensures.seat asks.seat.apart off in
+    let raw = raw_site (beside_of d s) (d.world.nodes s) before none stood in
     let was = told_before es s before after at c.in-Ok.ensures.later in
     let items = with_items_is old.facts c.keep_pumped.new.sites (c.keep_pumped.auto.sites ∙ c.deref_mut.ensures.len) in
     ⊎_elim
     (λ tells.
     let moved = moved_named d old p q s c.link_named.result.link c.pump.new.link c.pump.new.flight asks
-    (c.in-Ok.ensures.pumped d asks.place stood asks.origin asks.up asks.seat.apart asks.running (raw_told before (raw_site (beside_of d s) (d.world.nodes s) before none stood) ((was tells).each s before at)) asks.kept asks.link_is carries.flight) in
-    pump_brings d old _ s before after stands carries asks.seat.below (record { there = at; later = c.in-Ok.ensures.later; disk_sets = refl; racks = refl }) (c.in-Ok.ensures.still (raw_site (beside_of d s) (d.world.nodes s) before none stood)) c.in-Ok.ensures.stands c.in-Ok.ensures.role none
+    (c.in-Ok.ensures.pumped d asks.place stood raw asks.origin asks.up asks.seat.apart asks.running (raw_told before raw ((was tells).each s before at)) asks.kept asks.link_is carries.flight) in
+    pump_brings d old _ s before after stands carries asks.seat.below (record { there = at; later = c.in-Ok.ensures.later; disk_sets = refl; racks = refl }) c.in-Ok.ensures.still c.in-Ok.ensures.stands c.in-Ok.ensures.role none
     (record { assemblies = refl; feeders = refl }) was p q c.keep_pumped.new.sites (c.keep_pumped.ensures.world d.world c.pump.new.flight (c.deref_mut.ensures.value ∙ stands.facts) moved.link moved.flight) items)
     (λ untold.
-    pump_finds d old _ s before after stands carries asks.seat.below (record { there = at; later = c.in-Ok.ensures.later; disk_sets = refl; racks = refl }) (c.in-Ok.ensures.still (raw_site (beside_of d s) (d.world.nodes s) before none stood)) c.in-Ok.ensures.stands c.in-Ok.ensures.role none
+    pump_finds d old _ s before after stands carries asks.seat.below (record { there = at; later = c.in-Ok.ensures.later; disk_sets = refl; racks = refl }) c.in-Ok.ensures.still c.in-Ok.ensures.stands c.in-Ok.ensures.role none
     (record { assemblies = refl; feeders = refl }) was p q c.keep_pumped.new.sites untold
     (sent_named d old p q s c.link_named.result.link old.flight c.pump.new.flight asks (c.in-Ok.ensures.more (beside_of d s) (d.world.nodes s) stood))
     (c.keep_pumped.ensures.facts d.world (c.deref_mut.ensures.value ∙ stands.facts) (pumped_named d old p q s c.link_named.result.link c.pump.new.link asks (c.in-Ok.ensures.rule (beside_of d s) (d.world.nodes s) stood))) items)
@@ -100,114 +100,38 @@ returns-in-Err-clause-leads g c = λ d stands off carries.
     (subst (λ fs. FoundLink fs p q) (sym c.deref.ensures.value) there) in
     let stood = stands.disk_sets.sites s before asks.seat.below at in
     let none = none_seat d old p s stands c.site_of-here.ensures.seat asks.seat.apart off in
+    let raw = raw_site (beside_of d s) (d.world.nodes s) before none stood in
     let was = told_before es s before after at c.in-Err.ensures.later in
-    pump_stops d old _ s before after stands carries asks.seat.below (record { there = at; later = c.in-Err.ensures.later; disk_sets = refl; racks = refl }) (c.in-Err.ensures.still (raw_site (beside_of d s) (d.world.nodes s) before none stood)) c.in-Err.ensures.stands c.in-Err.ensures.role none
-    (record { assemblies = refl; feeders = refl }) was p q c.pump.new.flight c.in-Err.stop c.stopped.result (subst (λ (a : Action). PumpStop (d.world.nodes s) a (faults_at before) (faults_at after) c.in-Err.stop) (asked_named d old p q s c.link_named.result.link asks) (c.in-Err.ensures.stops (beside_of d s) (d.world.nodes s) stood asks.origin asks.up asks.seat.apart asks.running))
+    pump_stops d old _ s before after stands carries asks.seat.below (record { there = at; later = c.in-Err.ensures.later; disk_sets = refl; racks = refl }) c.in-Err.ensures.still c.in-Err.ensures.stands c.in-Err.ensures.role none
+    (record { assemblies = refl; feeders = refl }) was p q c.pump.new.flight c.in-Err.stop c.stopped.result (subst (λ (a : Action). PumpStop (d.world.nodes s) a (faults_at before) (faults_at after) c.in-Err.stop) (asked_named d old p q s c.link_named.result.link asks) (c.in-Err.ensures.stops (beside_of d s) (d.world.nodes s) stood raw asks.origin asks.up asks.seat.apart asks.running))
     (λ why same other tells.
     pump_told d.world s c.link_named.result.link.site c.pump.new.link c.pump.new.flight (faults_at before) (faults_at after) c.in-Err.stop
-    (c.in-Err.ensures.pumped d asks.place stood asks.origin asks.up asks.seat.apart asks.running (raw_told before (raw_site (beside_of d s) (d.world.nodes s) before none stood) ((was tells).each s before at)) asks.kept asks.link_is carries.flight) why same other)
+    (c.in-Err.ensures.pumped d asks.place stood raw asks.origin asks.up asks.seat.apart asks.running (raw_told before raw ((was tells).each s before at)) asks.kept asks.link_is carries.flight) why same other)
     c.stopped.ensures asks.seat.number refl refl c.in-Err.ensures.unsent
 
-pub returns-in-Ok-clause-above : goal.returns-in-Ok-clause-above
-returns-in-Ok-clause-above g c = λ d stands over carries.
-    let old = c.args.yard.now in
-    let es = old.disk_sets.items in
-    let s = c.site_of-here.result in
-    let p = c.args.first.now in
-    let q = c.args.second.now in
-    let before = c.index_mut.result.now in
-    let after = c.pump.new.self in
-    let at = get_at es s before c.site_of-here.ensures.disk_set c.index_mut.ensures.value in
-    let there = found old.facts.items p q (pump_tested old.facts.items p q (in_files old, c.requires.free)) in
-    let asks = pumping d old p q s c.deref.result.now c.link_named.result stands c.requires.free c.site_of-here.ensures.seat c.deref.ensures.value c.link_named.ensures.link
-    (subst (λ fs. FoundLink fs p q) (sym c.deref.ensures.value) there) in
-    let stood = stands.disk_sets.sites s before asks.seat.below at in
-    let rvg = named_over d old p s stands c.site_of-here.ensures.seat over in
-    let was = told_before es s before after at c.in-Ok.ensures.later in
-    let items = with_items_is old.facts c.keep_pumped.new.sites (c.keep_pumped.auto.sites ∙ c.deref_mut.ensures.len) in
-    ⊎_elim
-    (λ known.
-    let moved = moved_named d old p q s c.link_named.result.link c.pump.new.link c.pump.new.flight asks
-    (c.in-Ok.ensures.pumped d asks.place stood asks.origin asks.up asks.seat.apart asks.running (told_above d old _ p q s asks.seat.number stands asks.seat.below rvg asks.up (record { assemblies = refl; feeders = refl }) was before at known) asks.kept asks.link_is carries.flight) in
-    pump_brings_above d old _ p q s asks.seat.number stands asks.seat.below rvg asks.up (record { assemblies = refl; feeders = refl }) was before after (record { there = at; later = c.in-Ok.ensures.later; disk_sets = refl; racks = refl }) c.in-Ok.ensures.role
-    c.in-Ok.ensures.notes c.in-Ok.ensures.stands c.keep_pumped.new.sites (c.keep_pumped.ensures.world d.world c.pump.new.flight (c.deref_mut.ensures.value ∙ stands.facts) moved.link moved.flight) items)
-    (λ untold.
-    pump_finds_above d old _ p q s asks.seat.number stands asks.seat.below rvg asks.up (record { assemblies = refl; feeders = refl }) was before after (record { there = at; later = c.in-Ok.ensures.later; disk_sets = refl; racks = refl }) c.in-Ok.ensures.role
-    c.in-Ok.ensures.notes c.in-Ok.ensures.stands c.keep_pumped.new.sites untold
-    (sent_named d old p q s c.link_named.result.link old.flight c.pump.new.flight asks (c.in-Ok.ensures.more (beside_of d s) (d.world.nodes s) stood))
-    (c.keep_pumped.ensures.facts d.world (c.deref_mut.ensures.value ∙ stands.facts) (pumped_named d old p q s c.link_named.result.link c.pump.new.link asks (c.in-Ok.ensures.rule (beside_of d s) (d.world.nodes s) stood))) items)
-    (known_or d old _ p q s asks.seat.number stands asks.seat.below rvg asks.up (record { assemblies = refl; feeders = refl }) was (all_told (slice_set es s after)))
-
-pub returns-in-Err-clause-above : goal.returns-in-Err-clause-above
-returns-in-Err-clause-above g c = λ d stands over carries.
-    let old = c.args.yard.now in
-    let es = old.disk_sets.items in
-    let s = c.site_of-here.result in
-    let p = c.args.first.now in
-    let q = c.args.second.now in
-    let before = c.index_mut.result.now in
-    let after = c.pump.new.self in
-    let at = get_at es s before c.site_of-here.ensures.disk_set c.index_mut.ensures.value in
-    let there = found old.facts.items p q (pump_tested old.facts.items p q (in_files old, c.requires.free)) in
-    let asks = pumping d old p q s c.deref.result.now c.link_named.result stands c.requires.free c.site_of-here.ensures.seat c.deref.ensures.value c.link_named.ensures.link
-    (subst (λ fs. FoundLink fs p q) (sym c.deref.ensures.value) there) in
-    let stood = stands.disk_sets.sites s before asks.seat.below at in
-    let rvg = named_over d old p s stands c.site_of-here.ensures.seat over in
-    let was = told_before es s before after at c.in-Err.ensures.later in
-    pump_stops_above d old _ p q s asks.seat.number stands asks.seat.below rvg asks.up (record { assemblies = refl; feeders = refl }) was before after (record { there = at; later = c.in-Err.ensures.later; disk_sets = refl; racks = refl }) c.in-Err.ensures.role
-    c.in-Err.ensures.notes c.in-Err.ensures.stands c.pump.new.flight c.in-Err.stop c.stopped.result
-    (subst (λ (a : Action). PumpStop (d.world.nodes s) a (faults_at before) (faults_at after) c.in-Err.stop) (asked_named d old p q s c.link_named.result.link asks) (c.in-Err.ensures.stops (beside_of d s) (d.world.nodes s) stood asks.origin asks.up asks.seat.apart asks.running))
-    (λ why same other known.
-    pump_told d.world s c.link_named.result.link.site c.pump.new.link c.pump.new.flight (faults_at before) (faults_at after) c.in-Err.stop
-    (c.in-Err.ensures.pumped d asks.place stood asks.origin asks.up asks.seat.apart asks.running (told_above d old _ p q s asks.seat.number stands asks.seat.below rvg asks.up (record { assemblies = refl; feeders = refl }) was before at (known.0, known.1 s)) asks.kept asks.link_is carries.flight) why same other)
-    c.stopped.ensures refl refl c.in-Err.ensures.unsent
-
 pub returns-in-Ok-clause-asked : goal.returns-in-Ok-clause-asked
-returns-in-Ok-clause-asked g c = λ d stands off.
+returns-in-Ok-clause-asked g c = λ d stands.
     let old = c.args.yard.now in
     let s = c.site_of-here.result in
-    let p = c.args.first.now in
-    let q = c.args.second.now in
-    let before = c.index_mut.result.now in
-    let at = get_at old.disk_sets.items s before c.site_of-here.ensures.disk_set c.index_mut.ensures.value in
-    let there = found old.facts.items p q (pump_tested old.facts.items p q (in_files old, c.requires.free)) in
-    let asks = pumping d old p q s c.deref.result.now c.link_named.result stands c.requires.free c.site_of-here.ensures.seat c.deref.ensures.value c.link_named.ensures.link
-    (subst (λ fs. FoundLink fs p q) (sym c.deref.ensures.value) there) in
-    let stood = stands.disk_sets.sites s before asks.seat.below at in
-    let none = none_seat d old p s stands c.site_of-here.ensures.seat asks.seat.apart off in
-    asks_at LeavesAlone d old _ p s before c.pump.new.self stands c.site_of-here.ensures.seat at refl (c.in-Ok.ensures.still (raw_site (beside_of d s) (d.world.nodes s) before none stood))
+    asks_at LeavesAlone d old _ c.args.first.now s c.index_mut.result.now c.pump.new.self stands c.site_of-here.ensures.seat
+    (get_at old.disk_sets.items s c.index_mut.result.now c.site_of-here.ensures.disk_set c.index_mut.ensures.value) refl c.in-Ok.ensures.still
 
 pub returns-in-Err-clause-asked : goal.returns-in-Err-clause-asked
-returns-in-Err-clause-asked g c = λ d stands off.
+returns-in-Err-clause-asked g c = λ d stands.
     let old = c.args.yard.now in
     let s = c.site_of-here.result in
-    let p = c.args.first.now in
-    let q = c.args.second.now in
-    let before = c.index_mut.result.now in
-    let at = get_at old.disk_sets.items s before c.site_of-here.ensures.disk_set c.index_mut.ensures.value in
-    let there = found old.facts.items p q (pump_tested old.facts.items p q (in_files old, c.requires.free)) in
-    let asks = pumping d old p q s c.deref.result.now c.link_named.result stands c.requires.free c.site_of-here.ensures.seat c.deref.ensures.value c.link_named.ensures.link
-    (subst (λ fs. FoundLink fs p q) (sym c.deref.ensures.value) there) in
-    let stood = stands.disk_sets.sites s before asks.seat.below at in
-    let none = none_seat d old p s stands c.site_of-here.ensures.seat asks.seat.apart off in
-    asks_at LeavesAlone d old _ p s before c.pump.new.self stands c.site_of-here.ensures.seat at refl (c.in-Err.ensures.still (raw_site (beside_of d s) (d.world.nodes s) before none stood))
+    asks_at LeavesAlone d old _ c.args.first.now s c.index_mut.result.now c.pump.new.self stands c.site_of-here.ensures.seat
+    (get_at old.disk_sets.items s c.index_mut.result.now c.site_of-here.ensures.disk_set c.index_mut.ensures.value) refl c.in-Err.ensures.still
 
 pub returns-in-Ok-clause-called : goal.returns-in-Ok-clause-called
 returns-in-Ok-clause-called g c = λ d stands off.
     let old = c.args.yard.now in
     let s = c.site_of-here.result in
-    let p = c.args.first.now in
-    let q = c.args.second.now in
     let before = c.index_mut.result.now in
     let after = c.pump.new.self in
-    let at = get_at old.disk_sets.items s before c.site_of-here.ensures.disk_set c.index_mut.ensures.value in
-    let there = found old.facts.items p q (pump_tested old.facts.items p q (in_files old, c.requires.free)) in
-    let asks = pumping d old p q s c.deref.result.now c.link_named.result stands c.requires.free c.site_of-here.ensures.seat c.deref.ensures.value c.link_named.ensures.link
-    (subst (λ fs. FoundLink fs p q) (sym c.deref.ensures.value) there) in
-    let stood = stands.disk_sets.sites s before asks.seat.below at in
-    let none = none_seat d old p s stands c.site_of-here.ensures.seat asks.seat.apart off in
-    asks_at (LeavesFuse NoMore Done) d old _ p s before after stands c.site_of-here.ensures.seat at refl
-    (alone_leaves Done before after (λ why is. let said : Done ≡ Refused why = is in cc) (c.in-Ok.ensures.still (raw_site (beside_of d s) (d.world.nodes s) before none stood)))
+    asks_at (LeavesFuse NoMore Done) d old _ c.args.first.now s before after stands c.site_of-here.ensures.seat
+    (get_at old.disk_sets.items s before c.site_of-here.ensures.disk_set c.index_mut.ensures.value) refl
+    (alone_leaves Done before after (λ why is. let said : Done ≡ Refused why = is in cc) c.in-Ok.ensures.still)
 
 pub returns-in-Err-clause-called : goal.returns-in-Err-clause-called
 returns-in-Err-clause-called g c = λ d stands off.
@@ -222,6 +146,6 @@ returns-in-Err-clause-called g c = λ d stands off.
     let asks = pumping d old p q s c.deref.result.now c.link_named.result stands c.requires.free c.site_of-here.ensures.seat c.deref.ensures.value c.link_named.ensures.link
     (subst (λ fs. FoundLink fs p q) (sym c.deref.ensures.value) there) in
     let stood = stands.disk_sets.sites s before asks.seat.below at in
-    let none = none_seat d old p s stands c.site_of-here.ensures.seat asks.seat.apart off in
-    pump_stopped s old _ before after at refl (c.in-Err.ensures.still (raw_site (beside_of d s) (d.world.nodes s) before none stood)) (d.world.nodes s) (pump_asks c.link_named.result.link (d.world.nodes s).safe) (faults_at before) (faults_at after) (site_number d.world p) c.in-Err.stop c.stopped.result asks.seat.number
-    (c.in-Err.ensures.stops (beside_of d s) (d.world.nodes s) stood asks.origin asks.up asks.seat.apart asks.running) c.stopped.ensures
+    let raw = raw_seat d old p s before stands c.site_of-here.ensures.seat at off in
+    pump_stopped s old _ before after at refl c.in-Err.ensures.still (d.world.nodes s) (pump_asks c.link_named.result.link (d.world.nodes s).safe) (faults_at before) (faults_at after) (site_number d.world p) c.in-Err.stop c.stopped.result asks.seat.number
+    (c.in-Err.ensures.stops (beside_of d s) (d.world.nodes s) stood raw asks.origin asks.up asks.seat.apart asks.running) c.stopped.ensures

@@ -14,9 +14,7 @@ use Rattle.vx_events.specs.declared.said.Said.TheVariants.{Done, Refused}
 use Rattle.vx_yard.proofs.ApplySite.{calls_keep}
 use Rattle.vx_yard.proofs.Lists.{get_at, set_same}
 use Rattle.vx_yard.proofs.NamedSite.{asks_at, place_at}
-use Rattle.vx_link_lines.proofs.LinkAbove.{stops_above}
 use Rattle.vx_link_lines.proofs.RawParts.{raw_seat}
-use Rattle.vx_link_lines.proofs.SetAbove.{set_denied, set_linked}
 use Rattle.vx_link_lines.proofs.SetLine.{set_alone, set_kept, set_leads, set_refused, set_said, set_state_is, set_stood}
 use Rattle.vx_link_lines.proofs.SetNames.{set_first, set_second}
 use Rattle.vx_link_lines.proofs.set.set_line.Goals as goal
@@ -55,19 +53,19 @@ returns-in-Ok-clause-leads g c = λ d prot stands off.
     let at_too = get_at es s c.index.result.now c.site_of-here.ensures.disk_set c.index.ensures in
     let seat = c.site_of-here.ensures.seat in
     let seat_too = c.site_of-there.ensures.seat in
-    let is = set_state_is d old p r c.args.sync c.requires.free.0 s q before stands c.requires.free.1 seat seat_too at c.index.result.now c.in-Some.state at_too
+    let raw = raw_seat d old p s before stands seat at off in
+    let is = set_state_is d old p r c.args.sync c.requires.free.0 s q before stands c.requires.free.1 seat seat_too at off c.index.result.now c.in-Some.state at_too
     (λ beside m v stood up alone facts has said. c.in-Some.ensures.is beside m v stood up alone (c.deref.ensures.value ∙ facts) has said) in
-    let kept = set_kept d old p r c.args.sync c.requires.free.0 s q before stands c.requires.free.1 seat seat_too at after c.in-Some.state (Ok tt) is (λ beside m stood can. c.in-Ok.ensures.kept beside m stood can) in
-    let stood = set_stood d old p r c.args.sync c.requires.free.0 s q before stands c.requires.free.1 seat seat_too at in
-    let said = set_said d old p r c.args.sync c.requires.free.0 s q before stands c.requires.free.1 seat seat_too at in
+    let kept = set_kept d old p r c.args.sync c.requires.free.0 s q before stands c.requires.free.1 seat seat_too at off after c.in-Some.state (Ok tt) is (λ beside m stood can. c.in-Ok.ensures.kept beside m stood raw can) in
+    let stood = set_stood d old p r c.args.sync c.requires.free.0 s q before stands c.requires.free.1 seat seat_too at off in
+    let said = set_said d old p r c.args.sync c.requires.free.0 s q before stands c.requires.free.1 seat seat_too at off in
     let racks = (g.met.R.Rack g.world.𝓛 g.world.𝓜 g.world.𝓡 ((λ s x. x), (λ x. x), (λ x. x), λ x. x)).rack in
     let here = place_at d old p s stands seat in
-    let raw = raw_seat d old p s before stands seat at off in
-    let head = c.in-Ok.ensures.headed (beside_of d s) (d.world.nodes s) (stands.disk_sets.sites s before here.below at) raw in
-    set_leads d old p r c.args.sync c.requires.free.0 s q before stands c.requires.free.1 seat seat_too at off _ after (record { there = at; later = c.in-Ok.ensures.later; disk_sets = refl; racks = refl }) c.in-Ok.ensures.role prot racks head kept (c.in-Ok.ensures.called (beside_of d s) (worked (d.world.nodes s)) stood raw)
+    let head = c.in-Ok.ensures.headed (beside_of d s) (d.world.nodes s) (stands.disk_sets.sites s before here.below at) in
+    set_leads d old p r c.args.sync c.requires.free.0 s q before stands c.requires.free.1 seat seat_too at off _ after (record { there = at; later = c.in-Ok.ensures.later; disk_sets = refl; racks = refl }) c.in-Ok.ensures.role prot racks head kept (c.in-Ok.ensures.called (beside_of d s) (worked (d.world.nodes s)) stood)
     (with_items_is old.facts c.keep_set.new.sites (c.keep_set.auto.sites ∙ c.deref_mut.ensures.len)
     ∙ c.keep_set.ensures.world d.world (c.deref_mut.ensures.value ∙ stands.facts)
-    (set_alone d old p r c.args.sync c.requires.free.0 s q before stands c.requires.free.1 seat seat_too at) (stands.links.rows s).places said)
+    (set_alone d old p r c.args.sync c.requires.free.0 s q before stands c.requires.free.1 seat seat_too at off) (stands.links.rows s).places said)
     (record { flight = refl; assemblies = refl; feeders = refl })
 
 pub returns-in-Err-clause-leads : goal.returns-in-Err-clause-leads
@@ -84,64 +82,15 @@ returns-in-Err-clause-leads g c = λ d prot stands off.
     let at_too = get_at es s c.index.result.now c.site_of-here.ensures.disk_set c.index.ensures in
     let seat = c.site_of-here.ensures.seat in
     let seat_too = c.site_of-there.ensures.seat in
-    let is = set_state_is d old p r c.args.sync c.requires.free.0 s q before stands c.requires.free.1 seat seat_too at c.index.result.now c.in-Some.state at_too
+    let raw = raw_seat d old p s before stands seat at off in
+    let is = set_state_is d old p r c.args.sync c.requires.free.0 s q before stands c.requires.free.1 seat seat_too at off c.index.result.now c.in-Some.state at_too
     (λ beside m v stood up alone facts has said. c.in-Some.ensures.is beside m v stood up alone (c.deref.ensures.value ∙ facts) has said) in
-    let kept = set_kept d old p r c.args.sync c.requires.free.0 s q before stands c.requires.free.1 seat seat_too at after c.in-Some.state (Err c.in-Err.no) is (λ beside m stood can. c.in-Err.ensures.kept beside m stood can) in
-    let stood = set_stood d old p r c.args.sync c.requires.free.0 s q before stands c.requires.free.1 seat seat_too at in
+    let kept = set_kept d old p r c.args.sync c.requires.free.0 s q before stands c.requires.free.1 seat seat_too at off after c.in-Some.state (Err c.in-Err.no) is (λ beside m stood can. c.in-Err.ensures.kept beside m stood raw can) in
+    let stood = set_stood d old p r c.args.sync c.requires.free.0 s q before stands c.requires.free.1 seat seat_too at off in
     set_refused d old p r c.args.sync c.requires.free.0 s q before stands c.requires.free.1 seat seat_too at off _ after (record { there = at; later = c.in-Err.ensures.later; disk_sets = refl; racks = refl }) c.in-Err.ensures.role prot c.in-Err.no c.refused.result c.index_mut-in-Err.result.now c.refused.new.facts c.refused.ensures.said
-    kept (c.in-Err.ensures.called (beside_of d s) (worked (d.world.nodes s)) stood (raw_seat d old p s before stands seat at off))
+    kept (c.in-Err.ensures.called (beside_of d s) (worked (d.world.nodes s)) stood)
     (get_at old.facts.items s c.index_mut-in-Err.result.now c.site_of-here.ensures.fact c.index_mut-in-Err.ensures.value) c.refused.ensures.noted refl
     (record { flight = refl; assemblies = c.let_go_if_down.ensures; feeders = refl })
-
-pub returns-in-Ok-clause-above : goal.returns-in-Ok-clause-above
-returns-in-Ok-clause-above g c = λ d prot stands over.
-    let old = c.args.yard.now in
-    let es = old.disk_sets.items in
-    let s = c.site_of-here.result in
-    let q = c.site_of-there.result in
-    let p = c.args.first.now in
-    let r = c.args.second.now in
-    let before = c.index_mut.result.now in
-    let after = c.keep.new.self in
-    let at = get_at es s before c.site_of-here.ensures.disk_set c.index_mut.ensures.value in
-    let at_too = get_at es s c.index.result.now c.site_of-here.ensures.disk_set c.index.ensures in
-    let seat = c.site_of-here.ensures.seat in
-    let seat_too = c.site_of-there.ensures.seat in
-    let is = set_state_is d old p r c.args.sync c.requires.free.0 s q before stands c.requires.free.1 seat seat_too at c.index.result.now c.in-Some.state at_too
-    (λ beside m v stood up alone facts has said. c.in-Some.ensures.is beside m v stood up alone (c.deref.ensures.value ∙ facts) has said) in
-    let kept = set_kept d old p r c.args.sync c.requires.free.0 s q before stands c.requires.free.1 seat seat_too at after c.in-Some.state (Ok tt) is (λ beside m stood can. c.in-Ok.ensures.kept beside m stood can) in
-    let said = set_said d old p r c.args.sync c.requires.free.0 s q before stands c.requires.free.1 seat seat_too at in
-    set_linked d old p r c.args.sync c.requires.free.0 s q before stands c.requires.free.1 seat seat_too at over _ after (record { there = at; later = c.in-Ok.ensures.later; disk_sets = refl; racks = refl }) c.in-Ok.ensures.role
-    c.in-Ok.ensures.notes prot kept
-    (with_items_is old.facts c.keep_set.new.sites (c.keep_set.auto.sites ∙ c.deref_mut.ensures.len)
-    ∙ c.keep_set.ensures.world d.world (c.deref_mut.ensures.value ∙ stands.facts)
-    (set_alone d old p r c.args.sync c.requires.free.0 s q before stands c.requires.free.1 seat seat_too at) (stands.links.rows s).places said)
-    (record { flight = refl; assemblies = refl; feeders = refl })
-
-pub returns-in-Err-clause-above : goal.returns-in-Err-clause-above
-returns-in-Err-clause-above g c = λ d prot stands over.
-    let old = c.args.yard.now in
-    let es = old.disk_sets.items in
-    let s = c.site_of-here.result in
-    let q = c.site_of-there.result in
-    let p = c.args.first.now in
-    let r = c.args.second.now in
-    let before = c.index_mut.result.now in
-    let after = c.keep.new.self in
-    let at = get_at es s before c.site_of-here.ensures.disk_set c.index_mut.ensures.value in
-    let at_too = get_at es s c.index.result.now c.site_of-here.ensures.disk_set c.index.ensures in
-    let seat = c.site_of-here.ensures.seat in
-    let seat_too = c.site_of-there.ensures.seat in
-    let is = set_state_is d old p r c.args.sync c.requires.free.0 s q before stands c.requires.free.1 seat seat_too at c.index.result.now c.in-Some.state at_too
-    (λ beside m v stood up alone facts has said. c.in-Some.ensures.is beside m v stood up alone (c.deref.ensures.value ∙ facts) has said) in
-    let kept = set_kept d old p r c.args.sync c.requires.free.0 s q before stands c.requires.free.1 seat seat_too at after c.in-Some.state (Err c.in-Err.no) is (λ beside m stood can. c.in-Err.ensures.kept beside m stood can) in
-    set_denied d old p r c.args.sync c.requires.free.0 s q before stands c.requires.free.1 seat seat_too at over _ after (record { there = at; later = c.in-Err.ensures.later; disk_sets = refl; racks = refl }) c.in-Err.ensures.role
-    c.in-Err.ensures.notes prot c.in-Err.no c.refused.result c.index_mut-in-Err.result.now c.refused.new.facts c.refused.ensures.said kept
-    (get_at old.facts.items s c.index_mut-in-Err.result.now c.site_of-here.ensures.fact c.index_mut-in-Err.ensures.value) c.refused.ensures.noted refl
-    (record { flight = refl; assemblies = c.let_go_if_down.ensures; feeders = refl })
-
-pub returns-in_default-clause-above : goal.returns-in_default-clause-above
-returns-in_default-clause-above g c = λ d prot stands over. stops_above d _ c.args.yard.now stands
 
 pub returns-in-Ok-clause-asked : goal.returns-in-Ok-clause-asked
 returns-in-Ok-clause-asked g c = λ d prot stands off.
@@ -151,8 +100,7 @@ returns-in-Ok-clause-asked g c = λ d prot stands off.
     let at = get_at old.disk_sets.items s before c.site_of-here.ensures.disk_set c.index_mut.ensures.value in
     let here = place_at d old c.args.first.now s stands c.site_of-here.ensures.seat in
     asks_at SameFailing d old _ c.args.first.now s before c.keep.new.self stands c.site_of-here.ensures.seat at refl
-    (calls_keep NoMore Done before c.keep.new.self (c.in-Ok.ensures.called (beside_of d s) (d.world.nodes s) (stands.disk_sets.sites s before here.below at)
-    (raw_seat d old c.args.first.now s before stands c.site_of-here.ensures.seat at off)))
+    (calls_keep NoMore Done before c.keep.new.self (c.in-Ok.ensures.called (beside_of d s) (d.world.nodes s) (stands.disk_sets.sites s before here.below at)))
 
 pub returns-in-Err-clause-asked : goal.returns-in-Err-clause-asked
 returns-in-Err-clause-asked g c = λ d prot stands off.
@@ -162,8 +110,7 @@ returns-in-Err-clause-asked g c = λ d prot stands off.
     let at = get_at old.disk_sets.items s before c.site_of-here.ensures.disk_set c.index_mut.ensures.value in
     let here = place_at d old c.args.first.now s stands c.site_of-here.ensures.seat in
     asks_at SameFailing d old _ c.args.first.now s before c.keep.new.self stands c.site_of-here.ensures.seat at refl
-    (calls_keep NoMore (Refused c.in-Err.no) before c.keep.new.self (c.in-Err.ensures.called (beside_of d s) (d.world.nodes s) (stands.disk_sets.sites s before here.below at)
-    (raw_seat d old c.args.first.now s before stands c.site_of-here.ensures.seat at off)))
+    (calls_keep NoMore (Refused c.in-Err.no) before c.keep.new.self (c.in-Err.ensures.called (beside_of d s) (d.world.nodes s) (stands.disk_sets.sites s before here.below at)))
 
 pub returns-in_default-clause-asked : goal.returns-in_default-clause-asked
 returns-in_default-clause-asked g c = λ d prot stands off.
@@ -180,8 +127,7 @@ returns-in-Ok-clause-called g c = λ d prot stands off.
     let at = get_at old.disk_sets.items s before c.site_of-here.ensures.disk_set c.index_mut.ensures.value in
     let here = place_at d old c.args.first.now s stands c.site_of-here.ensures.seat in
     asks_at (HeadUnder 2 Done) d old _ c.args.first.now s before c.keep.new.self stands c.site_of-here.ensures.seat at refl
-    (c.in-Ok.ensures.headed (beside_of d s) (d.world.nodes s) (stands.disk_sets.sites s before here.below at)
-    (raw_seat d old c.args.first.now s before stands c.site_of-here.ensures.seat at off))
+    (c.in-Ok.ensures.headed (beside_of d s) (d.world.nodes s) (stands.disk_sets.sites s before here.below at))
 
 pub returns-in-Err-clause-called : goal.returns-in-Err-clause-called
 returns-in-Err-clause-called g c = λ d prot stands off.
@@ -191,8 +137,7 @@ returns-in-Err-clause-called g c = λ d prot stands off.
     let at = get_at old.disk_sets.items s before c.site_of-here.ensures.disk_set c.index_mut.ensures.value in
     let here = place_at d old c.args.first.now s stands c.site_of-here.ensures.seat in
     asks_at (HeadUnder 2 c.refused.result) d old _ c.args.first.now s before c.keep.new.self stands c.site_of-here.ensures.seat at refl
-    (subst (λ (said : Said). HeadUnder 2 said before c.keep.new.self) (sym c.refused.ensures.said) (c.in-Err.ensures.headed (beside_of d s) (d.world.nodes s) (stands.disk_sets.sites s before here.below at)
-    (raw_seat d old c.args.first.now s before stands c.site_of-here.ensures.seat at off)))
+    (subst (λ (said : Said). HeadUnder 2 said before c.keep.new.self) (sym c.refused.ensures.said) (c.in-Err.ensures.headed (beside_of d s) (d.world.nodes s) (stands.disk_sets.sites s before here.below at)))
 
 pub returns-in_default-clause-called : goal.returns-in_default-clause-called
 returns-in_default-clause-called g c = λ d prot stands off. tt

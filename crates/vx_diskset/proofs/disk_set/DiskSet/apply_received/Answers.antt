@@ -4,31 +4,26 @@ use Rattle.std.specs.Prelude.{min}
 use Rattle.vx_diskset.proofs.Blamed.{blamed_receiver}
 use Rattle.vx_diskset.proofs.Reaching.{reached_full, reached_idle, reached_none_up, reached_up}
 use Rattle.vx_rvg.specs.Groups.{has_numbers}
-use Rattle.vx_diskset.specs.Received.{reached_by, ReachedUp}
+use Rattle.vx_diskset.specs.Received.{reached_by}
 use Rattle.vx_diskset.proofs.HeadCalls.{called_received, reached_called}
 use Rattle.vx_diskset.specs.Asked.{IsRawSet}
 use Rattle.vx_diskset.proofs.LeavesNumbers.{has_them}
-use Rattle.vx_diskset.specs.Noted.{OversCalled}
-use Rattle.vx_diskset.specs.declared.disk_set.DiskSet.TheVariants.{Over}
-use Rattle.vx_diskset.specs.Stands.{SiteStands}
-use Rattle.vx_diskset.proofs.OverCalled.{blamed_over, over_later, over_role}
-use Rattle.vx_diskset.proofs.OverNoted.{overs_raw}
 use Rattle.vx_diskset.proofs.disk_set.DiskSet.apply_received.Goals as goal
 
 pub returns-in-Up-clause-applied : goal.returns-in-Up-clause-applied
-returns-in-Up-clause-applied g c = λ beside n stands can. reached_none_up beside n c.args.count c.head-in-Up.result c.args.self.now c.in-Up.rvg c.in-Up.is c.head-in-Up.ensures stands can
+returns-in-Up-clause-applied g c = λ beside n stands raw can. reached_none_up beside n c.args.count c.head-in-Up.result c.args.self.now c.in-Up.rvg c.in-Up.is c.head-in-Up.ensures stands can
 
 pub returns-then-few-eq0-clause-applied : goal.returns-then-few-eq0-clause-applied
-returns-then-few-eq0-clause-applied g c = λ beside n stands can.
+returns-then-few-eq0-clause-applied g c = λ beside n stands raw can.
     reached_idle beside n c.args.count c.min-few.result c.head.result c.args.self.now c.in-Receives.site c.in-Receives.is (c.min-few.ensures ∙ ap (λ (k : ℕ). min c.args.count k) (c.from.ensures ∙ c.len.ensures.is)) (omega (arith, c.if-few-eq0.true)) c.head.ensures stands can
 
 pub returns-else-not-has_numbers-clause-applied : goal.returns-else-not-has_numbers-clause-applied
-returns-else-not-has_numbers-clause-applied g c = λ beside n stands can.
+returns-else-not-has_numbers-clause-applied g c = λ beside n stands raw can.
     reached_up beside n c.args.count c.min-few.result c.args.self.now c.in-Receives.site _ c.apply_oldest.result c.in-Receives.is
     (c.min-few.ensures ∙ ap (λ (k : ℕ). min c.args.count k) (c.from.ensures ∙ c.len.ensures.is)) (omega (arith, c.if-few-eq0.false)) (λ r able. c.apply_oldest.ensures.reaches beside n r able) stands can
 
 pub returns-then-not-has_numbers-clause-applied : goal.returns-then-not-has_numbers-clause-applied
-returns-then-not-has_numbers-clause-applied g c = λ beside n stands can.
+returns-then-not-has_numbers-clause-applied g c = λ beside n stands raw can.
     reached_full beside n c.args.count c.min-few.result c.args.self.now c.in-Receives.site c.in-Receives.is
     (c.min-few.ensures ∙ ap (λ (k : ℕ). min c.args.count k) (c.from.ensures ∙ c.len.ensures.is))
     (ap (λ (k : ℕ). has_numbers c.in-Receives.site.rvg.core k) (sym c.from-in-Receives.ensures) ∙ sym c.has_numbers.ensures ∙ c.if-not-has_numbers.true) stands can
@@ -44,7 +39,7 @@ apply_oldest-requires-clause-numbers g c κs within =
     has_them c.in-Receives.site.rvg.core c.min-few.result (ap (λ (k : ℕ). has_numbers c.in-Receives.site.rvg.core k) (sym c.from-in-Receives.ensures) ∙ sym c.has_numbers.ensures ∙ c.if-not-has_numbers.false)
 
 pub returns-else-not-has_numbers-clause-called : goal.returns-else-not-has_numbers-clause-called
-returns-else-not-has_numbers-clause-called g c = λ beside n stands raw.
+returns-else-not-has_numbers-clause-called g c = λ beside n stands.
     called_received (reached_by c.apply_oldest.result) beside n c.args.self.now c.in-Receives.site _ c.in-Receives.is stands
     (λ up. reached_called c.apply_oldest.result c.in-Receives.site.rvg c.apply_oldest.new.rvg up (c.apply_oldest.ensures.off up) c.apply_oldest.ensures.spends)
 
@@ -53,36 +48,5 @@ returns-else-not-has_numbers-clause-blames g c = λ beside n stands.
     let is_rack = (g.met.R.Rack g.world.𝓛 g.world.𝓜 g.world.𝓡 ((λ s x. x), (λ x. x), (λ x. x), λ x. x)).rack in
     blamed_receiver c.apply_oldest.result beside n c.args.self.now c.in-Receives.site c.in-Receives.is stands (is_rack c.in-Receives.site.rvg.shelf) c.apply_oldest.ensures.blames
 
-pub returns-in-Over-clause-called : goal.returns-in-Over-clause-called
-returns-in-Over-clause-called g c = λ beside n stands raw. absurd (subst (λ e. IsRawSet e) c.in-Over.is raw)
-
-pub returns-in-Up-clause-overs : goal.returns-in-Up-clause-overs
-returns-in-Up-clause-overs g c = overs_raw c.args.self.now _ _ (subst (λ e. IsRawSet e) (sym c.in-Up.is) tt)
-
-pub returns-then-few-eq0-clause-overs : goal.returns-then-few-eq0-clause-overs
-returns-then-few-eq0-clause-overs g c = overs_raw c.args.self.now _ _ (subst (λ e. IsRawSet e) (sym c.in-Receives.is) tt)
-
-pub returns-then-not-has_numbers-clause-overs : goal.returns-then-not-has_numbers-clause-overs
-returns-then-not-has_numbers-clause-overs g c = overs_raw c.args.self.now _ _ (subst (λ e. IsRawSet e) (sym c.in-Receives.is) tt)
-
-pub returns-else-not-has_numbers-clause-overs : goal.returns-else-not-has_numbers-clause-overs
-returns-else-not-has_numbers-clause-overs g c = overs_raw c.args.self.now _ _ (subst (λ e. IsRawSet e) (sym c.in-Receives.is) tt)
-
-pub returns-in-Over-clause-overs : goal.returns-in-Over-clause-overs
-returns-in-Over-clause-overs g c = subst (λ e. OversCalled e (Over c.apply_waiting.new.self) c.apply_waiting.result) (sym c.in-Over.is) (c.apply_waiting.ensures.called, c.apply_waiting.ensures.off)
-
 pub returns-in-Over-clause-applied : goal.returns-in-Over-clause-applied
-returns-in-Over-clause-applied g c = λ beside n stands can.
-    subst (λ e. ReachedUp beside n c.args.count e (Over c.apply_waiting.new.self) c.apply_waiting.result) (sym c.in-Over.is) (c.apply_waiting.ensures.applied beside n (subst (λ e. SiteStands beside n e) c.in-Over.is stands) can)
-
-pub returns-in-Over-clause-brought : goal.returns-in-Over-clause-brought
-returns-in-Over-clause-brought g c = λ beside n stands can. c.apply_waiting.ensures.brought beside n (subst (λ e. SiteStands beside n e) c.in-Over.is stands) can
-
-pub returns-in-Over-clause-role : goal.returns-in-Over-clause-role
-returns-in-Over-clause-role g c = over_role c.args.self.now c.in-Over.over c.apply_waiting.new.self c.in-Over.is c.apply_waiting.ensures.called
-
-pub returns-in-Over-clause-later : goal.returns-in-Over-clause-later
-returns-in-Over-clause-later g c = over_later c.args.self.now c.in-Over.over c.apply_waiting.new.self c.in-Over.is c.apply_waiting.ensures.called
-
-pub returns-in-Over-clause-blames : goal.returns-in-Over-clause-blames
-returns-in-Over-clause-blames g c = λ beside n stands. blamed_over c.apply_waiting.result n (subst (λ e. SiteStands beside n e) c.in-Over.is stands).0.0
+returns-in-Over-clause-applied g c = λ beside n stands raw can. absurd (subst (λ e. IsRawSet e) c.in-Over.is raw)

@@ -6,25 +6,23 @@ use Rattle.vx_diskset.proofs.Fallen.{running_sure}
 use Rattle.vx_diskset.proofs.CallsBurn.{called_cut}
 use Rattle.vx_diskset.proofs.Reaching.{reached_off, reached_on}
 use Rattle.vx_diskset.proofs.Roles.{role_then}
-use Rattle.vx_diskset.specs.declared.receivers.Reached.{Reached}
-use Rattle.vx_diskset.proofs.OverNoted.{notes_cut, notes_done, notes_refused}
 use Rattle.vx_diskset.proofs.disk_set.DiskSet.apply_waiting.Goals as goal
 
 pub returns-then-is_off-clause-applied : goal.returns-then-is_off-clause-applied
-returns-then-is_off-clause-applied g c = λ beside n stands can.
+returns-then-is_off-clause-applied g c = λ beside n stands raw can.
     reached_off n c.args.count c.args.self.now c.apply_received.new.self c.fall.new.self c.in-Err.no (sym c.is_off.ensures ∙ c.if-is_off.true) (running_sure beside n c.args.self.now stands can.up can.running)
-    (c.in-Err.ensures.applied beside n stands can) (c.fall.ensures.falls beside (with_first n (n.safe + c.args.count)))
+    (c.in-Err.ensures.applied beside n stands raw can) (c.fall.ensures.falls beside (with_first n (n.safe + c.args.count)))
 
 pub returns-else-is_off-clause-applied : goal.returns-else-is_off-clause-applied
-returns-else-is_off-clause-applied g c = λ beside n stands can.
-    reached_on beside n c.args.count c.args.self.now c.apply_received.new.self c.in-Err.no (sym c.is_off.ensures ∙ c.if-is_off.false) (c.in-Err.ensures.applied beside n stands can)
+returns-else-is_off-clause-applied g c = λ beside n stands raw can.
+    reached_on beside n c.args.count c.args.self.now c.apply_received.new.self c.in-Err.no (sym c.is_off.ensures ∙ c.if-is_off.false) (c.in-Err.ensures.applied beside n stands raw can)
 
 pub returns-then-is_off-clause-called : goal.returns-then-is_off-clause-called
-returns-then-is_off-clause-called g c = λ beside n stands raw.
-    called_cut NoMore c.in-Err.no 0xffff_ffff_ffff_ffff c.args.self.now c.apply_received.new.self c.fall.new.self (sym c.is_off.ensures ∙ c.if-is_off.true) (c.in-Err.ensures.called beside n stands raw) c.fall.ensures.stopped
+returns-then-is_off-clause-called g c = λ beside n stands.
+    called_cut NoMore c.in-Err.no 0xffff_ffff_ffff_ffff c.args.self.now c.apply_received.new.self c.fall.new.self (sym c.is_off.ensures ∙ c.if-is_off.true) (c.in-Err.ensures.called beside n stands) c.fall.ensures.stopped
 
 pub returns-else-is_off-clause-called : goal.returns-else-is_off-clause-called
-returns-else-is_off-clause-called g c = λ beside n stands raw. c.in-Err.ensures.called beside n stands raw
+returns-else-is_off-clause-called g c = λ beside n stands. c.in-Err.ensures.called beside n stands
 
 pub returns-then-is_off-clause-role : goal.returns-then-is_off-clause-role
 returns-then-is_off-clause-role g c = role_then c.args.self.now c.apply_received.new.self c.fall.new.self c.apply_received.ensures.role c.fall.ensures.role
@@ -34,12 +32,3 @@ returns-then-is_off-clause-blames g c = λ beside n stands. c.in-Err.ensures.bla
 
 pub returns-else-is_off-clause-blames : goal.returns-else-is_off-clause-blames
 returns-else-is_off-clause-blames g c = λ beside n stands. c.in-Err.ensures.blames beside n stands
-
-pub returns-in-Ok-clause-notes : goal.returns-in-Ok-clause-notes
-returns-in-Ok-clause-notes g c = notes_done c.in-Ok.reached c.args.self.now c.apply_received.new.self c.in-Ok.ensures.overs
-
-pub returns-then-is_off-clause-notes : goal.returns-then-is_off-clause-notes
-returns-then-is_off-clause-notes g c = notes_cut Reached c.in-Err.no c.args.self.now c.apply_received.new.self c.fall.new.self (sym c.is_off.ensures ∙ c.if-is_off.true) c.in-Err.ensures.overs c.fall.ensures.fallen
-
-pub returns-else-is_off-clause-notes : goal.returns-else-is_off-clause-notes
-returns-else-is_off-clause-notes g c = notes_refused Reached c.in-Err.no c.args.self.now c.apply_received.new.self (sym c.is_off.ensures ∙ c.if-is_off.false) c.in-Err.ensures.overs

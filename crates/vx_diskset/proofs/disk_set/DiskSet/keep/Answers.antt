@@ -7,40 +7,30 @@ use Rattle.vx_diskset.proofs.CallsBurn.{called_cut}
 use Rattle.vx_diskset.proofs.HeadCalls.{head_cut}
 use Rattle.vx_diskset.proofs.KeepGroup.{kept_off, kept_on}
 use Rattle.vx_diskset.proofs.Roles.{role_then}
-use Rattle.vx_diskset.proofs.OverNoted.{notes_cut, notes_done, notes_refused}
 use Rattle.vx_diskset.proofs.disk_set.DiskSet.keep.Goals as goal
 
 pub returns-then-is_off-clause-kept : goal.returns-then-is_off-clause-kept
-returns-then-is_off-clause-kept g c = λ beside n stands can.
-    kept_off beside n c.args.state.now c.args.self.now c.keep_up.new.self c.fall.new.self c.in-Err.no (sym c.is_off.ensures ∙ c.if-is_off.true) (c.in-Err.ensures.kept beside n stands can)
+returns-then-is_off-clause-kept g c = λ beside n stands raw can.
+    kept_off beside n c.args.state.now c.args.self.now c.keep_up.new.self c.fall.new.self c.in-Err.no (sym c.is_off.ensures ∙ c.if-is_off.true) (c.in-Err.ensures.kept beside n stands raw can)
     (c.fall.ensures.falls (doubting beside n c.args.state.now 0) (halted_at n 0))
 
 pub returns-else-is_off-clause-kept : goal.returns-else-is_off-clause-kept
-returns-else-is_off-clause-kept g c = λ beside n stands can.
-    kept_on beside n c.args.state.now c.args.self.now c.keep_up.new.self c.in-Err.no (sym c.is_off.ensures ∙ c.if-is_off.false) (c.in-Err.ensures.kept beside n stands can)
+returns-else-is_off-clause-kept g c = λ beside n stands raw can.
+    kept_on beside n c.args.state.now c.args.self.now c.keep_up.new.self c.in-Err.no (sym c.is_off.ensures ∙ c.if-is_off.false) (c.in-Err.ensures.kept beside n stands raw can)
 
 pub returns-then-is_off-clause-called : goal.returns-then-is_off-clause-called
-returns-then-is_off-clause-called g c = λ beside n stands raw.
-    called_cut NoMore c.in-Err.no 0xffff_ffff_ffff_ffff c.args.self.now c.keep_up.new.self c.fall.new.self (sym c.is_off.ensures ∙ c.if-is_off.true) (c.in-Err.ensures.called beside n stands raw) c.fall.ensures.stopped
+returns-then-is_off-clause-called g c = λ beside n stands.
+    called_cut NoMore c.in-Err.no 0xffff_ffff_ffff_ffff c.args.self.now c.keep_up.new.self c.fall.new.self (sym c.is_off.ensures ∙ c.if-is_off.true) (c.in-Err.ensures.called beside n stands) c.fall.ensures.stopped
 
 pub returns-else-is_off-clause-called : goal.returns-else-is_off-clause-called
-returns-else-is_off-clause-called g c = λ beside n stands raw. c.in-Err.ensures.called beside n stands raw
+returns-else-is_off-clause-called g c = λ beside n stands. c.in-Err.ensures.called beside n stands
 
 pub returns-then-is_off-clause-headed : goal.returns-then-is_off-clause-headed
-returns-then-is_off-clause-headed g c = λ beside n stands raw.
-    head_cut 2 c.in-Err.no 0xffff_ffff_ffff_ffff c.args.self.now c.keep_up.new.self c.fall.new.self (sym c.is_off.ensures ∙ c.if-is_off.true) (c.in-Err.ensures.headed beside n stands raw) c.fall.ensures.stopped
+returns-then-is_off-clause-headed g c = λ beside n stands.
+    head_cut 2 c.in-Err.no 0xffff_ffff_ffff_ffff c.args.self.now c.keep_up.new.self c.fall.new.self (sym c.is_off.ensures ∙ c.if-is_off.true) (c.in-Err.ensures.headed beside n stands) c.fall.ensures.stopped
 
 pub returns-else-is_off-clause-headed : goal.returns-else-is_off-clause-headed
-returns-else-is_off-clause-headed g c = λ beside n stands raw. c.in-Err.ensures.headed beside n stands raw
+returns-else-is_off-clause-headed g c = λ beside n stands. c.in-Err.ensures.headed beside n stands
 
 pub returns-then-is_off-clause-role : goal.returns-then-is_off-clause-role
 returns-then-is_off-clause-role g c = role_then c.args.self.now c.keep_up.new.self c.fall.new.self c.keep_up.ensures.role c.fall.ensures.role
-
-pub returns-in-Ok-clause-notes : goal.returns-in-Ok-clause-notes
-returns-in-Ok-clause-notes g c = notes_done tt c.args.self.now c.keep_up.new.self c.in-Ok.ensures.overs
-
-pub returns-then-is_off-clause-notes : goal.returns-then-is_off-clause-notes
-returns-then-is_off-clause-notes g c = notes_cut (Unit {0}) c.in-Err.no c.args.self.now c.keep_up.new.self c.fall.new.self (sym c.is_off.ensures ∙ c.if-is_off.true) c.in-Err.ensures.overs c.fall.ensures.fallen
-
-pub returns-else-is_off-clause-notes : goal.returns-else-is_off-clause-notes
-returns-else-is_off-clause-notes g c = notes_refused (Unit {0}) c.in-Err.no c.args.self.now c.keep_up.new.self (sym c.is_off.ensures ∙ c.if-is_off.false) c.in-Err.ensures.overs
