@@ -103,7 +103,7 @@ returns-in-Ok-clause-asked g c = λ d stands below.
       after = after;
       there = there;
       disk_sets = refl;
-      did = calls_keep NoMore Done before after (c.in-Ok.ensures.called (beside_of d t) (d.world.nodes t) (stands.disk_sets.sites t before below there)));
+      did = calls_keep NoMore Done before after (c.in-Ok.ensures.called (beside_of d t) (d.world.nodes t) (stands.disk_sets.sites t before below there));
     })
 
 pub returns-in-Some-refusal-clause-asked : goal.returns-in-Some-refusal-clause-asked
@@ -118,7 +118,7 @@ returns-in-Some-refusal-clause-asked g c = λ d stands below.
       after = after;
       there = there;
       disk_sets = refl;
-      did = calls_keep NoMore _ before after (c.in-Err.ensures.called (beside_of d t) (d.world.nodes t) (stands.disk_sets.sites t before below there)));
+      did = calls_keep NoMore _ before after (c.in-Err.ensures.called (beside_of d t) (d.world.nodes t) (stands.disk_sets.sites t before below there));
     })
 
 pub returns-in-None-clause-asked : goal.returns-in-None-clause-asked
@@ -133,7 +133,7 @@ returns-in-None-clause-asked g c = λ d stands below.
       after = after;
       there = there;
       disk_sets = refl;
-      did = calls_keep NoMore _ before after (c.in-Err.ensures.called (beside_of d t) (d.world.nodes t) (stands.disk_sets.sites t before below there)));
+      did = calls_keep NoMore _ before after (c.in-Err.ensures.called (beside_of d t) (d.world.nodes t) (stands.disk_sets.sites t before below there));
     })
 
 pub returns-in-None-clause-leads : goal.returns-in-None-clause-leads
