@@ -113,7 +113,7 @@ either_kind true false e = absurd (cc)
 either_kind false b e = refl
 
 -- a site over a group without a replicated volume group
-group_alone : (n : Node) → is_over_group n ≡ true → is_over_rvg n ≡ false
+pub group_alone : (n : Node) → is_over_group n ≡ true → is_over_rvg n ≡ false
 group_alone n over = either_kind (is_some n.group) (eqb (length n.volumes) 0) over
 
 -- what no refusal tells of the site and the volumes that it names

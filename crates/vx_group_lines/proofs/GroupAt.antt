@@ -41,13 +41,13 @@ bare_down e = cc
 bare_away : IsBare ≡ IsDeported → ⊥
 bare_away e = cc
 
-pub away_up : IsDeported ≡ IsUp → ⊥
+away_up : IsDeported ≡ IsUp → ⊥
 away_up e = cc
 
 away_down : IsDeported ≡ IsDown → ⊥
 away_down e = cc
 
-pub down_up : IsDown ≡ IsUp → ⊥
+down_up : IsDown ≡ IsUp → ⊥
 down_up e = cc
 
 -- nothing is cut

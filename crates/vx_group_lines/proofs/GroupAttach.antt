@@ -72,7 +72,7 @@ maps_by note c v noted = entry_map (slice_get c.volumes v) ∙ ap (λ (o : Optio
 
 module _ {R : Type 0} {g : Ghosts R} where
   -- how many regions are copied
-  pub att_copies : (n : Node) (note : GroupNode) (e : GroupSite R g) (v plex k : ℕ) → UpNoted n note e → StandMaps note e
+  att_copies : (n : Node) (note : GroupNode) (e : GroupSite R g) (v plex k : ℕ) → UpNoted n note e → StandMaps note e
       → ((c : Config) (w : MissedNote) → site_config e ≡ Some c → MapsOf w c e → active c v plex ≡ false → CopiesNoted w c v plex k) → (IsTrue (is_plex_on e v plex) → k ≡ 0) → (is_plex_on e v plex ≡ false → RegionsOf e v k) → AttachCopies note v plex (DoneAt k)
   att_copies n note (SiteUp group) v plex k it had copies none all =
       let noted : NotesConfig note group.core.inner.config = record { is = it.at.lies.config; spells = it.spells } in

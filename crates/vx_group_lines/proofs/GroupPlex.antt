@@ -222,7 +222,7 @@ no_more note c v p noted last q = by_on (active c v q) refl
     by_on true on = ap (λ (b : Bool). not b && active c v q) (same_is (last.alone q (state_on note c v q noted on)))
     by_on false off = ap (λ (b : Bool). not (q == p) && b) off ∙ and_off (not (q == p))
 
-pub last_refused : (note : GroupNode) (c : Config) (v p : ℕ) → NotesConfig note c → HasPlex c v p → IsLastPlex note v p → det_refusal c v p ≡ Some LastPlex
+last_refused : (note : GroupNode) (c : Config) (v p : ℕ) → NotesConfig note c → HasPlex c v p → IsLastPlex note v p → det_refusal c v p ≡ Some LastPlex
 last_refused note c v p noted has last = det_last c v p has (on_state note c v p noted last.takes) (none_below (is_other c v p) (plexes_of c v) (no_more note c v p noted last))
 
 -- the plex that the tests found is one of the configuration
@@ -262,7 +262,7 @@ module _ {R : Type 0} {g : Ghosts R} where
   att_wants n note SiteGone name volume p f why it maps at below is = absurd it
 
   -- a detach that is done is not of the last plex that takes part
-  pub not_last : (n : Node) (note : GroupNode) (e : GroupSite R g) (v p : ℕ) (f : VolumeFacts) → UpNoted n note e → slice_get (noted_table note) v ≡ Some f → p < f.plexes
+  not_last : (n : Node) (note : GroupNode) (e : GroupSite R g) (v p : ℕ) (f : VolumeFacts) → UpNoted n note e → slice_get (noted_table note) v ≡ Some f → p < f.plexes
       → ((no : No) → refuses_det e v p ≡ Some no → (let r : Result (Unit {0}) Stop = Ok (tt {0}) in r) ≡ Err (StopsBy no)) → IsLastPlex note v p → ⊥
   not_last n note (SiteUp group) v p f it at below refused last =
       let noted : NotesConfig note group.core.inner.config = record { is = it.at.lies.config; spells = it.spells } in

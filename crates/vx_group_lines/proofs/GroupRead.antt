@@ -66,14 +66,14 @@ read_place : (w : World) (line : ScriptLine) (name volume : List ℕ) (start cou
 read_place w line name volume start count (ByRead is) = ap (λ (l : ScriptLine). group_place w l) is
 read_place w line name volume start count (ByShow is) = ap (λ (l : ScriptLine). group_place w l) is
 
-pub got_ends : (told : Type 0) (d e : Doubted) (line : ScriptLine) (name volume : List ℕ) (start count s : ℕ) (fails : Fails) (said : Said) → IsReadOf line name volume start count → AreOf s fails
+got_ends : (told : Type 0) (d e : Doubted) (line : ScriptLine) (name volume : List ℕ) (start count s : ℕ) (fails : Fails) (said : Said) → IsReadOf line name volume start count → AreOf s fails
     → GivesPlain told (note_at (d.world.nodes s)) (plain_number (note_at (d.world.nodes s)) volume) start count said → IsAs d (worked_on (noting d.world s (note_at (d.world.nodes s))) s) e → GroupEnds told d line s fails said e
 got_ends told d e line name volume start count s fails said (ByRead is) are gives is_as =
     subst (λ (l : ScriptLine). GroupEnds told d l s fails said e) (sym is) (GroupDone (note_at (d.world.nodes s)) are (refl, gives) is_as)
 got_ends told d e line name volume start count s fails said (ByShow is) are gives is_as =
     subst (λ (l : ScriptLine). GroupEnds told d l s fails said e) (sym is) (GroupDone (note_at (d.world.nodes s)) are (refl, gives) is_as)
 
-pub unread_ends : (told : Type 0) (d e : Doubted) (line : ScriptLine) (name volume : List ℕ) (start count s disk : ℕ) (fails : Fails) → IsReadOf line name volume start count → AreOf s fails → Contains fails (s, disk) → VolumeOut s fails (note_at (d.world.nodes s)) (plain_number (note_at (d.world.nodes s)) volume)
+unread_ends : (told : Type 0) (d e : Doubted) (line : ScriptLine) (name volume : List ℕ) (start count s disk : ℕ) (fails : Fails) → IsReadOf line name volume start count → AreOf s fails → Contains fails (s, disk) → VolumeOut s fails (note_at (d.world.nodes s)) (plain_number (note_at (d.world.nodes s)) volume)
     → IsAs d (worked_on (noting d.world s (note_at (d.world.nodes s))) s) e → GroupEnds told d line s fails (Refused (Device disk)) e
 unread_ends told d e line name volume start count s disk fails (ByRead is) are has out is_as =
     subst (λ (l : ScriptLine). GroupEnds told d l s fails (Refused (Device disk)) e) (sym is) (GroupFails disk (note_at (d.world.nodes s)) are has (refl, out) refl is_as)
@@ -82,7 +82,7 @@ unread_ends told d e line name volume start count s disk fails (ByShow is) are h
 
 -- ---- the blocks
 
-pub reads_block : (note : GroupNode) (m : Meaning) (v start count : ℕ) (bytes : List ℕ) → ReadsPlain note m v start bytes → length bytes ≡ 512 * count → IsTrue m.tells → (k : ℕ) → k < count → BlockMay note v (start + k) (block_of bytes k)
+reads_block : (note : GroupNode) (m : Meaning) (v start count : ℕ) (bytes : List ℕ) → ReadsPlain note m v start bytes → length bytes ≡ 512 * count → IsTrue m.tells → (k : ℕ) → k < count → BlockMay note v (start + k) (block_of bytes k)
 reads_block note m v start count bytes reads size tells k below =
     let back : (start + k) - start ≡ k = omega arith in
     subst (λ (j : ℕ). BlockMay note v (start + k) (take 512 (drop (512 * j) bytes))) back
@@ -109,7 +109,7 @@ module _ {R : Type 0} {g : Ghosts R} where
       (asks_at (ReadsBy (over_group_at d.world name)) d old new name s before after stands seat there sets (subst (λ (b : Bool). ReadsBy b before after) (sym over) failing))
 
   -- no plex could be read, as the calls that the line names say
-  pub volume_out : (n : Node) (note : GroupNode) (e : GroupSite R g) (v s many : ℕ) (fails : Fails) (behind : Meaning) → UpNoted n note e → Names s many fails (site_disks e) behind → SiteGivesUp v e behind → VolumeOut s fails note v
+  volume_out : (n : Node) (note : GroupNode) (e : GroupSite R g) (v s many : ℕ) (fails : Fails) (behind : Meaning) → UpNoted n note e → Names s many fails (site_disks e) behind → SiteGivesUp v e behind → VolumeOut s fails note v
   volume_out n note (SiteUp group) v s many fails behind up names gone = record {
     config = at_serial 0 group.core.inner.config;
     is = notes_config note group.core.inner.config (record { is = up.at.lies.config; spells = up.spells });

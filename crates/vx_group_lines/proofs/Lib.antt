@@ -42,14 +42,6 @@ pub mod MapLines
 pub mod MapReturns
 pub mod MapGoing
 pub mod MapComing
-pub mod Numbered
 pub mod Going
 pub mod Worked
 pub mod Plains
-pub mod BelowAt
-pub mod BelowMissed
-pub mod BelowUp
-pub mod BelowOff
-pub mod BelowDone
-pub mod BelowDeport
-pub mod BelowStart

@@ -1,18 +1,17 @@
 -- What a line leads to that goes to the group of its site: one that finds no replicated volume group over it, and one that may find one.
 use Rattle.std.proofs.Common.{◌≡◌, ◌∙◌, Bool, true, false, List, ℕ, sym, subst, refl}
-use Rattle.std.specs.Prelude.{◌&&◌, ◌||◌, eqb, is_some, length, not, Result}
+use Rattle.std.specs.Prelude.{◌||◌, Result}
 use Rattle.vx_model.specs.declared.errors.OutOfMemory.{OutOfMemory}
 use Rattle.vx_disk.specs.declared.shelf.Shelf.{Ghosts}
 use Rattle.vx_history.specs.Doubts.{Doubted}
-use Rattle.vx_history.specs.World.{Node, World}
+use Rattle.vx_history.specs.World.{World}
 use Rattle.vx_script.specs.declared.line.ScriptLine.{ScriptLine}
 use Rattle.vx_script.specs.declared.line.ScriptLine.TheVariants.{GroupInit, GroupDeport, GroupImport, Volume, PlexDetach, PlexAttach, Rvg, Disk, Crash, Fuse, Recover, Status, Write, Put, Read, Show}
+use Rattle.vx_events.proofs.RvgTests.{group_alone}
 use Rattle.vx_events.specs.Facts.{site_number}
 use Rattle.vx_events.specs.GroupEnds.{BringsUp}
-use Rattle.vx_events.specs.GroupLines.{is_over_group}
 use Rattle.vx_events.specs.OpenLines.{is_open}
 use Rattle.vx_events.specs.RvgSteps.{MakesNoRvg, is_for_rvg, over_rvg_at}
-use Rattle.vx_events.specs.RvgViews.{is_over_rvg}
 use Rattle.vx_events.specs.StepsOver.{is_for_group, over_group_at}
 use Rattle.vx_events.specs.declared.said.Said.{Said}
 use Rattle.vx_yard.specs.AboveLines.{LeadsAboveIs, LeadsBesideIs, WorksIs}
@@ -31,18 +30,8 @@ or_left : (a b : Bool) → (a || b) ≡ true → b ≡ false → a ≡ true
 or_left true b is off = refl
 or_left false b is off = absurd (let clash : true ≡ false = sym is ∙ off in cc)
 
--- a group without a replicated volume group has none over it
-none_by : (group none : Bool) → (group && none) ≡ true → (group && not none) ≡ false
-none_by true true is = refl
-none_by true false is = absurd (let clash : false ≡ true = is in cc)
-none_by false none is = refl
-
-none_at : (n : Node) → is_over_group n ≡ true → is_over_rvg n ≡ false
-none_at n over = none_by (is_some n.group) (eqb (length n.volumes) 0) over
-
 -- a line that may do nothing but work on the group, or that makes it
 abbrev pub WorksAlone : ScriptLine → Type 0
-WorksAlone (GroupDeport site) = ⊥
 WorksAlone (GroupImport site) = ⊥
 WorksAlone (Recover site) = ⊥
 WorksAlone (Rvg site srl maps volumes) = ⊥
@@ -60,21 +49,21 @@ alone_brings other alone brings = brings
 -- where it is not open, no replicated volume group is over the group
 alone_off : (w : World) (line : ScriptLine) → WorksAlone line → goes_to_group w line ≡ true → is_open w line ≡ false → is_for_rvg w line ≡ false
 alone_off w (GroupInit site) alone goes closed = refl
-alone_off w (GroupDeport site) alone goes closed = absurd alone
+alone_off w (GroupDeport site) alone goes closed = closed
 alone_off w (GroupImport site) alone goes closed = absurd alone
 alone_off w (Volume site volume blocks mirrors layout log map policy) alone goes closed = closed
 alone_off w (PlexDetach site volume plex) alone goes closed = closed
 alone_off w (PlexAttach site volume plex) alone goes closed = closed
 alone_off w (Rvg site srl maps volumes) alone goes closed = absurd alone
-alone_off w (Disk site disk state) alone goes closed = none_at (w.nodes (site_number w site)) goes
-alone_off w (Crash site pick) alone goes closed = none_at (w.nodes (site_number w site)) goes
-alone_off w (Fuse site calls pick) alone goes closed = none_at (w.nodes (site_number w site)) goes
+alone_off w (Disk site disk state) alone goes closed = group_alone (w.nodes (site_number w site)) goes
+alone_off w (Crash site pick) alone goes closed = group_alone (w.nodes (site_number w site)) goes
+alone_off w (Fuse site calls pick) alone goes closed = group_alone (w.nodes (site_number w site)) goes
 alone_off w (Recover site) alone goes closed = absurd alone
-alone_off w (Status site) alone goes closed = none_at (w.nodes (site_number w site)) goes
-alone_off w (Write site volume start count fill) alone goes closed = none_at (w.nodes (site_number w site)) goes
-alone_off w (Put site volume start bytes) alone goes closed = none_at (w.nodes (site_number w site)) goes
-alone_off w (Read site volume start count) alone goes closed = none_at (w.nodes (site_number w site)) goes
-alone_off w (Show site volume start count) alone goes closed = none_at (w.nodes (site_number w site)) goes
+alone_off w (Status site) alone goes closed = group_alone (w.nodes (site_number w site)) goes
+alone_off w (Write site volume start count fill) alone goes closed = group_alone (w.nodes (site_number w site)) goes
+alone_off w (Put site volume start bytes) alone goes closed = group_alone (w.nodes (site_number w site)) goes
+alone_off w (Read site volume start count) alone goes closed = group_alone (w.nodes (site_number w site)) goes
+alone_off w (Show site volume start count) alone goes closed = group_alone (w.nodes (site_number w site)) goes
 alone_off w other alone goes closed = absurd (let clash : false ≡ true = goes in cc)
 
 module _ {R : Type 0} {g : Ghosts R} (d : Doubted) (y : Yard R g) where
@@ -130,40 +119,33 @@ module _ {R : Type 0} {g : Ghosts R} (d : Doubted) (y : Yard R g) where
         (alone_works line r alone stands kept (subst (λ (x : ScriptLine). IsFree y x) is free) (subst (λ (x : ScriptLine). goes_to_group d.world x ≡ true) is goes)
         (subst (λ (x : ScriptLine). is_open d.world x ≡ false) is closed) leads)
 
-    -- ---- one that may find one
+    -- ---- one that brings the group up, and may find one
 
-    -- that is not brought up
-    deport_works : (name : List ℕ) (r : Result Said OutOfMemory) → StandsFor d y → IsYardKept y → IsFree y (GroupDeport name) → (is_for_group d.world (GroupDeport name) ≡ true → LeadsOverIs d (GroupDeport name) y new r)
-        → (is_for_rvg d.world (GroupDeport name) ≡ true → LeadsAboveIs d (GroupDeport name) y new r) → WorksIs d (GroupDeport name) y new r
-    deport_works name r stands kept free leads above = by (over_rvg_at d.world name) refl
-      where
-        by : (b : Bool) → over_rvg_at d.world name ≡ b → WorksIs d (GroupDeport name) y new r
-        by true over = works_above d (GroupDeport name) y new tt refl over r (above over)
-        by false off =
-            let group : is_for_group d.world (GroupDeport name) ≡ true = alone_goes (GroupDeport name) tt stands kept free refl off in
-            works_over d (GroupDeport name) y new tt refl off r group (λ next brings. absurd brings) (or_stops d (GroupDeport name) y new r (leads group))
+    import_works : (name : List ℕ) (r : Result Said OutOfMemory) → StandsFor d y → IsYardKept y → IsFree y (GroupImport name) → is_open d.world (GroupImport name) ≡ false
+        → (is_for_group d.world (GroupImport name) ≡ true → LeadsBesideIs d (GroupImport name) y new r) → WorksIs d (GroupImport name) y new r
+    import_works name r stands kept free closed beside =
+        works_beside d (GroupImport name) y new tt closed closed r (beside (alone_goes (GroupImport name) tt stands kept free refl closed))
 
-    pub works_deport : (words : ScriptLine) (name : List ℕ) (r : Result Said OutOfMemory) → words ≡ GroupDeport name → StandsFor d y → IsYardKept y → IsFree y words → (is_for_group d.world (GroupDeport name) ≡ true → LeadsOverIs d (GroupDeport name) y new r)
-        → (is_for_rvg d.world (GroupDeport name) ≡ true → LeadsAboveIs d (GroupDeport name) y new r) → WorksIs d words y new r
-    works_deport words name r is stands kept free leads above =
-        subst (λ (x : ScriptLine). WorksIs d x y new r) (sym is) (deport_works name r stands kept (subst (λ (x : ScriptLine). IsFree y x) is free) leads above)
-
-    -- that is brought up
-    brought_works : (line : ScriptLine) (r : Result Said OutOfMemory) → MakesNoRvg line → StandsFor d y → IsYardKept y → IsFree y line → goes_to_group d.world line ≡ true → is_open d.world line ≡ false
-        → (is_for_group d.world line ≡ true → LeadsBesideIs d line y new r) → (is_for_rvg d.world line ≡ true → LeadsAboveIs d line y new r) → WorksIs d line y new r
-    brought_works line r none stands kept free goes closed beside above = by (is_for_rvg d.world line) refl
-      where
-        by : (b : Bool) → is_for_rvg d.world line ≡ b → WorksIs d line y new r
-        by true over = works_above d line y new none closed over r (above over)
-        by false off = works_beside d line y new none closed off r (beside (alone_goes line none stands kept free goes off))
-
-    pub works_brought : (words line : ScriptLine) (r : Result Said OutOfMemory) → words ≡ line → MakesNoRvg line → StandsFor d y → IsYardKept y → IsFree y words → goes_to_group d.world words ≡ true → is_open d.world words ≡ false
-        → (is_for_group d.world line ≡ true → LeadsBesideIs d line y new r) → (is_for_rvg d.world line ≡ true → LeadsAboveIs d line y new r) → WorksIs d words y new r
-    works_brought words line r is none stands kept free goes closed beside above =
+    pub works_import : (words : ScriptLine) (name : List ℕ) (r : Result Said OutOfMemory) → words ≡ GroupImport name → StandsFor d y → IsYardKept y → IsFree y words → is_open d.world words ≡ false
+        → (is_for_group d.world (GroupImport name) ≡ true → LeadsBesideIs d (GroupImport name) y new r) → WorksIs d words y new r
+    works_import words name r is stands kept free closed beside =
         subst (λ (x : ScriptLine). WorksIs d x y new r) (sym is)
-        (brought_works line r none stands kept (subst (λ (x : ScriptLine). IsFree y x) is free) (subst (λ (x : ScriptLine). goes_to_group d.world x ≡ true) is goes)
-        (subst (λ (x : ScriptLine). is_open d.world x ≡ false) is closed) beside above)
+        (import_works name r stands kept (subst (λ (x : ScriptLine). IsFree y x) is free) (subst (λ (x : ScriptLine). is_open d.world x ≡ false) is closed) beside)
 
-    -- that is made
+    recover_works : (name : List ℕ) (r : Result Said OutOfMemory) → (over_group_at d.world name || over_rvg_at d.world name) ≡ true → (is_for_group d.world (Recover name) ≡ true → LeadsBesideIs d (Recover name) y new r)
+        → (is_for_rvg d.world (Recover name) ≡ true → LeadsAboveIs d (Recover name) y new r) → WorksIs d (Recover name) y new r
+    recover_works name r goes beside above = by (over_rvg_at d.world name) refl
+      where
+        by : (b : Bool) → over_rvg_at d.world name ≡ b → WorksIs d (Recover name) y new r
+        by true over = works_above d (Recover name) y new tt refl over r (above over)
+        by false off = works_beside d (Recover name) y new tt refl off r (beside (or_left (over_group_at d.world name) (over_rvg_at d.world name) goes off))
+
+    pub works_recover : (words : ScriptLine) (name : List ℕ) (r : Result Said OutOfMemory) → words ≡ Recover name → goes_to_group d.world words ≡ true → (is_for_group d.world (Recover name) ≡ true → LeadsBesideIs d (Recover name) y new r)
+        → (is_for_rvg d.world (Recover name) ≡ true → LeadsAboveIs d (Recover name) y new r) → WorksIs d words y new r
+    works_recover words name r is goes beside above =
+        subst (λ (x : ScriptLine). WorksIs d x y new r) (sym is) (recover_works name r (subst (λ (x : ScriptLine). goes_to_group d.world x ≡ true) is goes) beside above)
+
+    -- ---- one that makes one
+
     pub works_made : (words : ScriptLine) (site srl maps : List ℕ) (volumes : List (List ℕ)) (r : Result Said OutOfMemory) → words ≡ Rvg site srl maps volumes → LeadsRvgIs d site srl maps volumes y new r → WorksIs d words y new r
     works_made words site srl maps volumes r is leads = subst (λ (x : ScriptLine). WorksIs d x y new r) (sym is) (works_rvg d site srl maps volumes y new r leads)

@@ -12,7 +12,6 @@ mod init;
 mod lines;
 mod marks;
 mod noting;
-mod numbers;
 mod plex;
 mod read;
 mod recover;

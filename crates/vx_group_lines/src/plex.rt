@@ -9,7 +9,6 @@ ghost use Rattle.vx_yard.specs.Working.{IsFree};
 ghost use Rattle.vx_yard.specs.Yards.{IsYardKept, IsTold, in_files};
 
 use crate::noting::group_stopped;
-use crate::numbers::number_of;
 use std::alloc::Global;
 use vx_disk::Rack;
 use vx_events::Said;
@@ -33,8 +32,8 @@ pub fn detach_line<R: Rack>(
     ensures files { in_files yard.new ≡ in_files yard.old }
 {
     let site = yard.site_of(name);
-    let place = number_of(yard, site, volume);
-    match yard.disk_sets[site].detach_plex(place, plex.min(0xffff_ffff) as u32) {
+    let place = yard.volume_of(site, volume);
+    match yard.disk_sets[site].detach_plex(place as u32, plex.min(0xffff_ffff) as u32) {
         Ok(()) => Ok(Said::Done),
         Err(stop) => group_stopped(yard, alloc, site, stop),
     }
@@ -57,8 +56,8 @@ pub fn attach_line<R: Rack>(
     ensures files { in_files yard.new ≡ in_files yard.old }
 {
     let site = yard.site_of(name);
-    let place = number_of(yard, site, volume);
-    match yard.disk_sets[site].attach_plex(place, plex.min(0xffff_ffff) as u32) {
+    let place = yard.volume_of(site, volume);
+    match yard.disk_sets[site].attach_plex(place as u32, plex.min(0xffff_ffff) as u32) {
         Ok(copied) => Ok(Said::DoneAt(copied)),
         Err(stop) => group_stopped(yard, alloc, site, stop),
     }

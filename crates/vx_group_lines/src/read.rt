@@ -16,7 +16,6 @@ ghost use Rattle.vx_yard.specs.Standing.{LeadsOver, StandsFor};
 ghost use Rattle.vx_yard.specs.Working.{IsFree};
 ghost use Rattle.vx_yard.specs.Yards.{IsYardKept, IsTold, in_files};
 
-use crate::numbers::number_of;
 use vx_disk::Rack;
 use vx_diskset::DiskSet;
 use vx_events::Said;
@@ -58,8 +57,8 @@ pub fn read_plain<R: Rack>(
     ensures files { in_files yard.new ≡ in_files yard.old }
 {
     let site = yard.site_of(name);
-    let place = number_of(yard, site, volume);
-    match blocks_of(&mut yard.disk_sets[site], place, start, room) {
+    let place = yard.volume_of(site, volume);
+    match blocks_of(&mut yard.disk_sets[site], place as u32, start, room) {
         Ok(blocks) => Said::Got(blocks),
         Err(no) => Said::Refused(no),
     }

@@ -11,7 +11,6 @@ ghost use Rattle.vx_yard.specs.Working.{IsFree};
 ghost use Rattle.vx_yard.specs.Yards.{IsYardKept, IsTold, in_files};
 
 use crate::noting::group_refused;
-use crate::numbers::number_of;
 use std::alloc::Global;
 use vx_disk::Rack;
 use vx_events::Said;
@@ -40,8 +39,8 @@ pub fn write_plain<R: Rack>(
     ensures files { in_files yard.new ≡ in_files yard.old }
 {
     let site = yard.site_of(name);
-    let place = number_of(yard, site, volume);
-    match yard.disk_sets[site].write_plain(place, start, bytes) {
+    let place = yard.volume_of(site, volume);
+    match yard.disk_sets[site].write_plain(place as u32, start, bytes) {
         Ok(()) => Said::Done,
         Err(no) => group_refused(yard, alloc, site, no),
     }

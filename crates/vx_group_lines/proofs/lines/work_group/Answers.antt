@@ -7,7 +7,7 @@ use Rattle.vx_yard.specs.Working.{IsFree}
 use Rattle.vx_yard.specs.Yards.{in_files}
 use Rattle.vx_group_lines.proofs.Tests.{volume_may}
 use Rattle.vx_group_lines.proofs.WorkLines.{memory_short, ok_any, prefers_below, prefers_few, rest_blocks, shape_layout}
-use Rattle.vx_group_lines.proofs.Worked.{goes_alone, works_brought, works_closed, works_deport, works_made}
+use Rattle.vx_group_lines.proofs.Worked.{goes_alone, works_closed, works_import, works_made, works_recover}
 use Rattle.vx_group_lines.proofs.lines.work_group.Goals as goal
 
 pub init_line-requires-clause-free : goal.init_line-requires-clause-free
@@ -31,7 +31,7 @@ deport_line-requires-clause-free g c = λ κs lives. subst (λ line. IsFree c.ar
 
 pub returns-in-GroupDeport-clause-leads : goal.returns-in-GroupDeport-clause-leads
 returns-in-GroupDeport-clause-leads g c = λ d stands goes closed.
-    works_deport d c.args.yard.now c.deport_line.new.yard c.args.words.now _ c.deport_line.result c.in-GroupDeport.is stands c.requires.kept c.requires.free (λ group. c.deport_line.ensures.leads d stands group) (λ over. c.deport_line.ensures.above d stands over)
+    works_closed d c.args.yard.now c.deport_line.new.yard c.args.words.now _ c.deport_line.result c.in-GroupDeport.is tt stands c.requires.kept c.requires.free goes closed (λ group. c.deport_line.ensures.leads d stands group)
 
 pub returns-in-GroupDeport-clause-asked : goal.returns-in-GroupDeport-clause-asked
 returns-in-GroupDeport-clause-asked g c = λ d stands goes off. subst (λ line. AsAsked d.world line c.args.yard.now c.deport_line.new.yard) (sym c.in-GroupDeport.is) (c.deport_line.ensures.asked d stands (goes_alone d c.args.yard.now c.args.words.now _ c.in-GroupDeport.is tt stands c.requires.kept c.requires.free goes off))
@@ -48,7 +48,7 @@ import_line-requires-clause-free g c = λ κs lives. subst (λ line. IsFree c.ar
 
 pub returns-in-GroupImport-clause-leads : goal.returns-in-GroupImport-clause-leads
 returns-in-GroupImport-clause-leads g c = λ d stands goes closed.
-    works_brought d c.args.yard.now c.import_line.new.yard c.args.words.now _ c.import_line.result c.in-GroupImport.is tt stands c.requires.kept c.requires.free goes closed (λ group. c.import_line.ensures.beside d stands group) (λ over. c.import_line.ensures.above d stands over)
+    works_import d c.args.yard.now c.import_line.new.yard c.args.words.now _ c.import_line.result c.in-GroupImport.is stands c.requires.kept c.requires.free closed (λ group. c.import_line.ensures.beside d stands group)
 
 pub returns-in-GroupImport-clause-asked : goal.returns-in-GroupImport-clause-asked
 returns-in-GroupImport-clause-asked g c = λ d stands goes off. subst (λ line. AsAsked d.world line c.args.yard.now c.import_line.new.yard) (sym c.in-GroupImport.is) (c.import_line.ensures.asked d stands (goes_alone d c.args.yard.now c.args.words.now _ c.in-GroupImport.is tt stands c.requires.kept c.requires.free goes off))
@@ -153,7 +153,7 @@ recover_line-requires-clause-free g c = λ κs lives. subst (λ line. IsFree c.a
 
 pub returns-in-Recover-clause-leads : goal.returns-in-Recover-clause-leads
 returns-in-Recover-clause-leads g c = λ d stands goes closed.
-    works_brought d c.args.yard.now c.recover_line.new.yard c.args.words.now _ c.recover_line.result c.in-Recover.is tt stands c.requires.kept c.requires.free goes closed (λ group. c.recover_line.ensures.beside d stands group) (λ over. c.recover_line.ensures.above d stands over)
+    works_recover d c.args.yard.now c.recover_line.new.yard c.args.words.now _ c.recover_line.result c.in-Recover.is goes (λ group. c.recover_line.ensures.beside d stands group) (λ over. c.recover_line.ensures.above d stands over)
 
 pub returns-in-Recover-clause-asked : goal.returns-in-Recover-clause-asked
 returns-in-Recover-clause-asked g c = λ d stands goes off. subst (λ line. AsAsked d.world line c.args.yard.now c.recover_line.new.yard) (sym c.in-Recover.is) (c.recover_line.ensures.asked d stands (goes_alone d c.args.yard.now c.args.words.now _ c.in-Recover.is tt stands c.requires.kept c.requires.free goes off))

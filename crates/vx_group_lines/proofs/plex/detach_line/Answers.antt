@@ -15,7 +15,6 @@ use Rattle.vx_yard.specs.Yards.{in_files}
 use Rattle.vx_yard.specs.Stands.{AreTold}
 use Rattle.vx_group_lines.proofs.GroupNamed.{if_ok, plain_is, plain_there, plex_fits, plex_named, reply_same, up_named}
 use Rattle.vx_group_lines.proofs.GroupPlex.{det_at, det_done, det_refuses, det_stopped, det_maps_at}
-use Rattle.vx_group_lines.proofs.Numbered.{placed_at}
 use Rattle.vx_group_lines.proofs.Tests.{detach_may}
 use Rattle.vx_group_lines.proofs.plex.detach_line.Goals as goal
 
@@ -23,6 +22,11 @@ pub site_of-site-requires-clause-named : goal.site_of-site-requires-clause-named
 site_of-site-requires-clause-named g c κs within =
     let may = detach_may c.args.yard.now.facts.items (in_files c.args.yard.now) c.args.name.now c.args.volume.now c.args.plex c.requires.free in
     named_some c.args.yard.now c.args.name.now may.may.site
+
+pub volume_of-place-requires-clause-named : goal.volume_of-place-requires-clause-named
+volume_of-place-requires-clause-named g c κs within = λ f at.
+    plain_there c.args.yard.now c.args.name.now c.args.volume.now c.args.plex c.site_of-site.result f c.site_of-site.ensures.seat at
+    (detach_may c.args.yard.now.facts.items (in_files c.args.yard.now) c.args.name.now c.args.volume.now c.args.plex c.requires.free)
 
 pub returns-in-Ok-clause-leads : goal.returns-in-Ok-clause-leads
 returns-in-Ok-clause-leads g c = λ d stands over.
@@ -50,13 +54,13 @@ returns-in-Ok-clause-leads g c = λ d stands over.
       since = c.in-Ok.ensures.since;
     })
     plex.there plex.below up.is_up
-    (det_at n note (plain_is d y c.args.name.now c.args.volume.now s c.number_of-place.result c.index_mut.result.now up.at (placed_at y s c.index_mut.result.now c.args.volume.now c.number_of-place.result n note up.at.set up.at.is_set up.is_up up.at.fact at c.number_of-place.ensures (λ f there. plain_there y c.args.name.now c.args.volume.now c.args.plex s f seat there may)))
+    (det_at n note (plain_is d y c.args.name.now c.args.volume.now s c.volume_of-place.result c.index_mut.result.now up.at c.volume_of-place.ensures.place)
     (c.min.ensures ∙ plex_fits n note up.at.set.site c.args.volume.now c.args.plex up.is_up plex) (Ok (tt {0})) c.index_mut.result.now c.detach_plex.new.self
     (c.in-Ok.ensures.called n note up.noted))
-    (det_maps_at (plain_is d y c.args.name.now c.args.volume.now s c.number_of-place.result c.index_mut.result.now up.at (placed_at y s c.index_mut.result.now c.args.volume.now c.number_of-place.result n note up.at.set up.at.is_set up.is_up up.at.fact at c.number_of-place.ensures (λ f there. plain_there y c.args.name.now c.args.volume.now c.args.plex s f seat there may)))
+    (det_maps_at (plain_is d y c.args.name.now c.args.volume.now s c.volume_of-place.result c.index_mut.result.now up.at c.volume_of-place.ensures.place)
     (c.min.ensures ∙ plex_fits n note up.at.set.site c.args.volume.now c.args.plex up.is_up plex) (Ok (tt {0})) c.index_mut.result.now c.detach_plex.new.self
     (c.in-Ok.ensures.maps n note up.noted))
-    (det_refuses c.index_mut.result.now up.at.set up.at.is_set (plain_is d y c.args.name.now c.args.volume.now s c.number_of-place.result c.index_mut.result.now up.at (placed_at y s c.index_mut.result.now c.args.volume.now c.number_of-place.result n note up.at.set up.at.is_set up.is_up up.at.fact at c.number_of-place.ensures (λ f there. plain_there y c.args.name.now c.args.volume.now c.args.plex s f seat there may)))
+    (det_refuses c.index_mut.result.now up.at.set up.at.is_set (plain_is d y c.args.name.now c.args.volume.now s c.volume_of-place.result c.index_mut.result.now up.at c.volume_of-place.ensures.place)
     (c.min.ensures ∙ plex_fits n note up.at.set.site c.args.volume.now c.args.plex up.is_up plex) (λ no refuses. c.in-Ok.ensures.refused n note no up.noted refuses))
     refl (record { flight = refl; assemblies = refl; feeders = refl })
 
@@ -92,10 +96,10 @@ returns-in-Err-clause-leads g c = λ d stands over.
       since = c.in-Err.ensures.since;
     })
     plex.there plex.below up.is_up _ c.group_stopped.result (record { facts = refl; load = record { flight = refl; assemblies = refl; feeders = refl } }) c.in-Err.stop
-    (det_at n note (plain_is d y c.args.name.now c.args.volume.now s c.number_of-place.result c.index_mut.result.now up.at (placed_at y s c.index_mut.result.now c.args.volume.now c.number_of-place.result n note up.at.set up.at.is_set up.is_up up.at.fact at c.number_of-place.ensures (λ f there. plain_there y c.args.name.now c.args.volume.now c.args.plex s f seat there may)))
+    (det_at n note (plain_is d y c.args.name.now c.args.volume.now s c.volume_of-place.result c.index_mut.result.now up.at c.volume_of-place.ensures.place)
     (c.min.ensures ∙ plex_fits n note up.at.set.site c.args.volume.now c.args.plex up.is_up plex) (Err c.in-Err.stop) c.index_mut.result.now c.detach_plex.new.self
     (c.in-Err.ensures.called n note up.noted))
-    (det_maps_at (plain_is d y c.args.name.now c.args.volume.now s c.number_of-place.result c.index_mut.result.now up.at (placed_at y s c.index_mut.result.now c.args.volume.now c.number_of-place.result n note up.at.set up.at.is_set up.is_up up.at.fact at c.number_of-place.ensures (λ f there. plain_there y c.args.name.now c.args.volume.now c.args.plex s f seat there may)))
+    (det_maps_at (plain_is d y c.args.name.now c.args.volume.now s c.volume_of-place.result c.index_mut.result.now up.at c.volume_of-place.ensures.place)
     (c.min.ensures ∙ plex_fits n note up.at.set.site c.args.volume.now c.args.plex up.is_up plex) (Err c.in-Err.stop) c.index_mut.result.now c.detach_plex.new.self
     (c.in-Err.ensures.maps n note up.noted))
     reply
