@@ -20,7 +20,7 @@ use Rattle.vx_events.specs.OpenLines.{is_open}
 use Rattle.vx_events.specs.RvgMakes.{MakesRvg, RvgCut, RvgDone, RvgFails, RvgLacks}
 use Rattle.vx_events.specs.RvgNotes.{NotesLacking, NotesNarrowed, NotesNoRvg, NotesRvg}
 use Rattle.vx_events.specs.RvgOver.{EndsOver, OverRvg}
-use Rattle.vx_events.specs.RvgParts.{RvgShort, ShortFull, ShortGroup, ShortLog, ShortMade, ShortPump, short_place}
+use Rattle.vx_events.specs.RvgParts.{RvgShort, ShortFull, ShortGroup, ShortLog, ShortMade, short_place}
 use Rattle.vx_events.specs.RvgSteps.{AsBefore, FoundOne, FullBy, Gained, WorksAbove, WorksBeside, WorksFull, is_for_rvg, rvg_place}
 use Rattle.vx_events.specs.StepsOver.{group_place, is_for_group}
 use Rattle.vx_events.specs.declared.said.Said.{Said}
@@ -136,7 +136,6 @@ module _ {T U : Type 0} (f : U → T) where
   part_told d line s new (ShortLog kept taken fails middle found next from rest of brings back rests is left) =
       ShortLog kept taken fails middle found next from rest of brings (back_told f s (d.world.nodes s) fails (note_at (d.world.nodes s)) middle back) rests is left
   part_told d line s new (ShortMade site srl maps volumes fails next is of notes left) = ShortMade site srl maps volumes fails next is of (no_rvg_told _ s fails _ (note_at (d.world.nodes s)) next notes) left
-  part_told d line s new (ShortPump first second fails next is over of works left) = ShortPump first second fails next is over of works left
 
   pub short_told : (d : Doubted) (line : ScriptLine) (new : Doubted) → ShortFull T d line new → ShortFull U d line new
   short_told d line new (inl stops) = inl (stops_told d line new stops)

@@ -4,18 +4,16 @@ use Rattle.std.proofs.Common.{◌≡◌, ◌∙◌, append_assoc, inl, inr, ℕ,
 use Rattle.std.specs.Prelude.{◌⊎◌, Some, None}
 use Rattle.vx_model.specs.declared.site.SiteState.{SiteState}
 use Rattle.vx_model.specs.declared.site.SiteState.TheVariants.{Bare, Up, Deported, Down}
-use Rattle.vx_history.proofs.Updates.{by_test}
 use Rattle.vx_history.specs.Doubts.{Doubted}
 use Rattle.vx_history.specs.Groups.{GroupNode}
 use Rattle.vx_history.specs.Likes.{IsLike}
 use Rattle.vx_history.specs.Stops.{EventsEnd, AllDone as EventsDone, Halts, Cuts, Reads, IsLikeDoubted, IsOpen, all_fails, told_fails}
-use Rattle.vx_history.specs.World.{NoFuse, Node, World}
+use Rattle.vx_history.specs.World.{NoFuse, World}
 use Rattle.vx_history.specs.declared.event.Event.{Event}
 use Rattle.vx_history.specs.declared.event.Event.TheVariants.{Crash as CrashAt, Fall as FallAt, Recover as RecoverAt}
 use Rattle.vx_script.specs.declared.line.ScriptLine.{ScriptLine}
 use Rattle.vx_script.specs.declared.line.ScriptLine.TheVariants.{Site, Raw, Disk as DiskLine, Crash, Fuse as FuseLine, GroupImport, Recover, Write, Put, Read, Show, Apply, Status}
 use Rattle.vx_events.proofs.GroupStopping.{events_tell, noted_like}
-use Rattle.vx_events.proofs.LinkStopping.{link_stops}
 use Rattle.vx_events.proofs.Noting.{as_like, disks_like, like_disks, like_noted, like_self, like_then, same_like, like_site}
 use Rattle.vx_events.proofs.RvgFull.{brings_found}
 use Rattle.vx_events.proofs.RvgKnown.{back_dark}
@@ -30,13 +28,10 @@ use Rattle.vx_events.specs.GroupLines.{group_events, group_noted, noting}
 use Rattle.vx_events.specs.GroupNotes.{IsKnown, note_at}
 use Rattle.vx_events.specs.Lists.{Choice, events_of, recovery_of, crash_count}
 use Rattle.vx_events.specs.RvgBack.{FindsNoRvg, FindsPlain, FindsRvg, GetsRvg, GroupCutOff, GroupHeld, GroupUnfound, HadRvg, IsLeftBack, KeptLost, IsLeftBut, LogCut, LogFails, LogLacks, RestsWithRvg, RvgBack, RvgFinds, RvgUp, fall_first, fuse_left, rest_again}
-use Rattle.vx_events.specs.Brights.{AllKnown}
-use Rattle.vx_events.specs.RvgLinks.{LinksOver, noting_each, noted_there}
 use Rattle.vx_events.specs.RvgMakes.{RvgStops, noting_in}
 use Rattle.vx_events.specs.RvgNotes.{volume_events}
 use Rattle.vx_events.specs.RvgOver.{EndsOver, OpensFor, OverRvg, noting_over, fuse_behind}
-use Rattle.vx_events.specs.RvgParts.{RvgShort, ShortGroup, ShortLog, ShortMade, ShortPump}
-use Rattle.vx_events.specs.RvgViews.{is_over_rvg}
+use Rattle.vx_events.specs.RvgParts.{RvgShort, ShortGroup, ShortLog, ShortMade}
 use Rattle.vx_events.specs.RvgWorks.{AgreesOr}
 use Rattle.vx_events.specs.declared.said.Said.{Said}
 
@@ -184,7 +179,6 @@ short_stops told d line s new (ShortGroup kept taken lost next over brings notes
 short_stops told d line s new (ShortLog kept taken fails middle found next from rest are brings back rests is left) =
     but_by true d from (rests_like d line s kept middle found from rest rests) s line taken next rest [] new (rests_tell d line s kept middle found from rest rests) left
 short_stops told d line s new (ShortMade site srl maps volumes fails next is are notes left) = ended_rvg d d new (same_doubted d) s next [] refl left
-short_stops told d line s new (ShortPump first second fails next is over are works left) = ended_rvg d d new (same_doubted d) s next [] refl left
 
 -- ---- where a line writes its site is open
 
@@ -250,30 +244,3 @@ module _ (told : Type 0) (is_told : told) (d : Doubted) (s : ℕ) (bright : (not
       by : RvgStops d new ⊎ RvgFinds told d line s fails said new → RvgStops d new
       by (inl stops) = stops
       by (inr finds) = finds_stops line (agree (brings_found told d line s fails said new finds)) finds
-
--- ---- lines of links
-
-each_like : (line : ScriptLine) (w : World) (next : ℕ → GroupNode) (v : World) → IsLike v (noting_each line w next v)
-each_like line w next v = record {
-  sites = refl;
-  nodes = λ i. by_test (λ (n : Node). n ≡ record (v.nodes i) { fuse = n.fuse; failing = n.failing; group = n.group }) (is_over_rvg (w.nodes i))
-      (noted_there w line i (next i) (v.nodes i)) (v.nodes i) (λ _. refl) (λ _. refl);
-  links = λ p q. record { linked = refl; same = λ _. refl };
-  lines = λ l. refl;
-  packets = refl;
-  promised = refl;
-  gathering = λ i. refl;
-}
-
-pub links_over_stop : (told : Type 0) (d : Doubted) (line : ScriptLine) (fails : Fails) (said : Said) (new : Doubted) → AllKnown told d.world
-    → LinksOver told d line fails said new → RvgStops d new
-links_over_stop told d line fails said new known h =
-    let stops = link_stops (AllKnown told d.world) known d line h.ending said h.middle h.ends in
-    record {
-      before = d;
-      like = same_doubted d;
-      events = stops.events;
-      ending = h.ending;
-      stops = ends_like d stops.events h.ending h.middle new stops.stops
-          (as_like h.middle new (noting_each line d.world h.next h.middle.world) (each_like line d.world h.next h.middle.world) h.left);
-    }

@@ -1,5 +1,5 @@
 -- Where no call of a line failed, and no fuse ran out in it, imports of a group of disks with a replicated volume group agree behind it as before.
-use Rattle.std.proofs.Common.{◌≡◌, ◌∙◌, ◌⊎◌, inl, inr, ℕ, Bool, true, false, List, Option, Some, ap, subst, sym}
+use Rattle.std.proofs.Common.{◌≡◌, ◌∙◌, ◌⊎◌, inl, inr, ℕ, true, false, List, Option, Some, ap, subst, sym}
 use Rattle.std.specs.Prelude.{unwrap_or}
 use Rattle.vx_model.specs.declared.no.Counted.TheVariants.{Number}
 use Rattle.vx_model.specs.declared.no.No.{No}
@@ -12,15 +12,13 @@ use Rattle.vx_config.specs.declared.config.Config.{Config}
 use Rattle.vx_script.specs.declared.line.ScriptLine.{ScriptLine}
 use Rattle.vx_script.specs.declared.line.ScriptLine.TheVariants.{Recover, Write, Put, Read, Show}
 use Rattle.vx_events.proofs.RvgEnding.{never_found}
-use Rattle.vx_events.proofs.RvgStays.{back_group, but_group, each_group}
+use Rattle.vx_events.proofs.RvgStays.{back_group, but_group}
 use Rattle.vx_events.specs.Fails.{Fails}
 use Rattle.vx_events.specs.GroupEnds.{NotFoundLeaves}
 use Rattle.vx_events.specs.GroupMaps.{WithMaps}
 use Rattle.vx_events.specs.GroupNotes.{NotesBack, NotesRefused, Reconfigures, no_note, note_at}
 use Rattle.vx_events.specs.RvgBack.{GetsRvg, GroupCutOff, GroupHeld, GroupUnfound, HadRvg, KeptLost, LogCut, LogFails, LogLacks, RestsWithRvg, RvgBack, RvgFinds, RvgUp}
-use Rattle.vx_events.specs.RvgLinks.{LinksOver, NotesThere, works_at}
 use Rattle.vx_events.specs.RvgOver.{EndsOver, NotesLine, OverRvg, SaysOver}
-use Rattle.vx_events.specs.RvgViews.{is_over_rvg}
 use Rattle.vx_events.specs.RvgWorks.{FuseRanOut, NoneFailed, NoteAgrees}
 use Rattle.vx_events.specs.declared.said.Said.{Said}
 use Rattle.vx_events.proofs.RvgKnown.{noted_over_here}
@@ -104,17 +102,3 @@ module _ (told : Type 0) (tells : told) (d : Doubted) (s : ℕ) (fails : Fails) 
   pub over_agrees : (line : ScriptLine) → OverRvg told d line s fails said new → NoteAgrees (note_at (new.world.nodes s))
   over_agrees (Recover site) ends = back_or (Recover site) ends
   over_agrees other ends = line_ends other ends
-
--- ---- lines of links
-
-there_agrees : (works : Bool) (Off : Type 0) (i : ℕ) (fails : Fails) (note next : GroupNode) → NoneFailed i fails → (Off → ⊥) → NoteAgrees note
-    → NotesThere works Off i fails note next → NoteAgrees next
-there_agrees true Off i fails note next none dry a x = x.keeps.quiet none dry a
-there_agrees false Off i fails note next none dry a same = agrees_note note next same a
-
-pub links_agree : (told : Type 0) (d : Doubted) (line : ScriptLine) (fails : Fails) (said : Said) (new : Doubted) → LinksOver told d line fails said new → (i : ℕ)
-    → is_over_rvg (d.world.nodes i) ≡ true → NoneFailed i fails → (FuseRanOut (d.world.nodes i) said → ⊥) → NoteAgrees (note_at (d.world.nodes i))
-    → NoteAgrees (note_at (new.world.nodes i))
-links_agree told d line fails said new h i over none dry a =
-    agrees_at (new.world.nodes i) (h.next i) (ap (λ (w : World). (w.nodes i).group) h.left.world ∙ each_group line d.world h.next h.middle.world i over)
-    (there_agrees (works_at d.world line i) (FuseRanOut (d.world.nodes i) said) i fails (note_at (d.world.nodes i)) (h.next i) none dry a (h.notes i over))

@@ -16,7 +16,7 @@ use Rattle.vx_events.specs.GroupViews.{config_of}
 use Rattle.vx_events.specs.RvgFits.{NoteKeepsRvg}
 use Rattle.vx_events.specs.RvgMakes.{units_at}
 use Rattle.vx_events.specs.RvgNotes.{NotesNoRvg}
-use Rattle.vx_events.specs.RvgParts.{RvgShort, ShortGroup, ShortLog, ShortMade, ShortPump}
+use Rattle.vx_events.specs.RvgParts.{RvgShort, ShortGroup, ShortLog, ShortMade}
 use Rattle.vx_events.specs.RvgViews.{is_over_rvg}
 use Rattle.vx_events.specs.declared.said.Said.TheVariants.{Done}
 
@@ -45,8 +45,6 @@ module _ (told : Type 0) (d : Doubted) (line : ScriptLine) (s : ℕ) (new : Doub
       (then_same here found next (came_keeps told d line s fails Done new over kept middle found from rest rests) (ap (λ (g : GroupNode). g.config) is))
   short_stays over (ShortMade site srl maps volumes fails next is are notes left) =
       subst (λ (g : GroupNode). NoteKeepsRvg here g) (sym (gained_note s next d new left)) (unmade_keeps told s fails (units_at d s srl maps volumes) here next notes)
-  short_stays over (ShortPump first second fails next is has are works left) =
-      subst (λ (g : GroupNode). NoteKeepsRvg here g) (sym (gained_note s next d new left)) (loses s fails here next works)
 
   pub short_known : here.dark ≡ false → (BringsUp line → here.loose ≡ false) → RvgShort told d line s new → (note_at (new.world.nodes s)).dark ≡ false
   short_known known agree (ShortGroup kept taken lost next has brings notes left) =
@@ -58,5 +56,3 @@ module _ (told : Type 0) (d : Doubted) (line : ScriptLine) (s : ℕ) (new : Doub
   short_known known agree (ShortMade site srl maps volumes fails next is are notes left) =
       ap (λ (g : GroupNode). g.dark) (gained_note s next d new left) ∙ works_dark ⊥ s fails notes.middle next notes.moves
       ∙ narrowed_dark told (units_at d s srl maps volumes) here notes.middle notes.narrowed ∙ known
-  short_known known agree (ShortPump first second fails next is has are works left) =
-      ap (λ (g : GroupNode). g.dark) (gained_note s next d new left) ∙ works_dark ⊥ s fails here next works ∙ known

@@ -1,6 +1,6 @@
 -- A line at a site over a group of disks with a replicated volume group leaves it noted with the one that it had, on the same volumes.
 use Rattle.std.proofs.Common.{◌≡◌, ◌∙◌, ◌⊎◌, inl, inr, ℕ, Bool, true, false, List, Option, Some, ap, sym, subst}
-use Rattle.std.specs.Prelude.{if◌then◌else◌, slice_get, unwrap_or}
+use Rattle.std.specs.Prelude.{slice_get, unwrap_or}
 use Rattle.vx_model.specs.declared.no.Counted.TheVariants.{Number}
 use Rattle.vx_model.specs.declared.no.No.{No}
 use Rattle.vx_model.specs.declared.no.No.TheVariants.{Limit}
@@ -26,7 +26,6 @@ use Rattle.vx_events.specs.GroupNotes.{IsKnown, NotesBack, NotesRefused, Reconfi
 use Rattle.vx_events.specs.GroupViews.{config_of}
 use Rattle.vx_events.specs.RvgBack.{FindsNoRvg, FindsPlain, FindsRvg, GetsRvg, GroupCutOff, GroupHeld, GroupUnfound, HadRvg, IsLeftBack, IsLeftBut, KeptLost, LogCut, LogFails, LogLacks, RestsWithRvg, RvgBack, RvgFinds, RvgUp}
 use Rattle.vx_events.specs.RvgFits.{KeepsRvg, KeptConfig, NoteKeepsRvg, config_rvg, rvg_noted}
-use Rattle.vx_events.specs.RvgLinks.{LinksOver, NotesThere, noting_each, works_at, noted_there}
 use Rattle.vx_events.specs.RvgOver.{NotesLine, OverRvg, EndsOver}
 use Rattle.vx_events.specs.RvgViews.{is_over_rvg}
 use Rattle.vx_events.specs.RvgWorks.{NotesWork, FuseRanOut, WorksCut}
@@ -197,20 +196,3 @@ module _ (told : Type 0) (d : Doubted) (s : ℕ) (fails : Fails) (said : Said) (
       by : Stays ⊎ RvgFinds told d line s fails said new → Stays
       by (inl stays) = stays
       by (inr finds) = finds_stays told d line s fails said new over tells finds known
-
--- ---- lines of links
-
-there_keeps : (works : Bool) (Off : Type 0) (i : ℕ) (fails : Fails) (note next : GroupNode) → NotesThere works Off i fails note next → NoteKeepsRvg note next
-there_keeps true Off i fails note next x = loses i fails note next x
-there_keeps false Off i fails note next same = same_note note next same
-
-pub each_group : (line : ScriptLine) (w : World) (next : ℕ → GroupNode) (v : World) (i : ℕ) → is_over_rvg (w.nodes i) ≡ true → ((noting_each line w next v).nodes i).group ≡ Some (next i)
-each_group line w next v i over =
-    ap (λ (b : Bool). let n : Node = (if b then noted_there w line i (next i) (v.nodes i) else v.nodes i) in n.group) over
-
-pub links_stay : (told : Type 0) (d : Doubted) (line : ScriptLine) (fails : Fails) (said : Said) (new : Doubted) → LinksOver told d line fails said new → (i : ℕ)
-    → is_over_rvg (d.world.nodes i) ≡ true → NoteKeepsRvg (note_at (d.world.nodes i)) (note_at (new.world.nodes i))
-links_stay told d line fails said new h i over =
-    by_note (new.world.nodes i) (note_at (d.world.nodes i)) (h.next i)
-    (ap (λ (w : World). (w.nodes i).group) h.left.world ∙ each_group line d.world h.next h.middle.world i over)
-    (there_keeps (works_at d.world line i) (FuseRanOut (d.world.nodes i) said) i fails (note_at (d.world.nodes i)) (h.next i) (h.notes i over))

@@ -1,11 +1,11 @@
--- What want of memory may leave of a line that makes a replicated volume group, of a pump, and of a recovery or an import where a group of disks has one, or is found to have one.
+-- What want of memory may leave of a line that makes a replicated volume group, and of a recovery or an import where a group of disks has one, or is found to have one.
 use Rattle.std.specs.Prelude.{◌≡◌, ◌⊎◌, ℕ, Bool, true, List}
 use Rattle.vx_history.specs.Doubts.{Doubted}
 use Rattle.vx_history.specs.Groups.{GroupNode}
 use Rattle.vx_history.specs.World.{World}
 use Rattle.vx_history.specs.declared.event.Event.{Event}
 use Rattle.vx_script.specs.declared.line.ScriptLine.{ScriptLine}
-use Rattle.vx_script.specs.declared.line.ScriptLine.TheVariants.{Pump, Rvg}
+use Rattle.vx_script.specs.declared.line.ScriptLine.TheVariants.{Rvg}
 use Rattle.vx_events.specs.Doubts.{run_as}
 use Rattle.vx_events.specs.Facts.{site_number}
 use Rattle.vx_events.specs.Fails.{Fails}
@@ -16,7 +16,6 @@ use Rattle.vx_events.specs.RvgBack.{IsLeftBut, RestsWithRvg, fall_first}
 use Rattle.vx_events.specs.RvgMakes.{IsLeftRvg, units_at}
 use Rattle.vx_events.specs.RvgNotes.{NotesNoRvg}
 use Rattle.vx_events.specs.RvgViews.{is_over_rvg}
-use Rattle.vx_events.specs.RvgWorks.{NotesWork}
 use Rattle.vx_events.specs.StepsOver.{group_place}
 
 pub data RvgShort (told : Type 0) (d : Doubted) (line : ScriptLine) (s : ℕ) (new : Doubted) : Type 0 where
@@ -32,14 +31,10 @@ pub data RvgShort (told : Type 0) (d : Doubted) (line : ScriptLine) (s : ℕ) (n
   -- none was made, but calls on disks were
   ShortMade : (site srl maps : List ℕ) (volumes : List (List ℕ)) (fails : Fails) (next : GroupNode) → line ≡ Rvg site srl maps volumes → AreOf s fails
       → NotesNoRvg told ⊥ s fails (units_at d s srl maps volumes) (note_at (d.world.nodes s)) next → IsLeftRvg s next d new → RvgShort told d line s new
-  -- nothing was sent, but the log was read, and a mirror may have lost a disk by that
-  ShortPump : (first second : List ℕ) (fails : Fails) (next : GroupNode) → line ≡ Pump first second → is_over_rvg (d.world.nodes s) ≡ true → AreOf s fails
-      → NotesWork ⊥ s fails (note_at (d.world.nodes s)) next → IsLeftRvg s next d new → RvgShort told d line s new
 
 -- the site of such a line
 abbrev pub short_place : World → ScriptLine → ℕ
 short_place w (Rvg site srl maps volumes) = site_number w site
-short_place w (Pump first second) = site_number w first
 short_place w other = group_place w other
 
 -- what want of memory leaves of a line in worlds in which some sites are over groups of disks, with replicated volume groups or without

@@ -25,8 +25,7 @@ ghost use Rattle.vx_events.specs.RvgFits.{FitsNoted, FitsSome, MayGetRvg, NoteKe
 ghost use Rattle.vx_events.specs.RvgBack.{RvgBack};
 ghost use Rattle.vx_events.specs.RvgWorks.{AgreesOr, FuseRanOut, NoneFailed, NoteAgrees};
 ghost use Rattle.vx_events.specs.declared.said.Said.TheVariants.{Done as SaysDone};
-ghost use Rattle.vx_events.specs.Brights.{AllKnown, SitesBright};
-ghost use Rattle.vx_events.specs.RvgLinks.{LinksOver};
+ghost use Rattle.vx_events.specs.Brights.{SitesBright};
 ghost use Rattle.vx_events.specs.RvgMakes.{MakesRvg, RvgStops};
 ghost use Rattle.vx_events.specs.RvgOver.{OpensFor, OverRvg};
 ghost use Rattle.vx_events.specs.RvgParts.{RvgShort};
@@ -124,14 +123,12 @@ pub fn made_rvgs_fit()
         → FitsNoted (new.world.nodes (site_number d.world site)) }
 {}
 
-/// So does each line at a site over a group of disks with a replicated volume group, and each of links of such a site, where it is known what the disks hold; of one
-/// that brings the site up, where imports agree, or it is known behind it too.
+/// So does each line at a site over a group of disks with a replicated volume group, where it is known what the disks hold; of one that brings the site up, where imports
+/// agree, or it is known behind it too.
 pub fn lines_over_rvgs_are_events()
     ensures over { (d : Doubted) (line : ScriptLine) (s : ℕ) (fails : Fails) (said : Said) (new : Doubted) → OpensFor d.world line
         → (note_at (d.world.nodes s)).dark ≡ false → (BringsUp line → AgreesOr (note_at (d.world.nodes s)) (note_at (new.world.nodes s))) → OverRvg (Unit {0}) d line s fails said new
         → RvgStops d new }
-    ensures links { (d : Doubted) (line : ScriptLine) (fails : Fails) (said : Said) (new : Doubted) → AllKnown (Unit {0}) d.world
-        → LinksOver (Unit {0}) d line fails said new → RvgStops d new }
 {}
 
 /// So does what want of memory leaves of a recovery or an import of such a site, or of a line that makes a replicated volume group.
@@ -139,19 +136,15 @@ pub fn rvg_shorts_are_events()
     ensures { (tells : Bool) (d : Doubted) (line : ScriptLine) (s : ℕ) (new : Doubted) → RvgShort (IsTrue tells) d line s new → RvgStops d new }
 {}
 
-/// Where no call of a line failed at such a site, and its fuse did not run out, imports of its group agree behind the line as before, and nothing is begun. So do they
-/// behind a line of links.
+/// Where no call of a line failed at such a site, and its fuse did not run out, imports of its group agree behind the line as before, and nothing is begun.
 pub fn quiet_rvgs_stay_agreed()
     ensures over { (d : Doubted) (line : ScriptLine) (s : ℕ) (fails : Fails) (said : Said) (new : Doubted) → NoneFailed s fails
         → (FuseRanOut (d.world.nodes s) said → ⊥) → (note_at (d.world.nodes s)).dark ≡ false → NoteAgrees (note_at (d.world.nodes s))
         → OverRvg (Unit {0}) d line s fails said new → NoteAgrees (note_at (new.world.nodes s)) }
-    ensures links { (tells : Bool) (d : Doubted) (line : ScriptLine) (fails : Fails) (said : Said) (new : Doubted) → LinksOver (IsTrue tells) d line fails said new
-        → (i : ℕ) → is_over_rvg (d.world.nodes i) ≡ true → NoneFailed i fails → (FuseRanOut (d.world.nodes i) said → ⊥) → NoteAgrees (note_at (d.world.nodes i))
-        → NoteAgrees (note_at (new.world.nodes i)) }
 {}
 
 /// However a line at such a site ends, the configuration that the site notes has the replicated volume group that it had, and the volumes that it had with their names
-/// and their blocks, as long as it is known what the disks hold. So has it behind a line of links, and behind a recovery or an import that found what is noted. It did where it is
+/// and their blocks, as long as it is known what the disks hold. So has it behind a recovery or an import that found what is noted. It did where it is
 /// known what the disks hold, and the group came up with the same replicated volume group.
 pub fn rvgs_stay_noted()
     ensures over { (d : Doubted) (line : ScriptLine) (s : ℕ) (fails : Fails) (said : Said) (new : Doubted) → is_over_rvg (d.world.nodes s) ≡ true
@@ -160,8 +153,6 @@ pub fn rvgs_stay_noted()
         → RvgBack (IsTrue tells) d line s fails said new → NoteKeepsRvg (note_at (d.world.nodes s)) (note_at (new.world.nodes s)) }
     ensures found { (tells : Bool) (s : ℕ) (n : Node) (fails : Fails) (note middle : GroupNode) → IsKnown (IsTrue tells) middle → rvg_noted middle ≡ rvg_noted note
         → NotesBack (IsTrue tells) s n fails note middle → NoteKeepsRvg note middle }
-    ensures links { (tells : Bool) (d : Doubted) (line : ScriptLine) (fails : Fails) (said : Said) (new : Doubted) → LinksOver (IsTrue tells) d line fails said new
-        → (i : ℕ) → is_over_rvg (d.world.nodes i) ≡ true → NoteKeepsRvg (note_at (d.world.nodes i)) (note_at (new.world.nodes i)) }
 {}
 
 /// In a world without groups of disks, over disks that tell their contents, a line that makes none does what it does there. A line that works on a group, and is refused or not, ends as

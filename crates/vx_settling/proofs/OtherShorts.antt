@@ -14,7 +14,7 @@ use Rattle.vx_events.specs.GroupEnds.{BringsUp}
 use Rattle.vx_events.specs.GroupLines.{crash_first, fuse_lost, noting}
 use Rattle.vx_events.specs.Parts.{FellFirst, PartLeft, ReadFirst, StopsBetween, StopsDown, StopsInPart, StopsRead, StopsShort, raises_first, reads_first}
 use Rattle.vx_events.specs.RvgBack.{fall_first}
-use Rattle.vx_events.specs.RvgParts.{RvgShort, ShortFull, ShortGroup, ShortLog, ShortMade, ShortPump, short_place}
+use Rattle.vx_events.specs.RvgParts.{RvgShort, ShortFull, ShortGroup, ShortLog, ShortMade, short_place}
 use Rattle.vx_events.specs.StepsOver.{group_place}
 use Rattle.vx_events.specs.declared.said.Said.TheVariants.{Done}
 use Rattle.vx_settling.specs.OtherNotes.{HasNote, may_note}
@@ -80,10 +80,6 @@ module _ (i : ℕ) (o : Option GroupNode) (d : Doubted) (x : OtherNotes.Standing
   rvg_notes line off (ShortLog kept taken fails middle found next from rest are brings back rests is left) =
       OtherLines.fell i o d x told fails Done new line (short_place d.world line) kept middle found from rest (short_apart d.world line i off brings) rests taken next rest left
   rvg_notes line off (ShortMade site srl maps volumes fails next is are notes left) =
-      let apart : eqb i (short_place d.world line) ≡ false =
-      subst (λ (l : ScriptLine). eqb i (short_place d.world l) ≡ false) (sym is) (subst (λ (l : ScriptLine). may_note d.world l i ≡ false) is off) in
-      OtherLines.made_notes i o (short_place d.world line) next d new apart left x.has
-  rvg_notes line off (ShortPump first second fails next is over are works left) =
       let apart : eqb i (short_place d.world line) ≡ false =
       subst (λ (l : ScriptLine). eqb i (short_place d.world l) ≡ false) (sym is) (subst (λ (l : ScriptLine). may_note d.world l i ≡ false) is off) in
       OtherLines.made_notes i o (short_place d.world line) next d new apart left x.has

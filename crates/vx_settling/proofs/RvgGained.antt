@@ -37,7 +37,7 @@ use Rattle.vx_events.specs.RvgBack.{GetsRvg, GroupCutOff, GroupHeld, GroupUnfoun
 use Rattle.vx_events.specs.RvgFits.{FitsNoted, NoteKeepsRvg, data_of, entries_noted}
 use Rattle.vx_events.specs.RvgMakes.{noting_in}
 use Rattle.vx_events.specs.RvgNotes.{srl_blocks, volume_events}
-use Rattle.vx_events.specs.RvgParts.{RvgShort, ShortGroup, ShortLog, ShortMade, ShortPump}
+use Rattle.vx_events.specs.RvgParts.{RvgShort, ShortGroup, ShortLog, ShortMade}
 use Rattle.vx_events.specs.RvgViews.{is_over_rvg}
 use Rattle.vx_events.specs.RvgWorks.{WorksCut}
 use Rattle.vx_events.specs.declared.said.Said.{Said}
@@ -297,4 +297,3 @@ short_gains told d line s new may free up (ShortGroup kept taken lost next has b
 short_gains told d line s new may free up (ShortLog kept taken fails middle found next from rest are brings back rests is left) =
     gains_so told d line s fails Done new may free kept taken middle found next from rest up back rests (same_config found next (ap (λ (g : GroupNode). g.config) is)) left
 short_gains told d line s new may free up (ShortMade site srl maps volumes fails next is are notes left) = absurd (subst BringsUp is up)
-short_gains told d line s new may free up (ShortPump first second fails next is over are works left) = absurd (subst BringsUp is up)

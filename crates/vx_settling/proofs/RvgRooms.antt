@@ -16,16 +16,14 @@ use Rattle.vx_world.proofs.RoomLines.{like_has, like_stays, line_room}
 use Rattle.vx_world.proofs.Rooms.{room_then}
 use Rattle.vx_world.specs.Lines.{DoubtsAlike, GoodDoubted, HasData, RoomStays, SameRoom}
 use Rattle.vx_events.proofs.RvgAgain.{fits_again, fits_found}
-use Rattle.vx_events.proofs.RvgEnding.{back_like, fall_stops, links_over_stop, stops_or_finds}
-use Rattle.vx_events.proofs.RvgStays.{back_group, but_keeps, links_stay, refused_config, same_config, stays_or_finds}
+use Rattle.vx_events.proofs.RvgEnding.{back_like, fall_stops, stops_or_finds}
+use Rattle.vx_events.proofs.RvgStays.{back_group, but_keeps, refused_config, same_config, stays_or_finds}
 use Rattle.vx_events.specs.Ends.{found_linked}
 use Rattle.vx_events.specs.Fails.{Fails}
 use Rattle.vx_events.specs.GroupNotes.{note_at}
 use Rattle.vx_events.specs.GroupViews.{config_of}
 use Rattle.vx_events.specs.RvgBack.{FindsNoRvg, FindsPlain, FindsRvg, IsLeftBack, RvgFinds}
 use Rattle.vx_events.specs.RvgFits.{FitsNoted, FitsRvg, HasUnits, NoteKeepsRvg}
-use Rattle.vx_events.specs.Brights.{AllKnown}
-use Rattle.vx_events.specs.RvgLinks.{LinksOver}
 use Rattle.vx_events.specs.RvgMakes.{RvgStops}
 use Rattle.vx_events.specs.RvgOver.{OpensFor, OverRvg}
 use Rattle.vx_events.specs.RvgViews.{is_over_rvg}
@@ -118,8 +116,3 @@ module _ (told : Type 0) (tells : told) (d : Doubted) (good : GoodDoubted d) (al
       by (inl stops) (inl keeps) = stopped_fits s made over stops keeps fits
       by (inl stops) (inr finds) = finds_fits s made over fits still finds
       by (inr finds) keeps = finds_fits s made over fits still finds
-
-  pub links_fit : AllKnown told d.world → LinksOver told d line fails said new → (i : ℕ) → IsMade (d.world.nodes i) → is_over_rvg (d.world.nodes i) ≡ true
-      → FitsNoted (d.world.nodes i) → FitsNoted (new.world.nodes i)
-  links_fit known ends i made over fits =
-      stopped_fits i made over (links_over_stop told d line fails said new known ends) (links_stay told d line fails said new ends i over) fits

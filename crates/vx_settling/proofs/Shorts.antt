@@ -21,7 +21,7 @@ use Rattle.vx_events.specs.GroupNotes.{note_at}
 use Rattle.vx_events.specs.RvgBack.{IsLeftBut, fall_first, fuse_left}
 use Rattle.vx_events.specs.RvgFits.{FitsNoted}
 use Rattle.vx_events.specs.RvgMakes.{RvgStops}
-use Rattle.vx_events.specs.RvgParts.{RvgShort, ShortGroup, ShortLog, ShortMade, ShortPump}
+use Rattle.vx_events.specs.RvgParts.{RvgShort, ShortGroup, ShortLog, ShortMade}
 use Rattle.vx_events.specs.RvgViews.{is_over_rvg}
 use Rattle.vx_events.specs.declared.said.Said.TheVariants.{Done}
 use Rattle.vx_events.specs.Brights.{AllBright, IsBright}
@@ -53,7 +53,6 @@ module _ (told : Type 0) (tells : told) (d : Doubted) (line : ScriptLine) (s : �
           from_bright told tells d b fails Done new line s kept middle found from rest (sym (ap (λ (g : GroupNode). g.dark) is) ∙ known) rests in
           but_bright true s line taken next from (run_as taken from rest) new left here start (run_bright taken from rest start)
       by (ShortMade site srl maps volumes fails next is are notes left) here = made_bright s next d new left here b
-      by (ShortPump first second fails next is over are works left) here = made_bright s next d new left here b
 
 pub short_good : (told : Type 0) (d : Doubted) (line : ScriptLine) (s : ℕ) (new : Doubted) → GoodDoubted d → RvgShort told d line s new → GoodDoubted new
 short_good told d line s new good short =

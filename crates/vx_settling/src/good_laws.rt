@@ -9,8 +9,7 @@ ghost use Rattle.vx_events.specs.GroupEnds.{BringsUp};
 ghost use Rattle.vx_events.specs.GroupNotes.{note_at};
 ghost use Rattle.vx_events.specs.RvgBack.{RvgBack, RvgFinds};
 ghost use Rattle.vx_events.specs.RvgFits.{FitsNoted};
-ghost use Rattle.vx_events.specs.Brights.{AllBright, AllKnown};
-ghost use Rattle.vx_events.specs.RvgLinks.{LinksOver};
+ghost use Rattle.vx_events.specs.Brights.{AllBright};
 ghost use Rattle.vx_events.specs.RvgOver.{OpensFor, OverRvg};
 ghost use Rattle.vx_events.specs.RvgSteps.{AgreeFor, StepFull};
 ghost use Rattle.vx_events.specs.RvgViews.{is_over_rvg};
@@ -36,7 +35,7 @@ pub fn full_lines_stay_known()
 
 /// Where it is known what the disks hold, and imports agree of a group that the line brings up, or it is known behind it too, each site that has data volumes has these behind a line as before it,
 /// with its log. And a site that has the replicated volume group which it notes has the one that it notes then, if it has one still: behind a line at the site, whatever it
-/// found on disks that may not agree, and behind one of links. So has a site without one of which a recovery or an import finds that it has one, also where its log did not
+/// found on disks that may not agree. So has a site without one of which a recovery or an import finds that it has one, also where its log did not
 /// come up, and where nothing was known of the disks.
 pub fn rvgs_stay_fit()
     ensures rooms { (files : Bool) (d : Doubted) (line : ScriptLine) (fails : Fails) (said : Said) (new : Doubted) → GoodDoubted d → DoubtsAlike d → AgreeFor d.world line new.world
@@ -45,9 +44,6 @@ pub fn rvgs_stay_fit()
         → is_over_rvg (d.world.nodes s) ≡ true → OpensFor d.world line → (note_at (d.world.nodes s)).dark ≡ false
         → OverRvg (Unit {0}) d line s fails said new → FitsNoted (d.world.nodes s)
         → is_over_rvg (new.world.nodes s) ≡ true → FitsNoted (new.world.nodes s) }
-    ensures links { (d : Doubted) (line : ScriptLine) (fails : Fails) (said : Said) (new : Doubted) → GoodDoubted d → DoubtsAlike d → AllKnown (Unit {0}) d.world
-        → LinksOver (Unit {0}) d line fails said new → (i : ℕ) → IsMade (d.world.nodes i) → is_over_rvg (d.world.nodes i) ≡ true → FitsNoted (d.world.nodes i)
-        → FitsNoted (new.world.nodes i) }
     ensures gained { (d : Doubted) (line : ScriptLine) (s : ℕ) (fails : Fails) (said : Said) (new : Doubted) → MayGain d.world.sites line s (d.world.nodes s)
         → d.after s ≡ None → RvgBack (Unit {0}) d line s fails said new → FitsNoted (new.world.nodes s) }
     ensures found { (tells : Bool) (d : Doubted) (line : ScriptLine) (s : ℕ) (fails : Fails) (said : Said) (new : Doubted) → (is_over_rvg (d.world.nodes s) ≡ true → ⊥)

@@ -5,7 +5,6 @@ use Rattle.vx_disk.specs.declared.shelf.Shelf.{Ghosts}
 use Rattle.vx_history.specs.Doubts.{Doubted}
 use Rattle.vx_script.specs.declared.line.ScriptLine.{ScriptLine}
 use Rattle.vx_events.specs.Fails.{Fails}
-use Rattle.vx_events.specs.RvgLinks.{LinksOver}
 use Rattle.vx_events.specs.RvgOver.{OverRvg}
 use Rattle.vx_events.specs.RvgSteps.{WorksBeside, WorksFull, rvg_place}
 use Rattle.vx_events.specs.declared.said.Said.{Said}
@@ -16,20 +15,11 @@ use Rattle.vx_yard.specs.Yards.{IsTold, count_of}
 use Rattle.vx_yard.specs.declared.yard.Yard.{Yard}
 
 module _ {R : Type 0} {g : Ghosts R} where
-  -- The line works at a site with one, and on no link.
+  -- The line works at a site with one.
   pub record LeadsAbove (d : Doubted) (line : ScriptLine) (said : Said) (old new : Yard R g) : Type 0 where
     pub next : Doubted
     pub fails : Fails
     pub works : OverRvg (IsTold new) d line (rvg_place d.world line) fails said next
-    pub stands : StandsFor next new
-    pub carries : Carries d old → Carries next new
-    pub rose : RoseAll fails (count_of old) (count_of new)
-
-  -- It works on links of such a site.
-  pub record LeadsLinked (d : Doubted) (line : ScriptLine) (said : Said) (old new : Yard R g) : Type 0 where
-    pub next : Doubted
-    pub fails : Fails
-    pub works : LinksOver (IsTold new) d line fails said next
     pub stands : StandsFor next new
     pub carries : Carries d old → Carries next new
     pub rose : RoseAll fails (count_of old) (count_of new)
@@ -46,10 +36,6 @@ module _ {R : Type 0} {g : Ghosts R} where
   abbrev pub LeadsAboveIs : Doubted → ScriptLine → Yard R g → Yard R g → Result Said OutOfMemory → Type 0
   LeadsAboveIs d line old new (Ok said) = LeadsAbove d line said old new
   LeadsAboveIs d line old new (Err e) = StopsAbove d line old new
-
-  abbrev pub LeadsLinkedIs : Doubted → ScriptLine → Yard R g → Yard R g → Result Said OutOfMemory → Type 0
-  LeadsLinkedIs d line old new (Ok said) = LeadsLinked d line said old new
-  LeadsLinkedIs d line old new (Err e) = StopsAbove d line old new
 
   abbrev pub LeadsBesideIs : Doubted → ScriptLine → Yard R g → Yard R g → Result Said OutOfMemory → Type 0
   LeadsBesideIs d line old new (Ok said) = LeadsBeside d line said old new
