@@ -40,16 +40,16 @@ use Rattle.vx_group_lines.specs.Plain.{goes_to_group, grouped_at, is_group_line,
 
 -- ---- the volumes of a site
 
-plain_first : (vs : List VolumeEntry) → starts_with_data (map plain_fact vs) ≡ false
+pub plain_first : (vs : List VolumeEntry) → starts_with_data (map plain_fact vs) ≡ false
 plain_first [] = refl
 plain_first (v ∷ vs) = refl
 
-data_first : (vs : List VolumeEntry) (places : List ℕ) (xs : List Volume) (others : List VolumeFacts) → 1 ≤ length xs → starts_with_data (data_facts vs places xs ++ others) ≡ true
+pub data_first : (vs : List VolumeEntry) (places : List ℕ) (xs : List Volume) (others : List VolumeFacts) → 1 ≤ length xs → starts_with_data (data_facts vs places xs ++ others) ≡ true
 data_first vs places [] others some = absurd (omega (arith, some))
 data_first vs [] (x ∷ xs) others some = refl
 data_first vs (p ∷ places) (x ∷ xs) others some = refl
 
-some_volume : (b : Bool) (k : ℕ) → (b && not (eqb k 0)) ≡ true → 1 ≤ k
+pub some_volume : (b : Bool) (k : ℕ) → (b && not (eqb k 0)) ≡ true → 1 ≤ k
 some_volume true k is = grind (arith, nat_tests)
 some_volume false k is = absurd (let clash : false ≡ true = is in cc)
 
@@ -60,14 +60,14 @@ plain_kinds (e ∷ vs) (suc p) v at = plain_kinds vs p v at
 
 -- ---- what the tests see of a site, over a group or not
 
-abbrev seen_by : World → ℕ → Bool → SiteFacts
+abbrev pub seen_by : World → ℕ → Bool → SiteFacts
 seen_by w s b = if b then fact_of_group (w.nodes s) (note_at (w.nodes s)) else linked_fact w s
 
 grouped_by : (w : World) (s : ℕ) (b : Bool) → (seen_by w s b).grouped ≡ (b || is_over_rvg (w.nodes s))
 grouped_by w s true = refl
 grouped_by w s false = refl
 
-shown_table : Node → Bool → List VolumeFacts
+pub shown_table : Node → Bool → List VolumeFacts
 shown_table n b = if b then over_table n (note_at n) else map volume_fact n.volumes
 
 rvg_alone : (n : Node) (b : Bool) → is_over_rvg n ≡ b → (b && not (starts_with_data (shown_table n b))) ≡ false

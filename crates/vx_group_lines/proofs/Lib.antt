@@ -43,5 +43,6 @@ pub mod MapReturns
 pub mod MapGoing
 pub mod MapComing
 pub mod Going
+pub mod OverSeen
 pub mod Worked
 pub mod Plains

@@ -4,6 +4,7 @@
 //! A line has a file by its word (`init`, `volume` ..). What it does on the disks of the site is in `vx_diskset`.
 #![tactic(auto)]
 
+mod above;
 mod blocks;
 mod deport;
 mod found;
@@ -21,6 +22,7 @@ mod views;
 mod volume;
 mod write;
 
+pub use above::{has_rvg, has_rvg_in};
 pub use blocks::filled;
 pub use found::{holds_group, recover_found};
-pub use lines::{is_of_group, work_group};
+pub use lines::{is_of_group, is_plain, work_group};
