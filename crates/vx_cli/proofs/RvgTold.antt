@@ -3,25 +3,24 @@ use Rattle.std.proofs.Common.{ℕ, Bool, true, false, inl, inr}
 use Rattle.std.specs.Prelude.{Option, Some, None}
 use Rattle.vx_history.specs.Doubts.{Doubted}
 use Rattle.vx_history.specs.Groups.{GroupNode}
-use Rattle.vx_history.specs.World.{World}
 use Rattle.vx_model.specs.declared.no.No.{No}
 use Rattle.vx_model.specs.declared.units.Units.{Units}
 use Rattle.vx_script.specs.declared.line.ScriptLine.{ScriptLine}
-use Rattle.vx_script.specs.declared.line.ScriptLine.TheVariants.{GroupImport, Recover, Rvg}
+use Rattle.vx_script.specs.declared.line.ScriptLine.TheVariants.{Recover, Rvg}
 use Rattle.vx_events.specs.Ends.{place_of}
 use Rattle.vx_events.specs.Facts.{site_number}
 use Rattle.vx_events.specs.Fails.{Fails}
 use Rattle.vx_events.specs.GroupNotes.{note_at}
 use Rattle.vx_events.specs.Lines.{is_of_links}
 use Rattle.vx_events.specs.Parts.{StopsBetween, StopsDown, StopsInPart, StopsRead, StopsShort}
-use Rattle.vx_events.specs.RvgBack.{GroupCutOff, GroupHeld, GroupUnfound, KeptLost, LogCut, LogFails, LogLacks, FindsNoRvg, FindsPlain, FindsRvg, RvgBack, RvgFinds, RvgUp, SaysUp}
+use Rattle.vx_events.specs.RvgBack.{GroupHeld, GroupUnfound, KeptLost, LogFails, LogLacks, FindsNoRvg, FindsPlain, FindsRvg, RvgBack, RvgFinds, RvgUp}
 use Rattle.vx_events.specs.Brights.{told_for}
 use Rattle.vx_events.specs.OpenLines.{is_open}
 use Rattle.vx_events.specs.RvgMakes.{MakesRvg, RvgCut, RvgDone, RvgFails, RvgLacks}
 use Rattle.vx_events.specs.RvgNotes.{NotesLacking, NotesNarrowed, NotesNoRvg, NotesRvg}
 use Rattle.vx_events.specs.RvgOver.{EndsOver, OverRvg}
 use Rattle.vx_events.specs.RvgParts.{RvgShort, ShortFull, ShortGroup, ShortLog, ShortMade, short_place}
-use Rattle.vx_events.specs.RvgSteps.{AsBefore, FoundOne, FullBy, Gained, WorksAbove, WorksBeside, WorksFull, is_for_rvg, rvg_place}
+use Rattle.vx_events.specs.RvgSteps.{AsBefore, FoundOne, FullBy, WorksAbove, WorksBeside, WorksFull, is_for_rvg, rvg_place}
 use Rattle.vx_events.specs.StepsOver.{group_place, is_for_group}
 use Rattle.vx_events.specs.declared.said.Said.{Said}
 use Rattle.vx_events.proofs.GroupTold.{back_told, known_told, nothing_told, shows_told}
@@ -51,26 +50,18 @@ module _ {T U : Type 0} (f : U → T) where
 
   -- ---- one that takes a site up
 
-  says_up_told : (s : ℕ) (line : ScriptLine) (note next : GroupNode) (v : World) (said : Said) → SaysUp T s line note next v said → SaysUp U s line note next v said
-  says_up_told s (Recover site) note next v said x = (x.0, x.1, shows_told f note.cut next x.0 x.2)
-  says_up_told s (GroupImport site) note next v said x = x
-  says_up_told s other note next v said x = absurd x
-
   came_told : (d : Doubted) (line : ScriptLine) (s : ℕ) (fails : Fails) (said : Said) (new : Doubted) → RvgBack T d line s fails said new → RvgBack U d line s fails said new
-  came_told d line s fails said new (RvgUp kept taken middle found next from rest of brings back rests works says left) =
-      RvgUp kept taken middle found next from rest of brings (back_told f s (d.world.nodes s) fails (note_at (d.world.nodes s)) middle back) rests works
-      (says_up_told s line (note_at (d.world.nodes s)) next _ said says) left
-  came_told d line s fails said new (LogFails kept taken disk middle found next from rest gone of has brings back rests works session says left) =
-      LogFails kept taken disk middle found next from rest gone of has brings (back_told f s (d.world.nodes s) fails (note_at (d.world.nodes s)) middle back) rests works session says left
-  came_told d line s fails said new (LogLacks kept taken middle found next from rest of brings back rests works lacks says left) =
-      LogLacks kept taken middle found next from rest of brings (back_told f s (d.world.nodes s) fails (note_at (d.world.nodes s)) middle back) rests works (λ u. lacks (f u)) says left
-  came_told d line s fails said new (KeptLost kept taken disk middle found next from rest site is of has back rests works says left) =
-      KeptLost kept taken disk middle found next from rest site is of has (back_told f s (d.world.nodes s) fails (note_at (d.world.nodes s)) middle back) rests works says left
-  came_told d line s fails said new (LogCut middle found next from rest gone site is of fused back rests works session says left) =
-      LogCut middle found next from rest gone site is of fused (back_told f s (d.world.nodes s) fails (note_at (d.world.nodes s)) middle back) rests works session says left
-  came_told d line s fails said new (GroupCutOff next site is over of fused notes says left) = GroupCutOff next site is over of fused notes says left
-  came_told d line s fails said new (GroupUnfound kept taken lost why next over of brings not leaves says left) = GroupUnfound kept taken lost why next over of brings not leaves says left
-  came_told d line s fails said new (GroupHeld kept taken lost disk next over of has brings notes says left) = GroupHeld kept taken lost disk next over of has brings notes says left
+  came_told d line s fails said new (RvgUp site kept taken middle next shown has is of back keeps works says shows left) =
+      RvgUp site kept taken middle next shown has is of (back_told f s (d.world.nodes s) fails (note_at (d.world.nodes s)) middle back) keeps works says
+      (shows_told f (note_at (d.world.nodes s)).cut next shown shows) left
+  came_told d line s fails said new (LogFails site kept taken disk middle next gone has is of failed back keeps works session says left) =
+      LogFails site kept taken disk middle next gone has is of failed (back_told f s (d.world.nodes s) fails (note_at (d.world.nodes s)) middle back) keeps works session says left
+  came_told d line s fails said new (LogLacks site kept taken middle next has is of back keeps works lacks says left) =
+      LogLacks site kept taken middle next has is of (back_told f s (d.world.nodes s) fails (note_at (d.world.nodes s)) middle back) keeps works (λ u. lacks (f u)) says left
+  came_told d line s fails said new (KeptLost site kept taken disk middle next has is of failed back keeps works says left) =
+      KeptLost site kept taken disk middle next has is of failed (back_told f s (d.world.nodes s) fails (note_at (d.world.nodes s)) middle back) keeps works says left
+  came_told d line s fails said new (GroupUnfound site kept taken lost why next has is of not leaves says left) = GroupUnfound site kept taken lost why next has is of not leaves says left
+  came_told d line s fails said new (GroupHeld site kept taken lost disk next has is of failed notes says left) = GroupHeld site kept taken lost disk next has is of failed notes says left
 
   found_told : (d : Doubted) (line : ScriptLine) (s : ℕ) (fails : Fails) (said : Said) (new : Doubted) → RvgFinds T d line s fails said new → RvgFinds U d line s fails said new
   found_told d line s fails said new (FindsRvg kept taken next mid n k row c units of brings knows dark is same comes config fits lies says left) =
@@ -107,7 +98,6 @@ module _ {T U : Type 0} (f : U → T) where
   beside_told : (d : Doubted) (line : ScriptLine) (fails : Fails) (said : Said) (new : Doubted) → WorksBeside T d line fails said new → WorksBeside U d line fails said new
   beside_told d line fails said new (AsBefore works found) =
       AsBefore (works_told (λ (u : told_for U d.world line). for_more f d.world (is_of_links line) u) (is_for_group d.world line) d line fails said new works) found
-  beside_told d line fails said new (Gained x) = Gained (came_told d line (group_place d.world line) fails said new x)
   beside_told d line fails said new (FoundOne x) = FoundOne (found_told d line (group_place d.world line) fails said new x)
 
   above_told : (halts above : Bool) (d : Doubted) (line : ScriptLine) (fails : Fails) (said : Said) (new : Doubted) → WorksAbove halts above T d line fails said new → WorksAbove halts above U d line fails said new
@@ -132,9 +122,9 @@ module _ {T U : Type 0} (f : U → T) where
   stops_told d line new (StopsBetween never p s middle is moves left) = StopsBetween (λ u. never (f u)) p s middle is moves left
 
   part_told : (d : Doubted) (line : ScriptLine) (s : ℕ) (new : Doubted) → RvgShort T d line s new → RvgShort U d line s new
-  part_told d line s new (ShortGroup kept taken lost next over brings notes left) = ShortGroup kept taken lost next over brings notes left
-  part_told d line s new (ShortLog kept taken fails middle found next from rest of brings back rests is left) =
-      ShortLog kept taken fails middle found next from rest of brings (back_told f s (d.world.nodes s) fails (note_at (d.world.nodes s)) middle back) rests is left
+  part_told d line s new (ShortGroup site kept taken lost next has is notes left) = ShortGroup site kept taken lost next has is notes left
+  part_told d line s new (ShortLog site kept taken fails middle next has is of back keeps cut left) =
+      ShortLog site kept taken fails middle next has is of (back_told f s (d.world.nodes s) fails (note_at (d.world.nodes s)) middle back) keeps cut left
   part_told d line s new (ShortMade site srl maps volumes fails next is of notes left) = ShortMade site srl maps volumes fails next is of (no_rvg_told _ s fails _ (note_at (d.world.nodes s)) next notes) left
 
   pub short_told : (d : Doubted) (line : ScriptLine) (new : Doubted) → ShortFull T d line new → ShortFull U d line new

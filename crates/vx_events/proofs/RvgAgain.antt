@@ -1,5 +1,5 @@
 -- A site that keeps its log and its data volumes, and notes the replicated volume group that it noted, has that one.
-use Rattle.std.proofs.Common.{◌≡◌, ◌∙◌, ℕ, List, [], ◌∷◌, Option, Some, ap, map, refl, subst, sym}
+use Rattle.std.proofs.Common.{◌≡◌, ◌∙◌, ℕ, List, [], ◌∷◌, Option, Some, ap, map, refl, sym}
 use Rattle.std.specs.List.{AllByRecursion}
 use Rattle.std.specs.Prelude.{slice_get, unwrap_or}
 use Rattle.vx_model.specs.Sizes.{ring_of}
@@ -11,11 +11,9 @@ use Rattle.vx_history.specs.declared.volumes.DataVolume.{DataVolume}
 use Rattle.vx_config.specs.Checks.{blocks_of, blocks_or_none}
 use Rattle.vx_config.specs.declared.config.Config.{Config}
 use Rattle.vx_config.specs.declared.entry.VolumeEntry.{VolumeEntry}
-use Rattle.vx_events.specs.Fails.{Fails}
-use Rattle.vx_events.specs.GroupNotes.{NotesBack, no_note, note_at}
-use Rattle.vx_events.specs.GroupViews.{config_of, volumes_of}
-use Rattle.vx_events.specs.RvgFits.{FitsNoted, FitsRvg, HasUnits, HasVolume, KeepsRvg, KeptConfig, KeptVolume, NoteKeepsRvg, config_rvg, data_at, data_of, entries_noted, entry_name, rvg_noted}
-use Rattle.vx_events.specs.RvgNotes.{note_gained}
+use Rattle.vx_events.specs.GroupNotes.{no_note, note_at}
+use Rattle.vx_events.specs.GroupViews.{config_of}
+use Rattle.vx_events.specs.RvgFits.{FitsNoted, FitsRvg, HasUnits, HasVolume, KeepsRvg, KeptConfig, KeptVolume, NoteKeepsRvg, data_at, entry_name}
 
 module _ (c d : Config) (keeps : KeepsRvg c d) where
   pub has_kept : (v : ℕ) → HasVolume c.volumes v → HasVolume d.volumes v
@@ -60,26 +58,6 @@ fits_again n m ring volumes keeps f =
         ring = ring ∙ f.fits.ring ∙ ap ring_of (sym (blocks_kept c k.now k.keeps units.srl f.has.srl));
       };
       has = record { srl = has_kept c k.now k.keeps units.srl f.has.srl; vols = all_kept c k.now k.keeps units.vols f.has.vols };
-    }
-
--- a group that came up, and got the replicated volume group of its configuration
-pub fits_gained : (told : Type 0) (s : ℕ) (n : Node) (fails : Fails) (note middle next : GroupNode) (units : Units) (m : Node) → NotesBack told s n fails note middle
-    → rvg_noted middle ≡ Some units → HasUnits (entries_noted middle) units → next ≡ note_gained units middle → note_at m ≡ next
-    → m.ring ≡ ring_of (blocks_of (entries_noted middle) units.srl) → m.volumes ≡ map as_volume (data_of (entries_noted middle) units) → FitsNoted m
-fits_gained told s n fails note middle next units m back named has is noted ring volumes =
-    let config : config_of (note_at m).config ≡ Some back.now =
-    ap (λ (g : GroupNode). config_of g.config) noted ∙ ap (λ (g : GroupNode). config_of g.config) is ∙ back.is in
-    let entries : entries_noted middle ≡ back.now.volumes = ap (λ (o : Option Config). volumes_of o) back.is in
-    record {
-      config = back.now;
-      is = config;
-      units = units;
-      fits = record {
-        rvg = sym (ap (λ (o : Option Config). config_rvg o) back.is) ∙ named;
-        volumes = volumes ∙ ap (λ (vs : List VolumeEntry). map as_volume (data_of vs units)) entries;
-        ring = ring ∙ ap (λ (vs : List VolumeEntry). ring_of (blocks_of vs units.srl)) entries;
-      };
-      has = subst (λ (vs : List VolumeEntry). HasUnits vs units) entries has;
     }
 
 -- what came up with the replicated volume group of the configuration that is noted

@@ -10,26 +10,25 @@ use Rattle.vx_history.specs.Likes.{IsLike}
 use Rattle.vx_history.specs.Stops.{EventsEnd, AllDone as EventsDone, Halts, Cuts, Reads, IsLikeDoubted, IsOpen, all_fails, told_fails}
 use Rattle.vx_history.specs.World.{NoFuse, World}
 use Rattle.vx_history.specs.declared.event.Event.{Event}
-use Rattle.vx_history.specs.declared.event.Event.TheVariants.{Crash as CrashAt, Fall as FallAt, Recover as RecoverAt}
+use Rattle.vx_history.specs.declared.event.Event.TheVariants.{Crash as CrashAt, Recover as RecoverAt}
 use Rattle.vx_script.specs.declared.line.ScriptLine.{ScriptLine}
-use Rattle.vx_script.specs.declared.line.ScriptLine.TheVariants.{Site, Raw, Disk as DiskLine, Crash, Fuse as FuseLine, GroupImport, Recover, Write, Put, Read, Show, Apply, Status}
-use Rattle.vx_events.proofs.GroupStopping.{events_tell, noted_like}
-use Rattle.vx_events.proofs.Noting.{as_like, disks_like, like_disks, like_noted, like_self, like_then, same_like, like_site}
+use Rattle.vx_script.specs.declared.line.ScriptLine.TheVariants.{Site, Raw, Disk as DiskLine, Crash, Fuse as FuseLine, Recover, Write, Put, Read, Show, Apply, Status}
+use Rattle.vx_events.proofs.GroupStopping.{noted_like}
+use Rattle.vx_events.proofs.Noting.{as_like, disks_like, like_disks, like_noted, like_self, like_then, like_site}
 use Rattle.vx_events.proofs.RvgFull.{brings_found}
 use Rattle.vx_events.proofs.RvgKnown.{back_dark}
-use Rattle.vx_events.proofs.RvgStopping.{ended as ended_rvg, noted_doubted, same_doubted}
+use Rattle.vx_events.proofs.RvgStopping.{ended as ended_rvg, same_doubted}
 use Rattle.vx_events.proofs.Stopping.{BeginsWrite, ended, runs_as}
 use Rattle.vx_events.specs.Doubts.{run_as, with_disks}
 use Rattle.vx_events.specs.Ends.{place_of}
 use Rattle.vx_events.specs.Facts.{site_number}
 use Rattle.vx_events.specs.Fails.{Fails}
 use Rattle.vx_events.specs.GroupEnds.{BringsUp}
-use Rattle.vx_events.specs.GroupLines.{group_events, group_noted, noting}
+use Rattle.vx_events.specs.GroupLines.{group_noted, noting}
 use Rattle.vx_events.specs.GroupNotes.{IsKnown, note_at}
 use Rattle.vx_events.specs.Lists.{Choice, events_of, recovery_of, crash_count}
-use Rattle.vx_events.specs.RvgBack.{FindsNoRvg, FindsPlain, FindsRvg, GetsRvg, GroupCutOff, GroupHeld, GroupUnfound, HadRvg, IsLeftBack, KeptLost, IsLeftBut, LogCut, LogFails, LogLacks, RestsWithRvg, RvgBack, RvgFinds, RvgUp, fall_first, fuse_left, rest_again}
-use Rattle.vx_events.specs.RvgMakes.{RvgStops, noting_in}
-use Rattle.vx_events.specs.RvgNotes.{volume_events}
+use Rattle.vx_events.specs.RvgBack.{FindsNoRvg, FindsPlain, FindsRvg, GroupHeld, GroupUnfound, IsLeftBack, KeptLost, IsLeftBut, LogFails, LogLacks, RvgBack, RvgFinds, RvgUp, fall_first, fuse_left}
+use Rattle.vx_events.specs.RvgMakes.{RvgStops}
 use Rattle.vx_events.specs.RvgOver.{EndsOver, OpensFor, OverRvg, noting_over, fuse_behind}
 use Rattle.vx_events.specs.RvgParts.{RvgShort, ShortGroup, ShortLog, ShortMade}
 use Rattle.vx_events.specs.RvgWorks.{AgreesOr}
@@ -65,23 +64,6 @@ falls_tell Up s kept = refl
 falls_tell Deported s kept = refl
 falls_tell Down s kept = refl
 
-again_tells : (line : ScriptLine) (s : ℕ) → all_fails (rest_again line s) ≡ []
-again_tells (GroupImport site) s = refl
-again_tells other s = refl
-
-rests_tell : (d : Doubted) (line : ScriptLine) (s kept : ℕ) (middle next : GroupNode) (from : Doubted) (events : List Event) → RestsWithRvg d line s kept middle next from events
-    → all_fails events ≡ []
-rests_tell d line s kept middle next from events (HadRvg has same noted is fall) = ap all_fails fall ∙ falls_tell (d.world.nodes s).state s kept
-rests_tell d line s kept middle next from events (GetsRvg units over has there one noted is all) =
-    ap all_fails all
-    ∙ told_behind (group_events (d.world.nodes s) s line) (volume_events middle s units ++ rest_again line s) (events_tell (d.world.nodes s) s line)
-    ∙ again_tells line s
-
-rests_like : (d : Doubted) (line : ScriptLine) (s kept : ℕ) (middle next : GroupNode) (from : Doubted) (events : List Event) → RestsWithRvg d line s kept middle next from events
-    → IsLikeDoubted d from
-rests_like d line s kept middle next from events (HadRvg has same noted is fall) = same_like d from is
-rests_like d line s kept middle next from events (GetsRvg units over has there one noted is all) = doubted_then d (noting_in d s middle) from (noted_doubted d s middle) (same_like (noting_in d s middle) from is)
-
 -- ---- what is left is no more than notes
 
 pub back_like : (s : ℕ) (line : ScriptLine) (taken : Bool) (next : GroupNode) (before last new : Doubted) → IsLeftBack s line taken next before last new → IsLikeDoubted last new
@@ -105,56 +87,43 @@ but_like lost s line taken next before last new is =
     (like_then (disks_like taken s before.world last.world)
     (like_then (like_disks u s (u.nodes s).failing (Some next)) (like_then (noted_like s line v) (lost_like lost x s)))) is
 
--- events that are all done, and of which one may tell of a disk, from such worlds on
-but_by : (lost : Bool) (d from : Doubted) → IsLikeDoubted d from → (s : ℕ) (line : ScriptLine) (taken : Bool) (next : GroupNode) (events : List Event) (ending : Fails)
-    (new : Doubted) → all_fails events ≡ ending → IsLeftBut lost s line taken next from (run_as taken from events) new → RvgStops d new
-but_by lost d from like s line taken next events ending new tells left = record {
-  before = from;
-  like = like;
+-- events that are all done, and of which one may tell of a disk
+but_by : (lost : Bool) (d : Doubted) (s : ℕ) (line : ScriptLine) (taken : Bool) (next : GroupNode) (events : List Event) (ending : Fails) (new : Doubted)
+    → all_fails events ≡ ending → IsLeftBut lost s line taken next d (run_as taken d events) new → RvgStops d new
+but_by lost d s line taken next events ending new tells left = record {
+  before = d;
+  like = same_doubted d;
   events = events;
   ending = ending;
-  stops = EventsDone (run_as taken from events) (runs_as taken from events) (sym tells) (but_like lost s line taken next from (run_as taken from events) new left);
+  stops = EventsDone (run_as taken d events) (runs_as taken d events) (sym tells) (but_like lost s line taken next d (run_as taken d events) new left);
 }
 
-done_by : (d from : Doubted) → IsLikeDoubted d from → (s : ℕ) (line : ScriptLine) (taken : Bool) (next : GroupNode) (events : List Event) (ending : Fails) (new : Doubted)
-    → all_fails events ≡ ending → IsLeftBack s line taken next from (run_as taken from events) new → RvgStops d new
-done_by d from like s line taken next events ending new tells left = but_by false d from like s line taken next events ending new tells left
+done_by : (d : Doubted) (s : ℕ) (line : ScriptLine) (taken : Bool) (next : GroupNode) (events : List Event) (ending : Fails) (new : Doubted)
+    → all_fails events ≡ ending → IsLeftBack s line taken next d (run_as taken d events) new → RvgStops d new
+done_by d s line taken next events ending new tells left = but_by false d s line taken next events ending new tells left
 
--- ---- recoveries and imports
+-- ---- recoveries
 
 -- nothing came up, and a site that was up crashed
 pub fall_stops : (d : Doubted) (s : ℕ) (line : ScriptLine) (kept : ℕ) (taken lost : Bool) (next : GroupNode) (new : Doubted)
     → IsLeftBut lost s line taken next d (run_as taken d (fall_first (d.world.nodes s).state s kept)) new → RvgStops d new
 fall_stops d s line kept taken lost next new left =
-    but_by lost d d (same_doubted d) s line taken next (fall_first (d.world.nodes s).state s kept) [] new (falls_tell (d.world.nodes s).state s kept) left
+    but_by lost d s line taken next (fall_first (d.world.nodes s).state s kept) [] new (falls_tell (d.world.nodes s).state s kept) left
 
 module _ (told : Type 0) (d : Doubted) (line : ScriptLine) (s : ℕ) (fails : Fails) (said : Said) (new : Doubted) where
   pub back_stops : RvgBack told d line s fails said new → RvgStops d new
-  back_stops (RvgUp kept taken middle found next from rest are brings back rests works says left) =
-      done_by d from (rests_like d line s kept middle found from rest rests) s line taken next (rest ++ RecoverAt s None ∷ []) [] new
-      (told_behind rest (RecoverAt s None ∷ []) (rests_tell d line s kept middle found from rest rests)) left
-  back_stops (LogFails kept taken disk middle found next from rest left are has brings back rests is (inl none) says leads) =
-      but_by true d from (rests_like d line s kept middle found from rest rests) s line taken next (rest ++ left) [] new
-      (told_behind rest left (rests_tell d line s kept middle found from rest rests) ∙ ap all_fails none) leads
-  back_stops (LogFails kept taken disk middle found next from rest left are has brings back rests is (inr begun) says leads) =
-      but_by true d from (rests_like d line s kept middle found from rest rests) s line taken next (rest ++ left) ((s, disk) ∷ []) new
-      (told_behind rest left (rests_tell d line s kept middle found from rest rests) ∙ ap all_fails begun) leads
-  back_stops (LogLacks kept taken middle found next from rest are brings back rests is lacks says left) =
-      but_by true d from (rests_like d line s kept middle found from rest rests) s line taken next rest [] new (rests_tell d line s kept middle found from rest rests) left
-  back_stops (KeptLost kept taken disk middle found next from rest site is are has back rests notes says left) =
-      done_by d from (rests_like d line s kept middle found from rest rests) s line taken next (rest ++ RecoverAt s None ∷ CrashAt s 0 ∷ []) [] new
-      (told_behind rest (RecoverAt s None ∷ CrashAt s 0 ∷ []) (rests_tell d line s kept middle found from rest rests)) left
-  back_stops (LogCut middle found next from rest left site is are fused back rests noted (inl none) says leads) =
-      done_by d from (rests_like d line s 0 middle found from rest rests) s line false next (rest ++ (left ++ FallAt s ∷ [])) [] new
-      (told_behind rest (left ++ FallAt s ∷ []) (rests_tell d line s 0 middle found from rest rests) ∙ told_behind left (FallAt s ∷ []) (ap all_fails none)) leads
-  back_stops (LogCut middle found next from rest left site is are fused back rests noted (inr begun) says leads) =
-      done_by d from (rests_like d line s 0 middle found from rest rests) s line false next (rest ++ (left ++ FallAt s ∷ [])) ((s, 0) ∷ []) new
-      (told_behind rest (left ++ FallAt s ∷ []) (rests_tell d line s 0 middle found from rest rests) ∙ told_both left (FallAt s ∷ [])
-      ∙ ap (λ (es : List Event). all_fails es ++ all_fails (FallAt s ∷ [])) begun) leads
-  back_stops (GroupCutOff next site is has are fused notes says left) =
-      done_by d d (same_doubted d) s line false next (FallAt s ∷ []) [] new refl left
-  back_stops (GroupUnfound kept taken lost why next has are brings not leaves says left) = fall_stops d s line kept taken lost next new left
-  back_stops (GroupHeld kept taken lost disk next has are failed brings notes says left) = fall_stops d s line kept taken lost next new left
+  back_stops (RvgUp site kept taken middle next shown has is are back keeps works says shows left) =
+      done_by d s line taken next (fall_first (d.world.nodes s).state s kept ++ RecoverAt s None ∷ []) [] new (told_behind (fall_first (d.world.nodes s).state s kept) (RecoverAt s None ∷ []) (falls_tell (d.world.nodes s).state s kept)) left
+  back_stops (LogFails site kept taken disk middle next left has is are failed back keeps works (inl none) says leads) =
+      but_by true d s line taken next (fall_first (d.world.nodes s).state s kept ++ left) [] new (told_behind (fall_first (d.world.nodes s).state s kept) left (falls_tell (d.world.nodes s).state s kept) ∙ ap all_fails none) leads
+  back_stops (LogFails site kept taken disk middle next left has is are failed back keeps works (inr begun) says leads) =
+      but_by true d s line taken next (fall_first (d.world.nodes s).state s kept ++ left) ((s, disk) ∷ []) new (told_behind (fall_first (d.world.nodes s).state s kept) left (falls_tell (d.world.nodes s).state s kept) ∙ ap all_fails begun) leads
+  back_stops (LogLacks site kept taken middle next has is are back keeps works lacks says left) = fall_stops d s line kept taken true next new left
+  back_stops (KeptLost site kept taken disk middle next has is are failed back keeps works says left) =
+      done_by d s line taken next (fall_first (d.world.nodes s).state s kept ++ RecoverAt s None ∷ CrashAt s 0 ∷ []) [] new
+      (told_behind (fall_first (d.world.nodes s).state s kept) (RecoverAt s None ∷ CrashAt s 0 ∷ []) (falls_tell (d.world.nodes s).state s kept)) left
+  back_stops (GroupUnfound site kept taken lost why next has is are not leaves says left) = fall_stops d s line kept taken lost next new left
+  back_stops (GroupHeld site kept taken lost disk next has is are failed notes says left) = fall_stops d s line kept taken lost next new left
 
   -- ---- other lines
 
@@ -175,9 +144,8 @@ module _ (told : Type 0) (d : Doubted) (line : ScriptLine) (s : ℕ) (fails : Fa
 
 -- what want of memory leaves of a recovery or an import
 pub short_stops : (told : Type 0) (d : Doubted) (line : ScriptLine) (s : ℕ) (new : Doubted) → RvgShort told d line s new → RvgStops d new
-short_stops told d line s new (ShortGroup kept taken lost next over brings notes left) = fall_stops d s line kept taken lost next new left
-short_stops told d line s new (ShortLog kept taken fails middle found next from rest are brings back rests is left) =
-    but_by true d from (rests_like d line s kept middle found from rest rests) s line taken next rest [] new (rests_tell d line s kept middle found from rest rests) left
+short_stops told d line s new (ShortGroup site kept taken lost next has is notes left) = fall_stops d s line kept taken lost next new left
+short_stops told d line s new (ShortLog site kept taken fails middle next has is are back keeps cut left) = fall_stops d s line kept taken true next new left
 short_stops told d line s new (ShortMade site srl maps volumes fails next is are notes left) = ended_rvg d d new (same_doubted d) s next [] refl left
 
 -- ---- where a line writes its site is open

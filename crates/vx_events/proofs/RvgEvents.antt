@@ -10,7 +10,7 @@ use Rattle.vx_script.specs.declared.line.ScriptLine.TheVariants.{GroupImport, Pu
 use Rattle.vx_events.proofs.GroupStopping.{group_stops}
 use Rattle.vx_events.proofs.LinkStopping.{link_stops}
 use Rattle.vx_events.proofs.Noting.{same_like}
-use Rattle.vx_events.proofs.RvgEnding.{back_stops, finds_stops, opens_at, over_rvg_stops}
+use Rattle.vx_events.proofs.RvgEnding.{finds_stops, opens_at, over_rvg_stops}
 use Rattle.vx_events.proofs.RvgFull.{brings_found}
 use Rattle.vx_events.proofs.RefusedCalls.{put_may, write_may}
 use Rattle.vx_events.proofs.Stopping.{writes_open}
@@ -26,7 +26,7 @@ use Rattle.vx_events.specs.Lines.{EndsBy, IsRefusedLine, is_of_links}
 use Rattle.vx_events.specs.OpenLines.{is_open}
 use Rattle.vx_events.specs.RvgMakes.{RvgStops}
 use Rattle.vx_events.specs.RvgOver.{OpensFor}
-use Rattle.vx_events.specs.RvgSteps.{AgreeFor, AsBefore, FoundOne, FullBy, Gained, StepFull, WorksAbove, WorksBeside, WorksFull, is_for_rvg, rvg_place}
+use Rattle.vx_events.specs.RvgSteps.{AgreeFor, AsBefore, FoundOne, FullBy, StepFull, WorksAbove, WorksBeside, WorksFull, is_for_rvg, rvg_place}
 use Rattle.vx_events.specs.RvgViews.{is_over_rvg}
 use Rattle.vx_events.specs.RvgWorks.{AgreesOr}
 use Rattle.vx_events.specs.StepsOver.{WorksOver, facts_over, group_place, is_for_group, refused_over}
@@ -96,7 +96,6 @@ module _ (told : Type 0) (is_told : told) (files : Bool) (d : Doubted) (fails : 
   beside_stops : (line : ScriptLine) → AgreeFor d.world line new.world → refused_over d.world files line ≡ None → WorksBeside told d line fails said new → RvgStops d new
   beside_stops line all free (AsBefore works found) =
       before_stops (told_for told d.world line) (told_now told is_told d.world all.known (is_of_links line)) files d fails said new (is_for_group d.world line) line refl free works
-  beside_stops line all free (Gained back) = back_stops told d line (group_place d.world line) fails said new back
   beside_stops line all free (FoundOne finds) =
       let s : ℕ = group_place d.world line in
       finds_stops told is_told d s (all.known s) fails said new line (all.agree (brings_found told d line s fails said new finds)) finds

@@ -8,28 +8,16 @@ use Rattle.vx_script.specs.declared.line.ScriptLine.{ScriptLine}
 use Rattle.vx_script.specs.declared.line.ScriptLine.TheVariants.{Rvg}
 use Rattle.vx_events.specs.Fails.{Fails}
 use Rattle.vx_events.specs.GroupEnds.{BringsUp}
-use Rattle.vx_events.specs.RvgBack.{FindsNoRvg, FindsPlain, FindsRvg, GroupCutOff, GroupHeld, GroupUnfound, KeptLost, LogCut, LogFails, LogLacks, RvgBack, RvgFinds, RvgUp}
+use Rattle.vx_events.specs.RvgBack.{FindsNoRvg, FindsPlain, FindsRvg, RvgFinds}
 use Rattle.vx_events.specs.Brights.{SitesBright, told_for}
 use Rattle.vx_events.specs.Lines.{is_of_links}
 use Rattle.vx_events.proofs.Opens.{for_none, open_none}
 use Rattle.vx_events.proofs.Tolds.{told_less, told_now, works_told}
-use Rattle.vx_events.specs.RvgSteps.{AsBefore, FoundOne, FoundPlain, FullBy, Gained, HasNoRvgs, MakesNoRvg, StepFull, WorksAbove, WorksBeside, WorksFull, is_for_rvg}
+use Rattle.vx_events.specs.RvgSteps.{AsBefore, FoundOne, FoundPlain, FullBy, HasNoRvgs, MakesNoRvg, StepFull, WorksAbove, WorksBeside, WorksFull, is_for_rvg}
 use Rattle.vx_events.specs.StepsOver.{OverBy, StepOver, WorksOver, group_place, is_for_group, refused_over}
 use Rattle.vx_events.specs.declared.said.Said.{Said}
 
 -- what finds a replicated volume group brings a group up
-pub brings_back : (told : Type 0) (d : Doubted) (line : ScriptLine) (s : ℕ) (fails : Fails) (said : Said) (new : Doubted) → RvgBack told d line s fails said new → BringsUp line
-brings_back told d line s fails said new (RvgUp kept taken middle found next from rest are brings back rests works says left) = brings
-brings_back told d line s fails said new (LogFails kept taken disk middle found next from rest left are has brings back rests is begun says leads) = brings
-brings_back told d line s fails said new (LogLacks kept taken middle found next from rest are brings back rests is lacks says left) = brings
-brings_back told d line s fails said new (KeptLost kept taken disk middle found next from rest site is are has back rests notes says left) =
-    subst (λ (l : ScriptLine). BringsUp l) (sym is) tt
-brings_back told d line s fails said new (LogCut middle found next from rest left site is are fused back rests noted begun says leads) =
-    subst (λ (l : ScriptLine). BringsUp l) (sym is) tt
-brings_back told d line s fails said new (GroupCutOff next site is has are fused notes says left) = subst (λ (l : ScriptLine). BringsUp l) (sym is) tt
-brings_back told d line s fails said new (GroupUnfound kept taken lost why next has are brings not leaves says left) = brings
-brings_back told d line s fails said new (GroupHeld kept taken lost disk next has are failed brings notes says left) = brings
-
 pub brings_found : (told : Type 0) (d : Doubted) (line : ScriptLine) (s : ℕ) (fails : Fails) (said : Said) (new : Doubted) → RvgFinds told d line s fails said new → BringsUp line
 brings_found told d line s fails said new (FindsRvg kept taken next mid n k row c units are brings unknown dark is same comes config fits lies says left) = brings
 brings_found told d line s fails said new (FindsPlain kept taken next mid has are brings unknown dark is none says left) = brings
@@ -65,7 +53,6 @@ module _ (told : Type 0) (files : Bool) (d : Doubted) (none : HasNoRvgs d.world)
     where
       before : WorksBeside told d line fails said new → WorksOver (is_for_group d.world line) told d line fails said new
       before (AsBefore works found) = works_told (λ (t : told). told_now told t d.world known (is_of_links line)) (is_for_group d.world line) d line fails said new works
-      before (Gained back) = absurd (quiet (brings_back told d line (group_place d.world line) fails said new back))
       before (FoundOne finds) = absurd (quiet (brings_found told d line (group_place d.world line) fails said new finds))
 
   pub full_over : (line : ScriptLine) → MakesNoRvg line → FoundPlain line (group_place d.world line) new → StepOver told files d line fails said new

@@ -1,5 +1,5 @@
 -- Disks of a group with a replicated volume group of which it is known what they hold stay so, as those of a group without one.
-use Rattle.std.proofs.Common.{◌≡◌, ◌∙◌, ◌⊎◌, inl, inr, ℕ, Bool, true, false, List, Option, Some, ap, refl, sym, subst}
+use Rattle.std.proofs.Common.{◌≡◌, ◌∙◌, ◌⊎◌, inl, inr, ℕ, Bool, true, false, Option, Some, ap, refl, sym, subst}
 use Rattle.std.specs.Prelude.{unwrap_or}
 use Rattle.vx_history.proofs.Updates.{at_place}
 use Rattle.vx_history.specs.Doubts.{Doubted}
@@ -7,7 +7,6 @@ use Rattle.vx_history.specs.Groups.{GroupNode}
 use Rattle.vx_history.specs.Steps.{burned}
 use Rattle.vx_history.specs.Stops.{IsFused}
 use Rattle.vx_history.specs.World.{NoFuse, Node, World}
-use Rattle.vx_history.specs.declared.event.Event.{Event}
 use Rattle.vx_config.specs.declared.config.Config.{Config}
 use Rattle.vx_model.specs.declared.units.Units.{Units}
 use Rattle.vx_script.specs.declared.line.ScriptLine.{ScriptLine}
@@ -19,7 +18,7 @@ use Rattle.vx_events.specs.GroupEnds.{BringsUp}
 use Rattle.vx_events.specs.GroupLines.{noting}
 use Rattle.vx_events.specs.GroupNotes.{Reconfigures, no_note, note_at}
 use Rattle.vx_events.specs.Known.{MayDarken}
-use Rattle.vx_events.specs.RvgBack.{FindsNoRvg, FindsPlain, FindsRvg, GetsRvg, GroupCutOff, GroupHeld, GroupUnfound, HadRvg, IsLeftBack, KeptLost, LogCut, LogFails, LogLacks, RestsWithRvg, RvgBack, RvgFinds, RvgUp, fuse_left}
+use Rattle.vx_events.specs.RvgBack.{FindsNoRvg, FindsPlain, FindsRvg, GroupHeld, GroupUnfound, IsLeftBack, KeptLost, LogFails, LogLacks, RvgBack, RvgFinds, RvgUp, fuse_left}
 use Rattle.vx_events.specs.RvgMakes.{IsLeftRvg, MakesRvg, RvgCut, RvgDone, RvgFails, RvgLacks, units_at}
 use Rattle.vx_events.specs.RvgNotes.{NotesNarrowed}
 use Rattle.vx_events.specs.RvgOver.{EndsOver, NotesLine, OverRvg, noting_over, fuse_behind}
@@ -89,29 +88,20 @@ making_known told d line s fails said new (RvgCut site srl maps volumes next is 
 
 -- ---- recoveries and imports
 
-pub rests_dark : (d : Doubted) (line : ScriptLine) (s kept : ℕ) (middle next : GroupNode) (from : Doubted) (events : List Event) → RestsWithRvg d line s kept middle next from events
-    → next.dark ≡ middle.dark
-rests_dark d line s kept middle next from events (HadRvg has same noted is fall) = ap (λ (g : GroupNode). g.dark) noted
-rests_dark d line s kept middle next from events (GetsRvg units over has there one noted is all) = ap (λ (g : GroupNode). g.dark) noted
-
 module _ (told : Type 0) (tells : told) (d : Doubted) (s : ℕ) (known : (note_at (d.world.nodes s)).dark ≡ false) (fails : Fails) (said : Said) (new : Doubted) where
   abbrev here : GroupNode
   here = note_at (d.world.nodes s)
 
   pub back_known_too : (line : ScriptLine) → (MayDarken here line said → ⊥) → RvgBack told d line s fails said new → (note_at (new.world.nodes s)).dark ≡ false
-  back_known_too line free (RvgUp kept taken middle found next from rest are brings back rests works says left) =
-      back_note s line taken next from _ new left
-      (works_dark ⊥ s fails found next works ∙ rests_dark d line s kept middle found from rest rests ∙ back_known told s (d.world.nodes s) fails here middle known (λ loose. free (brings, inl loose)) back)
-  back_known_too line free (LogFails kept taken disk middle found next from rest left are has brings back rests is begun says leads) =
-      absurd (no_rise here line said _ says free brings)
-  back_known_too line free (LogLacks kept taken middle found next from rest are brings back rests is lacks says left) = absurd (no_rise here line said _ says free brings)
-  back_known_too line free (KeptLost kept taken disk middle found next from rest site is are has back rests notes says left) =
+  back_known_too line free (RvgUp site kept taken middle next shown has is are back keeps works says shows left) =
+      back_note s line taken next d _ new left
+      (works_dark ⊥ s fails middle next works ∙ back_known told s (d.world.nodes s) fails here middle known (λ loose. free (subst BringsUp (sym is) tt, inl loose)) back)
+  back_known_too line free (LogFails site kept taken disk middle next left has is are failed back keeps works begun says leads) =
       absurd (no_rise here line said _ says free (subst BringsUp (sym is) tt))
-  back_known_too line free (LogCut middle found next from rest left site is are fused back rests notes begun says leads) =
-      absurd (no_rise here line said _ says free (subst BringsUp (sym is) tt))
-  back_known_too line free (GroupCutOff next site is has are fused notes says left) = absurd (no_rise here line said _ says free (subst BringsUp (sym is) tt))
-  back_known_too line free (GroupUnfound kept taken lost why next has are brings not leaves says left) = absurd (no_rise here line said why says free brings)
-  back_known_too line free (GroupHeld kept taken lost disk next has are failed brings notes says left) = absurd (no_rise here line said _ says free brings)
+  back_known_too line free (LogLacks site kept taken middle next has is are back keeps works lacks says left) = absurd (no_rise here line said _ says free (subst BringsUp (sym is) tt))
+  back_known_too line free (KeptLost site kept taken disk middle next has is are failed back keeps works says left) = absurd (no_rise here line said _ says free (subst BringsUp (sym is) tt))
+  back_known_too line free (GroupUnfound site kept taken lost why next has is are not leaves says left) = absurd (no_rise here line said why says free (subst BringsUp (sym is) tt))
+  back_known_too line free (GroupHeld site kept taken lost disk next has is are failed notes says left) = absurd (no_rise here line said _ says free (subst BringsUp (sym is) tt))
 
   finds_known : (line : ScriptLine) → (MayDarken here line said → ⊥) → RvgFinds told d line s fails said new → ⊥
   finds_known line free (FindsRvg kept taken next mid n k row c units are brings unknown dark is same comes config fits lies says left) =

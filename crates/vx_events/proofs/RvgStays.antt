@@ -6,16 +6,13 @@ use Rattle.vx_model.specs.declared.no.No.{No}
 use Rattle.vx_model.specs.declared.no.No.TheVariants.{Limit}
 use Rattle.vx_history.specs.Doubts.{Doubted}
 use Rattle.vx_history.specs.Groups.{GroupNode}
-use Rattle.vx_history.specs.Stops.{IsFused}
 use Rattle.vx_history.specs.World.{Node, World}
-use Rattle.vx_history.specs.declared.event.Event.{Event}
 use Rattle.vx_config.specs.declared.config.Config.{Config}
 use Rattle.vx_script.specs.declared.line.ScriptLine.{ScriptLine}
 use Rattle.vx_script.specs.declared.line.ScriptLine.TheVariants.{Recover, Write, Put, Read, Show}
 use Rattle.vx_events.proofs.KnownLaws.{group_stays, never}
 use Rattle.vx_events.proofs.Places.{some_same}
 use Rattle.vx_events.proofs.RvgConfigs.{keeps_self, keeps_then, loses_keeps, stayed}
-use Rattle.vx_events.proofs.RvgEvents.{rvg_apart}
 use Rattle.vx_events.proofs.RvgKnown.{back_dark, lost_group, noted_here, noted_over_here}
 use Rattle.vx_events.specs.Doubts.{with_disks}
 use Rattle.vx_events.specs.Fails.{Fails}
@@ -24,7 +21,7 @@ use Rattle.vx_events.specs.GroupEnds.{NotFoundLeaves}
 use Rattle.vx_events.specs.GroupLines.{group_noted, noting}
 use Rattle.vx_events.specs.GroupNotes.{IsKnown, NotesBack, NotesRefused, Reconfigures, no_note, note_at}
 use Rattle.vx_events.specs.GroupViews.{config_of}
-use Rattle.vx_events.specs.RvgBack.{FindsNoRvg, FindsPlain, FindsRvg, GetsRvg, GroupCutOff, GroupHeld, GroupUnfound, HadRvg, IsLeftBack, IsLeftBut, KeptLost, LogCut, LogFails, LogLacks, RestsWithRvg, RvgBack, RvgFinds, RvgUp}
+use Rattle.vx_events.specs.RvgBack.{FindsNoRvg, FindsPlain, FindsRvg, GroupHeld, GroupUnfound, IsLeftBack, IsLeftBut, KeptLost, LogFails, LogLacks, RvgBack, RvgFinds, RvgUp}
 use Rattle.vx_events.specs.RvgFits.{KeepsRvg, KeptConfig, NoteKeepsRvg, config_rvg, rvg_noted}
 use Rattle.vx_events.specs.RvgOver.{NotesLine, OverRvg, EndsOver}
 use Rattle.vx_events.specs.RvgViews.{is_over_rvg}
@@ -88,11 +85,6 @@ but_group lost s line taken next before last new left =
     let v : World = noting u s next in
     ap (λ (w : World). (w.nodes s).group) left.world ∙ lost_group lost (group_noted s line v) s ∙ group_stays s line v ∙ noted_here u s next
 
-rests_noted : (d : Doubted) (line : ScriptLine) (s kept : ℕ) (middle next : GroupNode) (from : Doubted) (events : List Event) → is_over_rvg (d.world.nodes s) ≡ true
-    → RestsWithRvg d line s kept middle next from events → NoteKeepsRvg (note_at (d.world.nodes s)) middle × (next ≡ middle)
-rests_noted d line s kept middle next from events over (HadRvg has keeps noted is fall) = (keeps, noted)
-rests_noted d line s kept middle next from events over (GetsRvg units group has there one noted is all) = absurd (never (sym (rvg_apart (d.world.nodes s) over) ∙ group))
-
 -- a group that came up with the replicated volume group that it had, where it is known what the disks hold
 pub back_keeps : (told : Type 0) (s : ℕ) (n : Node) (fails : Fails) (note middle : GroupNode) → IsKnown told middle → rvg_noted middle ≡ rvg_noted note
     → NotesBack told s n fails note middle → NoteKeepsRvg note middle
@@ -112,23 +104,13 @@ module _ (told : Type 0) (d : Doubted) (line : ScriptLine) (s : ℕ) (fails : Fa
   abbrev here : GroupNode
   here = note_at (d.world.nodes s)
 
-  -- it came up
-  pub came_keeps : (kept : ℕ) (middle found : GroupNode) (from : Doubted) (rest : List Event) → RestsWithRvg d line s kept middle found from rest → NoteKeepsRvg here found
-  came_keeps kept middle found from rest rests =
-      let noted = rests_noted d line s kept middle found from rest over rests in
-      then_same here middle found noted.0 (ap (λ (g : GroupNode). g.config) noted.1)
-
-  -- and the log was worked on
-  works_keeps : (Off : Type 0) (kept : ℕ) (middle found worked : GroupNode) (from : Doubted) (rest : List Event) → RestsWithRvg d line s kept middle found from rest
-      → NotesWork Off s fails found worked → NoteKeepsRvg here worked
-  works_keeps Off kept middle found worked from rest rests works =
-      then_keeps here found worked (came_keeps kept middle found from rest rests) (loses s fails found worked works)
+  -- it came up, and the log was worked on
+  works_keeps : (Off : Type 0) (middle worked : GroupNode) → NoteKeepsRvg here middle → NotesWork Off s fails middle worked → NoteKeepsRvg here worked
+  works_keeps Off middle worked keeps works = then_keeps here middle worked keeps (loses s fails middle worked works)
 
   -- while what is kept of a write is still to be read
-  left_cut : (Off : Type 0) (kept : ℕ) (middle found next : GroupNode) (from : Doubted) (rest : List Event) → RestsWithRvg d line s kept middle found from rest
-      → WorksCut Off s fails here.cut found next → NoteKeepsRvg here next
-  left_cut Off kept middle found next from rest rests x =
-      then_same here x.worked next (works_keeps Off kept middle found x.worked from rest rests x.works) (ap (λ (g : GroupNode). g.config) x.is)
+  left_cut : (Off : Type 0) (middle next : GroupNode) → NoteKeepsRvg here middle → WorksCut Off s fails here.cut middle next → NoteKeepsRvg here next
+  left_cut Off middle next keeps x = then_same here x.worked next (works_keeps Off middle x.worked keeps x.works) (ap (λ (g : GroupNode). g.config) x.is)
 
   left_keeps : (taken : Bool) (next : GroupNode) (before last : Doubted) → IsLeftBack s line taken next before last new → NoteKeepsRvg here next
       → NoteKeepsRvg here (note_at (new.world.nodes s))
@@ -139,20 +121,13 @@ module _ (told : Type 0) (d : Doubted) (line : ScriptLine) (s : ℕ) (fails : Fa
   but_keeps lost taken next before last left keeps = by_note (new.world.nodes s) here next (but_group lost s line taken next before last new left) keeps
 
   pub back_stays : RvgBack told d line s fails said new → NoteKeepsRvg here (note_at (new.world.nodes s))
-  back_stays (RvgUp kept taken middle found next from rest are brings back rests works says left) =
-      left_keeps taken next from _ left (works_keeps ⊥ kept middle found next from rest rests works)
-  back_stays (LogFails kept taken disk middle found next from rest events are has brings back rests is begun says left) =
-      but_keeps true taken next from _ left (left_cut ⊥ kept middle found next from rest rests is)
-  back_stays (LogLacks kept taken middle found next from rest are brings back rests is lacks says left) =
-      but_keeps true taken next from _ left (left_cut ⊥ kept middle found next from rest rests is)
-  back_stays (KeptLost kept taken disk middle found next from rest site is are has back rests noted says left) =
-      left_keeps taken next from _ left (left_cut ⊥ kept middle found next from rest rests noted)
-  back_stays (LogCut middle found next from rest events site is are fused back rests noted begun says left) =
-      left_keeps false next from _ left (left_cut (IsFused (d.world.nodes s).fuse) 0 middle found next from rest rests noted)
-  back_stays (GroupCutOff next site is has are fused notes says left) = left_keeps false next d _ left (same_config here next (refused_config here next notes))
-  back_stays (GroupUnfound kept taken lost why next has are brings not leaves says left) =
+  back_stays (RvgUp site kept taken middle next shown has is are back keeps works says shows left) = left_keeps taken next d _ left (works_keeps ⊥ middle next keeps works)
+  back_stays (LogFails site kept taken disk middle next events has is are failed back keeps works begun says left) = but_keeps true taken next d _ left (left_cut ⊥ middle next keeps works)
+  back_stays (LogLacks site kept taken middle next has is are back keeps works lacks says left) = but_keeps true taken next d _ left (left_cut ⊥ middle next keeps works)
+  back_stays (KeptLost site kept taken disk middle next has is are failed back keeps works says left) = left_keeps taken next d _ left (left_cut ⊥ middle next keeps works)
+  back_stays (GroupUnfound site kept taken lost why next has is are not leaves says left) =
       but_keeps lost taken next d _ left (same_config here next (unfound_config why here next leaves))
-  back_stays (GroupHeld kept taken lost disk next has are failed brings notes says left) =
+  back_stays (GroupHeld site kept taken lost disk next has is are failed notes says left) =
       but_keeps lost taken next d _ left (same_config here next (refused_config here next notes))
 
   -- what is found on disks of which nothing is known may be another one, and stays unknown

@@ -63,7 +63,6 @@ FoundPlain line s new = BringsUp line → rvg_noted (note_at (new.world.nodes s)
 -- A line at no site that has a replicated volume group over a group of disks. One that brings a group up, of a site over one or of a bare one, may find one.
 pub data WorksBeside (told : Type 0) (d : Doubted) (line : ScriptLine) (fails : Fails) (said : Said) (new : Doubted) : Type 0 where
   AsBefore : WorksOver (is_for_group d.world line) (told_for told d.world line) d line fails said new → FoundPlain line (group_place d.world line) new → WorksBeside told d line fails said new
-  Gained : RvgBack told d line (group_place d.world line) fails said new → WorksBeside told d line fails said new
   FoundOne : RvgFinds told d line (group_place d.world line) fails said new → WorksBeside told d line fails said new
 
 abbrev pub WorksAbove : (halts above : Bool) → Type 0 → Doubted → ScriptLine → Fails → Said → Doubted → Type 0

@@ -12,7 +12,7 @@ use Rattle.vx_script.specs.declared.line.ScriptLine.TheVariants.{GroupImport, Re
 use Rattle.vx_events.proofs.KnownLaws.{group_known, left_note}
 use Rattle.vx_events.proofs.RvgEnding.{never_found}
 use Rattle.vx_events.proofs.RvgFull.{brings_found}
-use Rattle.vx_events.proofs.RvgKnown.{back_known_too, making_known, narrowed_dark, over_known, works_dark, noted_over_here}
+use Rattle.vx_events.proofs.RvgKnown.{making_known, narrowed_dark, over_known, noted_over_here}
 use Rattle.vx_events.proofs.RvgStays.{back_group}
 use Rattle.vx_events.proofs.RvgTests.{gained_note}
 use Rattle.vx_events.specs.Doubts.{IsAs, run_as, with_disks}
@@ -27,14 +27,14 @@ use Rattle.vx_events.specs.Lines.{EndsBy, is_of_links}
 use Rattle.vx_events.specs.LinkEnds.{AppliesCut, AppliesPart, AreLeft, LinkEnds, LinksCut, LinksDone, LinksFind, LinksHalt, LogUnread, NoHeader, link_noted}
 use Rattle.vx_events.specs.Lists.{events_of}
 use Rattle.vx_events.specs.LinkLists.{link_events}
-use Rattle.vx_events.specs.RvgBack.{GetsRvg, GroupCutOff, GroupHeld, GroupUnfound, HadRvg, IsLeftBack, KeptLost, LogCut, LogFails, LogLacks, RestsWithRvg, RvgBack, RvgUp}
+use Rattle.vx_events.specs.RvgBack.{GroupHeld, GroupUnfound, IsLeftBack, KeptLost, LogFails, LogLacks, RvgBack, RvgUp, fall_first}
 use Rattle.vx_events.specs.Brights.{AllBright, IsBright, told_for}
 use Rattle.vx_events.proofs.Tolds.{told_now}
 use Rattle.vx_events.specs.RvgMakes.{IsLeftRvg, MakesRvg, RvgCut, RvgDone, RvgFails, RvgLacks, noting_in, units_at}
 use Rattle.vx_events.specs.RvgNotes.{volume_events}
 use Rattle.vx_events.specs.OpenLines.{is_open}
 use Rattle.vx_events.specs.RvgOver.{EndsOver, OverRvg, noting_over, fuse_behind}
-use Rattle.vx_events.specs.RvgSteps.{AsBefore, FoundOne, FullBy, Gained, StepFull, WorksAbove, WorksBeside, WorksFull, is_for_rvg, rvg_place}
+use Rattle.vx_events.specs.RvgSteps.{AsBefore, FoundOne, FullBy, StepFull, WorksAbove, WorksBeside, WorksFull, is_for_rvg, rvg_place}
 use Rattle.vx_events.specs.StepsOver.{WorksOver, group_place, is_for_group, refused_over}
 use Rattle.vx_events.specs.declared.said.Said.{Said}
 use Rattle.vx_events.specs.declared.said.Said.TheVariants.{Refused}
@@ -154,29 +154,16 @@ group_bright d b fails said new told line s held here (FindsNoGroup next why are
     over_bright s line next (run_as false d (refused_events (d.world.nodes s) s line)) new left here (run_bright false d (refused_events (d.world.nodes s) s line) b)
 
 module _ (told : Type 0) (tells : told) (d : Doubted) (b : AllBright d) (fails : Fails) (said : Said) (new : Doubted) where
-  -- the worlds from which the log of a group that came up comes up
-  pub from_bright : (line : ScriptLine) (s kept : ℕ) (middle next : GroupNode) (from : Doubted) (rest : List Event) → next.dark ≡ false
-      → RestsWithRvg d line s kept middle next from rest → AllBright from
-  from_bright line s kept middle next from rest known (HadRvg has same noted is fall) = subst (λ (e : Doubted). AllBright e) (sym is) b
-  from_bright line s kept middle next from rest known (GetsRvg units over has there one noted is all) =
-      subst (λ (e : Doubted). AllBright e) (sym is) (in_bright d s middle (sym (ap (λ (g : GroupNode). g.dark) noted) ∙ known) b)
-
   rises_bright : (line : ScriptLine) (s : ℕ) → (IsHeldDown line said → ⊥) → IsBright (new.world.nodes s) → RvgBack told d line s fails said new → AllBright new
-  rises_bright line s held here (RvgUp kept taken middle found next from rest are brings back rests works says left) =
-      let last : Doubted = run_as taken from (rest ++ RecoverAt s None ∷ []) in
-      let known : next.dark ≡ false = next_bright (new.world.nodes s) next (back_group s line taken next from last new left) here in
-      let start : AllBright from = from_bright line s kept middle found from rest (sym (works_dark ⊥ s fails found next works) ∙ known) rests in
-      back_bright s line taken next from last new left here start (run_bright taken from (rest ++ RecoverAt s None ∷ []) start)
-  rises_bright line s held here (LogFails kept taken disk middle found next from rest events are has brings back rests is begun says left) =
-      absurd (loud said line _ held says brings)
-  rises_bright line s held here (LogLacks kept taken middle found next from rest are brings back rests is lacks says left) = absurd (loud said line _ held says brings)
-  rises_bright line s held here (KeptLost kept taken disk middle found next from rest site is are has back rests noted says left) =
+  rises_bright line s held here (RvgUp site kept taken middle next shown has is are back keeps works says shows left) =
+      let events : List Event = fall_first (d.world.nodes s).state s kept ++ RecoverAt s None ∷ [] in
+      back_bright s line taken next d (run_as taken d events) new left here b (run_bright taken d events b)
+  rises_bright line s held here (LogFails site kept taken disk middle next events has is are failed back keeps works begun says left) =
       absurd (loud said line _ held says (subst BringsUp (sym is) tt))
-  rises_bright line s held here (LogCut middle found next from rest events site is are fused back rests noted begun says left) =
-      absurd (loud said line _ held says (subst BringsUp (sym is) tt))
-  rises_bright line s held here (GroupCutOff next site is has are fused notes says left) = absurd (loud said line _ held says (subst BringsUp (sym is) tt))
-  rises_bright line s held here (GroupUnfound kept taken lost why next has are brings not leaves says left) = absurd (loud said line why held says brings)
-  rises_bright line s held here (GroupHeld kept taken lost disk next has are failed brings notes says left) = absurd (loud said line _ held says brings)
+  rises_bright line s held here (LogLacks site kept taken middle next has is are back keeps works lacks says left) = absurd (loud said line _ held says (subst BringsUp (sym is) tt))
+  rises_bright line s held here (KeptLost site kept taken disk middle next has is are failed back keeps works says left) = absurd (loud said line _ held says (subst BringsUp (sym is) tt))
+  rises_bright line s held here (GroupUnfound site kept taken lost why next has is are not leaves says left) = absurd (loud said line why held says (subst BringsUp (sym is) tt))
+  rises_bright line s held here (GroupHeld site kept taken lost disk next has is are failed notes says left) = absurd (loud said line _ held says (subst BringsUp (sym is) tt))
 
   -- where imports agree, and the line is no refused one that brings a group up, its site stays known
   dim : (line : ScriptLine) (s : ℕ) → (BringsUp line → (note_at (d.world.nodes s)).loose ≡ false) → (IsHeldDown line said → ⊥)
@@ -236,9 +223,6 @@ module _ (told : Type 0) (tells : told) (d : Doubted) (b : AllBright d) (fails :
           group_bright d b fails said new (told_for told d.world line) line s held (group_known (told_for told d.world line) now d line s fails said new ends (b.sites s) (dim line s agree held)) ends
       by_group false (inl step) = by_kind (told_for told d.world line) now (is_of_links line) d line fails said new b step.ends
       by_group false (inr kept) = absurd (kept.untold now)
-  beside_bright line held agree (Gained back) =
-      let s : ℕ = group_place d.world line in
-      rises_bright line s held (back_known_too told tells d s (b.sites s) fails said new line (dim line s agree held) back) back
   beside_bright line held agree (FoundOne finds) =
       let s : ℕ = group_place d.world line in
       absurd (never_found told tells d s (b.sites s) fails said new line (agree (brings_found told d line s fails said new finds)) finds)

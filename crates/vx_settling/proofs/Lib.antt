@@ -15,7 +15,6 @@ pub mod WithinOne
 pub mod WithinLines
 pub mod WithinApply
 pub mod RvgRooms
-pub mod RvgGained
 pub mod Brights
 pub mod BrightLines
 pub mod Shorts

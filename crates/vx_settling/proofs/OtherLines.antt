@@ -10,11 +10,11 @@ use Rattle.vx_history.specs.Groups.{GroupNode}
 use Rattle.vx_history.specs.Steps.{group_set}
 use Rattle.vx_history.specs.World.{Link as LinkRecord, Node, World, no_link}
 use Rattle.vx_history.specs.declared.event.Event.{Event}
-use Rattle.vx_history.specs.declared.event.Event.TheVariants.{Crash as CrashAt, Deliver as DeliverAt, Fall as FallAt, Fault, Pump as PumpAt, Recover as RecoverAt}
+use Rattle.vx_history.specs.declared.event.Event.TheVariants.{Crash as CrashAt, Deliver as DeliverAt, Fault, Pump as PumpAt, Recover as RecoverAt}
 use Rattle.vx_script.specs.declared.line.ScriptLine.{ScriptLine}
 use Rattle.vx_script.specs.declared.line.ScriptLine.TheVariants.{Apply, Crash, Disk, Fuse, GroupDeport, GroupImport, GroupInit, PlexAttach, PlexDetach, Put, Read, Recover, Rvg, Show, Status, Volume, Write}
 use Rattle.vx_world.proofs.Doubting.{like_good}
-use Rattle.vx_events.proofs.RvgFull.{brings_back, brings_found}
+use Rattle.vx_events.proofs.RvgFull.{brings_found}
 use Rattle.vx_events.proofs.RvgStopping.{noted_doubted}
 use Rattle.vx_events.specs.Doubts.{IsAs, run_as, with_disks}
 use Rattle.vx_events.specs.Ends.{AllDone, DiskFails, Ends, FindsLinks, FindsNone, FromBare, FromDown, FromUp, FuseRunsOut, HeaderFails, IsLeft, NoNumber, Recovering, ShowsReceived, found_linked, noted, place_of}
@@ -28,13 +28,13 @@ use Rattle.vx_events.specs.LinkEnds.{AppliesCut, AppliesPart, AreLeft, LinkEnds,
 use Rattle.vx_events.specs.Lists.{Choice, crash_count, events_of}
 use Rattle.vx_events.specs.LinkFinds.{ApplyCut, ApplyHalts, EndsBetween, FindsOther, GivesUp, HeaderCut, HeaderHalts, IsStored, IsUnread, KeepsOther, LosesOther, MovesBetween, ReadsNone, SendsOther, SettlesOther, TakesOther}
 use Rattle.vx_events.specs.LinkLists.{link_events}
-use Rattle.vx_events.specs.RvgBack.{FindsNoRvg, FindsPlain, FindsRvg, GetsRvg, GroupCutOff, GroupHeld, GroupUnfound, HadRvg, IsLeftBack, IsLeftBut, KeptLost, LogCut, LogFails, LogLacks, RestsWithRvg, RvgBack, RvgFinds, RvgUp, fall_first, fuse_left}
+use Rattle.vx_events.specs.RvgBack.{FindsNoRvg, FindsPlain, FindsRvg, GroupHeld, GroupUnfound, IsLeftBack, IsLeftBut, KeptLost, LogFails, LogLacks, RvgBack, RvgFinds, RvgUp, fall_first, fuse_left}
 use Rattle.vx_events.specs.Brights.{told_for}
 use Rattle.vx_events.specs.RvgMakes.{IsLeftRvg, MakesRvg, RvgCut, RvgDone, RvgFails, RvgLacks, noting_in, units_at}
 use Rattle.vx_events.specs.RvgNotes.{volume_events}
 use Rattle.vx_events.specs.OpenLines.{is_open}
 use Rattle.vx_events.specs.RvgOver.{EndsOver, OverRvg, noting_over, fuse_behind}
-use Rattle.vx_events.specs.RvgSteps.{AsBefore, FoundOne, FullBy, Gained, StepFull, WorksAbove, WorksBeside, WorksFull, is_for_rvg, rvg_place}
+use Rattle.vx_events.specs.RvgSteps.{AsBefore, FoundOne, FullBy, StepFull, WorksAbove, WorksBeside, WorksFull, is_for_rvg, rvg_place}
 use Rattle.vx_events.specs.StepsOver.{WorksOver, group_place, is_for_group, refused_over}
 use Rattle.vx_events.specs.declared.said.Said.{Said}
 use Rattle.vx_settling.specs.OtherNotes.{HasNote, may_note}
@@ -282,44 +282,26 @@ module _ (i : ℕ) (o : Option GroupNode) where
     module _ (told : Type 0) (fails : Fails) (said : Said) (new : Doubted) where
       -- ---- another site with a replicated volume group
 
-      -- the worlds from which the log of a group that came up comes up
-      from_stands : (line : ScriptLine) (s kept : ℕ) (middle next : GroupNode) (from : Doubted) (rest : List Event) → eqb i s ≡ false
-          → RestsWithRvg d line s kept middle next from rest → OtherNotes.Standing i o from
-      from_stands line s kept middle next from rest apart (HadRvg has same noted is fall) = subst (λ (e : Doubted). OtherNotes.Standing i o e) (sym is) x
-      from_stands line s kept middle next from rest apart (GetsRvg units over has there one noted is all) =
-          subst (λ (e : Doubted). OtherNotes.Standing i o e) (sym is) (in_stands d s middle apart x)
+      -- a line that leaves the site like this, behind these events
+      rose : (line : ScriptLine) (s : ℕ) → eqb i s ≡ false → (taken : Bool) (next : GroupNode) (es : List Event) → IsLeftBack s line taken next d (run_as taken d es) new → HasNote i o new
+      rose line s apart taken next es left = back_notes s line taken next d (run_as taken d es) new apart left x.has (ran taken es)
 
-      -- a line that leaves the site like this, behind these events of such worlds
-      rose : (line : ScriptLine) (s kept : ℕ) (middle found : GroupNode) (from : Doubted) (rest : List Event) → eqb i s ≡ false
-          → RestsWithRvg d line s kept middle found from rest → (taken : Bool) (next : GroupNode) (es : List Event)
-          → IsLeftBack s line taken next from (run_as taken from es) new → HasNote i o new
-      rose line s kept middle found from rest apart rests taken next es left =
-          let y : OtherNotes.Standing i o from = from_stands line s kept middle found from rest apart rests in
-          back_notes s line taken next from (run_as taken from es) new apart left y.has (OtherNotes.run_stands i o taken from es y).has
-
-      pub fell : (line : ScriptLine) (s kept : ℕ) (middle found : GroupNode) (from : Doubted) (rest : List Event) → eqb i s ≡ false
-          → RestsWithRvg d line s kept middle found from rest → (taken : Bool) (next : GroupNode) (es : List Event)
-          → IsLeftBut true s line taken next from (run_as taken from es) new → HasNote i o new
-      fell line s kept middle found from rest apart rests taken next es left =
-          let y : OtherNotes.Standing i o from = from_stands line s kept middle found from rest apart rests in
-          but_notes true s line taken next from (run_as taken from es) new apart left y.has (OtherNotes.run_stands i o taken from es y).has
+      pub fell : (line : ScriptLine) (s : ℕ) → eqb i s ≡ false → (taken lost : Bool) (next : GroupNode) (es : List Event) → IsLeftBut lost s line taken next d (run_as taken d es) new → HasNote i o new
+      fell line s apart taken lost next es left = but_notes lost s line taken next d (run_as taken d es) new apart left x.has (ran taken es)
 
       rises_notes : (line : ScriptLine) (s : ℕ) → eqb i s ≡ false → RvgBack told d line s fails said new → HasNote i o new
-      rises_notes line s apart (RvgUp kept taken middle found next from rest are brings back rests works says left) =
-          rose line s kept middle found from rest apart rests taken next (rest ++ RecoverAt s None ∷ []) left
-      rises_notes line s apart (LogFails kept taken disk middle found next from rest leaves are has brings back rests works is says left) =
-          fell line s kept middle found from rest apart rests taken next (rest ++ leaves) left
-      rises_notes line s apart (LogLacks kept taken middle found next from rest are brings back rests works lacks says left) =
-          fell line s kept middle found from rest apart rests taken next rest left
-      rises_notes line s apart (KeptLost kept taken disk middle found next from rest site is are has back rests works says left) =
-          rose line s kept middle found from rest apart rests taken next (rest ++ RecoverAt s None ∷ CrashAt s 0 ∷ []) left
-      rises_notes line s apart (LogCut middle found next from rest leaves site is are fused back rests works begun says left) =
-          rose line s 0 middle found from rest apart rests false next (rest ++ (leaves ++ FallAt s ∷ [])) left
-      rises_notes line s apart (GroupCutOff next site is has are fused notes says left) = back_notes s line false next d (run_as false d (FallAt s ∷ [])) new apart left x.has (ran false (FallAt s ∷ []))
-      rises_notes line s apart (GroupUnfound kept taken lost why next has are brings not leaves says left) =
-          but_notes lost s line taken next d _ new apart left x.has (ran taken (fall_first (d.world.nodes s).state s kept))
-      rises_notes line s apart (GroupHeld kept taken lost disk next has are failed brings notes says left) =
-          but_notes lost s line taken next d _ new apart left x.has (ran taken (fall_first (d.world.nodes s).state s kept))
+      rises_notes line s apart (RvgUp site kept taken middle next shown has is are back keeps works says shows left) =
+          rose line s apart taken next (fall_first (d.world.nodes s).state s kept ++ RecoverAt s None ∷ []) left
+      rises_notes line s apart (LogFails site kept taken disk middle next leaves has is are failed back keeps works begun says left) =
+          fell line s apart taken true next (fall_first (d.world.nodes s).state s kept ++ leaves) left
+      rises_notes line s apart (LogLacks site kept taken middle next has is are back keeps works lacks says left) =
+          fell line s apart taken true next (fall_first (d.world.nodes s).state s kept) left
+      rises_notes line s apart (KeptLost site kept taken disk middle next has is are failed back keeps works says left) =
+          rose line s apart taken next (fall_first (d.world.nodes s).state s kept ++ RecoverAt s None ∷ CrashAt s 0 ∷ []) left
+      rises_notes line s apart (GroupUnfound site kept taken lost why next has is are not leaves says left) =
+          fell line s apart taken lost next (fall_first (d.world.nodes s).state s kept) left
+      rises_notes line s apart (GroupHeld site kept taken lost disk next has is are failed notes says left) =
+          fell line s apart taken lost next (fall_first (d.world.nodes s).state s kept) left
 
       -- the site as it came up
       came : (line : ScriptLine) (s : ℕ) (taken : Bool) (next : GroupNode) (mid : Doubted) (k : Node) (row : ℕ → LinkRecord) → eqb i s ≡ false → HasNote i o mid
@@ -373,9 +355,6 @@ module _ (i : ℕ) (o : Option GroupNode) where
           by_group false is (inl step) = by_kind (told_for told d.world line) (is_of_links line) line fails said new off step.ends
           by_group false is (inr kept) =
               group_notes d x (told_for told d.world line) fails said new line (group_place d.world line) (brings_apart d.world line i off (subst BringsUp (sym kept.recovers) tt)) kept.ends
-      beside_notes line off (Gained back) =
-          let s : ℕ = group_place d.world line in
-          rises_notes line s (brings_apart d.world line i off (brings_back told d line s fails said new back)) back
       beside_notes line off (FoundOne finds) =
           let s : ℕ = group_place d.world line in
           finds_notes line s (brings_apart d.world line i off (brings_found told d line s fails said new finds)) finds

@@ -73,12 +73,12 @@ module _ (i : ℕ) (o : Option GroupNode) (d : Doubted) (x : OtherNotes.Standing
       OtherLines.are_notes i o line d middle new left (OtherLines.moved_notes i o d x a b middle both.1 moves)
 
   rvg_notes : (line : ScriptLine) → may_note d.world line i ≡ false → RvgShort told d line (short_place d.world line) new → HasNote i o new
-  rvg_notes line off (ShortGroup kept taken lost next has brings notes left) =
+  rvg_notes line off (ShortGroup site kept taken lost next has is notes left) =
       let s : ℕ = short_place d.world line in
-      let es : List Event = fall_first (d.world.nodes s).state s kept in
-      OtherLines.but_notes i o lost s line taken next d (run_as taken d es) new (short_apart d.world line i off brings) left x.has (OtherLines.ran i o d x taken es)
-  rvg_notes line off (ShortLog kept taken fails middle found next from rest are brings back rests is left) =
-      OtherLines.fell i o d x told fails Done new line (short_place d.world line) kept middle found from rest (short_apart d.world line i off brings) rests taken next rest left
+      OtherLines.fell i o d x told [] Done new line s (short_apart d.world line i off (subst BringsUp (sym is) tt)) taken lost next (fall_first (d.world.nodes s).state s kept) left
+  rvg_notes line off (ShortLog site kept taken fails middle next has is are back keeps cut left) =
+      let s : ℕ = short_place d.world line in
+      OtherLines.fell i o d x told fails Done new line s (short_apart d.world line i off (subst BringsUp (sym is) tt)) taken true next (fall_first (d.world.nodes s).state s kept) left
   rvg_notes line off (ShortMade site srl maps volumes fails next is are notes left) =
       let apart : eqb i (short_place d.world line) ≡ false =
       subst (λ (l : ScriptLine). eqb i (short_place d.world l) ≡ false) (sym is) (subst (λ (l : ScriptLine). may_note d.world l i ≡ false) is off) in

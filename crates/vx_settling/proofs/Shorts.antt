@@ -1,6 +1,6 @@
--- What want of memory leaves of a recovery or an import where a group of disks has a replicated volume group, or of a line that makes one: good worlds, in which each
+-- What want of memory leaves of a recovery where a group of disks has a replicated volume group, or of a line that makes one: good worlds, in which each
 -- site has what it had, and of which what the disks hold stays known.
-use Rattle.std.proofs.Common.{◌≡◌, ◌∙◌, ℕ, List, Bool, true, false, ap, sym}
+use Rattle.std.proofs.Common.{◌≡◌, ℕ, List, Bool, true, false}
 use Rattle.vx_history.specs.Doubts.{Doubted}
 use Rattle.vx_history.specs.Good.{IsMade}
 use Rattle.vx_history.specs.Groups.{GroupNode}
@@ -23,9 +23,8 @@ use Rattle.vx_events.specs.RvgFits.{FitsNoted}
 use Rattle.vx_events.specs.RvgMakes.{RvgStops}
 use Rattle.vx_events.specs.RvgParts.{RvgShort, ShortGroup, ShortLog, ShortMade}
 use Rattle.vx_events.specs.RvgViews.{is_over_rvg}
-use Rattle.vx_events.specs.declared.said.Said.TheVariants.{Done}
 use Rattle.vx_events.specs.Brights.{AllBright, IsBright}
-use Rattle.vx_settling.proofs.BrightLines.{from_bright, made_bright, next_bright}
+use Rattle.vx_settling.proofs.BrightLines.{made_bright, next_bright}
 use Rattle.vx_settling.proofs.Brights.{as_bright, disks_bright, group_noted_bright, lost_bright, noting_bright, run_bright}
 use Rattle.vx_settling.proofs.RvgRooms.{has_data, stops_room}
 
@@ -44,14 +43,12 @@ module _ (told : Type 0) (tells : told) (d : Doubted) (line : ScriptLine) (s : �
   short_bright b agree short = by short (short_known told d line s new (b.sites s) agree short)
     where
       by : RvgShort told d line s new → IsBright (new.world.nodes s) → AllBright new
-      by (ShortGroup kept taken lost next has brings notes left) here =
+      by (ShortGroup site kept taken lost next has is notes left) here =
           let falls : List Event = fall_first (d.world.nodes s).state s kept in
           but_bright lost s line taken next d (run_as taken d falls) new left here b (run_bright taken d falls b)
-      by (ShortLog kept taken fails middle found next from rest are brings back rests is left) here =
-          let known : next.dark ≡ false = next_bright (new.world.nodes s) next (but_group true s line taken next from (run_as taken from rest) new left) here in
-          let start : AllBright from =
-          from_bright told tells d b fails Done new line s kept middle found from rest (sym (ap (λ (g : GroupNode). g.dark) is) ∙ known) rests in
-          but_bright true s line taken next from (run_as taken from rest) new left here start (run_bright taken from rest start)
+      by (ShortLog site kept taken fails middle next has is are back keeps cut left) here =
+          let falls : List Event = fall_first (d.world.nodes s).state s kept in
+          but_bright true s line taken next d (run_as taken d falls) new left here b (run_bright taken d falls b)
       by (ShortMade site srl maps volumes fails next is are notes left) here = made_bright s next d new left here b
 
 pub short_good : (told : Type 0) (d : Doubted) (line : ScriptLine) (s : ℕ) (new : Doubted) → GoodDoubted d → RvgShort told d line s new → GoodDoubted new

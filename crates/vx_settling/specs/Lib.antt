@@ -4,6 +4,5 @@ pub mod Ending
 pub mod Between
 pub mod Works
 pub mod Burnt
-pub mod Gains
 pub mod Brights
 pub mod OtherNotes

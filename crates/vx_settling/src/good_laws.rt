@@ -1,5 +1,5 @@
 // What lines over groups of disks keep of good worlds.
-ghost use Rattle.std.specs.Prelude.{◌≡◌, ℕ, Bool, true, false, None, IsTrue};
+ghost use Rattle.std.specs.Prelude.{◌≡◌, ℕ, Bool, true, false, IsTrue};
 ghost use Rattle.vx_history.specs.Doubts.{Doubted};
 ghost use Rattle.vx_history.specs.Good.{IsMade};
 ghost use Rattle.vx_script.specs.declared.line.ScriptLine.{ScriptLine};
@@ -7,7 +7,7 @@ ghost use Rattle.vx_world.specs.Lines.{DoubtsAlike, GoodDoubted, RoomStays};
 ghost use Rattle.vx_events.specs.Fails.{Fails};
 ghost use Rattle.vx_events.specs.GroupEnds.{BringsUp};
 ghost use Rattle.vx_events.specs.GroupNotes.{note_at};
-ghost use Rattle.vx_events.specs.RvgBack.{RvgBack, RvgFinds};
+ghost use Rattle.vx_events.specs.RvgBack.{RvgFinds};
 ghost use Rattle.vx_events.specs.RvgFits.{FitsNoted};
 ghost use Rattle.vx_events.specs.Brights.{AllBright};
 ghost use Rattle.vx_events.specs.RvgOver.{OpensFor, OverRvg};
@@ -16,7 +16,6 @@ ghost use Rattle.vx_events.specs.RvgViews.{is_over_rvg};
 ghost use Rattle.vx_events.specs.StepsOver.{group_place};
 ghost use Rattle.vx_events.specs.declared.said.Said.{Said};
 ghost use Rattle.vx_settling.specs.Brights.{IsHeldDown};
-ghost use Rattle.vx_settling.specs.Gains.{MayGain};
 
 /// However a line ends over groups of disks, with replicated volume groups or without, where it is known what they hold, and imports agree of a group that it brings
 /// up, or it is known behind it too what its disks hold: a good world stays good, whichever of the sites that are in doubt are as they may be on their disks.
@@ -35,8 +34,7 @@ pub fn full_lines_stay_known()
 
 /// Where it is known what the disks hold, and imports agree of a group that the line brings up, or it is known behind it too, each site that has data volumes has these behind a line as before it,
 /// with its log. And a site that has the replicated volume group which it notes has the one that it notes then, if it has one still: behind a line at the site, whatever it
-/// found on disks that may not agree. So has a site without one of which a recovery or an import finds that it has one, also where its log did not
-/// come up, and where nothing was known of the disks.
+/// found on disks that may not agree. So has a site without one of which a recovery or an import finds that it has one, as nothing was known of its disks.
 pub fn rvgs_stay_fit()
     ensures rooms { (files : Bool) (d : Doubted) (line : ScriptLine) (fails : Fails) (said : Said) (new : Doubted) → GoodDoubted d → DoubtsAlike d → AgreeFor d.world line new.world
         → StepFull (Unit {0}) files d line fails said new → RoomStays d new }
@@ -44,8 +42,6 @@ pub fn rvgs_stay_fit()
         → is_over_rvg (d.world.nodes s) ≡ true → OpensFor d.world line → (note_at (d.world.nodes s)).dark ≡ false
         → OverRvg (Unit {0}) d line s fails said new → FitsNoted (d.world.nodes s)
         → is_over_rvg (new.world.nodes s) ≡ true → FitsNoted (new.world.nodes s) }
-    ensures gained { (d : Doubted) (line : ScriptLine) (s : ℕ) (fails : Fails) (said : Said) (new : Doubted) → MayGain d.world.sites line s (d.world.nodes s)
-        → d.after s ≡ None → RvgBack (Unit {0}) d line s fails said new → FitsNoted (new.world.nodes s) }
     ensures found { (tells : Bool) (d : Doubted) (line : ScriptLine) (s : ℕ) (fails : Fails) (said : Said) (new : Doubted) → (is_over_rvg (d.world.nodes s) ≡ true → ⊥)
         → RvgFinds (IsTrue tells) d line s fails said new → FitsNoted (new.world.nodes s) }
 {}

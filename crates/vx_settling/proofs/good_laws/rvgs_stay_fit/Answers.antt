@@ -1,7 +1,6 @@
 -- Each clause is its theorem.
 use Rattle.std.specs.Prelude.{IsTrue}
 use Rattle.vx_events.proofs.RvgEvents.{step_stops}
-use Rattle.vx_settling.proofs.RvgGained.{gained_fits}
 use Rattle.vx_settling.proofs.RvgRooms.{finds_gained, over_fits, stops_room}
 use Rattle.vx_settling.proofs.good_laws.rvgs_stay_fit.Goals as goal
 
@@ -10,6 +9,5 @@ returns c = record {
   rooms = λ files d line fails said new good alike all step. stops_room d new good alike (step_stops (Unit {0}) tt files d fails said new line all step);
   over = λ d line s fails said new good alike made over opens bright ends fits still.
       over_fits (Unit {0}) tt d good alike line fails said new s made over opens bright ends fits still;
-  gained = λ d line s fails said new may free back. gained_fits (Unit {0}) d line s fails said new may free back;
   found = λ tells d line s fails said new none finds. finds_gained (IsTrue tells) d line s fails said new none finds;
 }
