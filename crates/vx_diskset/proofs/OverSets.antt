@@ -1,7 +1,7 @@
 -- The disks of a site whose group has a replicated volume group, past changes of its node by which they do not stand.
-use Rattle.std.proofs.Common.{◌≡◌, ◌∙◌, ◌⊎◌, ◌≤◌, inl, inr, ap, sym, ℕ, Bool, true, false, length}
+use Rattle.std.proofs.Common.{◌≡◌, ◌∙◌, ◌≤◌, ap, sym, ℕ, Bool, true, false, length}
 use Rattle.std.specs.Prelude.{None}
-use Rattle.vx_model.specs.Sites.{is_origin, is_up}
+use Rattle.vx_model.specs.Sites.{is_origin}
 use Rattle.vx_model.specs.declared.site.SiteState.TheVariants.{Up as IsUp, Down as IsDown, Deported as IsDeported}
 use Rattle.vx_history.specs.Steps.{burned, worked}
 use Rattle.vx_history.specs.World.{Fuse as FuseOf, Node}
@@ -9,9 +9,8 @@ use Rattle.vx_config.specs.declared.config.Config.{Config}
 use Rattle.vx_disk.specs.Shelf.{Meaning}
 use Rattle.vx_disk.specs.declared.shelf.Shelf.{Ghosts}
 use Rattle.vx_ground.specs.Lifted.{laid_volumes}
-use Rattle.vx_diskset.specs.Aboves.{IsDeaf, above_site}
 use Rattle.vx_diskset.specs.Holds.{KeptBeside}
-use Rattle.vx_diskset.specs.Stands.{AwayOver, FellOver, OverStands, RestsOver, RoleBy, idle_ready}
+use Rattle.vx_diskset.specs.Stands.{AwayOver, FellOver, OverStands, RestsOver, idle_ready}
 use Rattle.vx_diskset.specs.declared.over_set.OverSite.{OverSite}
 use Rattle.vx_diskset.specs.declared.over_set.OverSite.TheVariants.{Origin as OriginSite, Receiver as ReceiverSite, Deported as GroupAway, Down as GroupFell, Gone as NoGroup}
 use Rattle.vx_diskset.proofs.FailGroup.{receiver_failing, up_failing}
@@ -56,14 +55,6 @@ module _ {R : Type 0} {g : Ghosts R} where
   over_failing beside n failing (GroupAway idle) it = (it.0, away_like beside n n.fuse failing (idle_ready idle) it.1)
   over_failing beside n failing (GroupFell idle) it = (it.0, it.1, fell_like beside n n.fuse failing (idle_ready idle) it.2, it.3)
   over_failing beside n failing NoGroup it = it
-
-  -- one behind which no updates wait is an origin, or it is not up
-  pub over_deaf : (beside : KeptBeside) (n : Node) (s : OverSite R g) → IsDeaf (above_site s) → RoleBy n (above_site s) → OverStands beside n s → (is_up n.state ≡ false) ⊎ (is_origin n.role ≡ true)
-  over_deaf beside n (OriginSite f) deaf role it = inr role
-  over_deaf beside n (ReceiverSite f) deaf role it = absurd deaf
-  over_deaf beside n (GroupAway idle) deaf role it = inl (ap is_up it.0)
-  over_deaf beside n (GroupFell idle) deaf role it = inl (ap is_up it.0)
-  over_deaf beside n NoGroup deaf role it = absurd it
 
   -- an origin that is up and runs has no write that is not durable
   pub over_durable : (beside : KeptBeside) (n : Node) (s : OverSite R g) → OverStands beside n s → n.state ≡ IsUp → n.halted ≡ None → is_origin n.role ≡ true → length n.log ≤ n.safe

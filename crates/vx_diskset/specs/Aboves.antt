@@ -34,12 +34,6 @@ is_receiver Nothing = false
 is_receiver (Origin core) = false
 is_receiver (Receiver core waiting) = true
 
--- no updates wait behind it: it takes none
-abbrev pub IsDeaf : Above → Type 0
-IsDeaf Nothing = Unit {0}
-IsDeaf (Origin core) = Unit {0}
-IsDeaf (Receiver core waiting) = ⊥
-
 -- this volume is none of these units
 pub record IsOutsideOf (units : Units) (volume : ℕ) : Type 0 where
   pub log : volume ≡ units.srl → ⊥

@@ -26,7 +26,7 @@ use Rattle.vx_effects.proofs.Packets.{update_effect}
 use Rattle.vx_effects.specs.Facts.{fact_of, received_fact}
 use Rattle.vx_events.proofs.Places.{some_same}
 use Rattle.vx_linked.proofs.Heard.{site_apart}
-use Rattle.vx_yard.proofs.OverGroup.{set_notes}
+use Rattle.vx_yard.proofs.OverGroup.{both_ways, over_rvg, set_notes}
 use Rattle.vx_events.specs.RvgViews.{is_over_rvg}
 use Rattle.vx_events.specs.declared.said.Said.TheVariants.{Ignored}
 use Rattle.vx_net.specs.Flights.{Flying}
@@ -37,15 +37,11 @@ use Rattle.vx_script.specs.declared.line.ScriptLine.TheVariants.{Deliver}
 use Rattle.vx_diskset.specs.Asked.{LeavesAlone}
 use Rattle.vx_diskset.specs.Holds.{KeptBeside, beside_of}
 use Rattle.vx_diskset.specs.Stands.{IsRackTold, RoleIs, SiteStands}
-use Rattle.vx_diskset.specs.Aboves.{IsDeaf, above_in, is_receiver}
-use Rattle.vx_diskset.specs.declared.above.Above.{Above}
-use Rattle.vx_diskset.specs.declared.above.Above.TheVariants.{Nothing, Origin, Receiver}
 use Rattle.vx_diskset.specs.declared.disk_set.DiskSet.{DiskSet}
 use Rattle.vx_diskset.specs.declared.disk_set.DiskSet.TheVariants.{Bare, Spoiled, Up, Receives as HasRoom, Down, OfGroup, Over, Gone}
 use Rattle.vx_joins.proofs.TakesUpdate.{ignored_is}
 use Rattle.vx_joins.specs.Deliveries.{IsUnheard, TakesNone, TakesOne, TookTo}
 use Rattle.vx_yard.specs.Changes.{last_facts}
-use Rattle.vx_diskset.proofs.OverSets.{over_deaf}
 use Rattle.vx_yard.specs.Deliveries.{Receives}
 use Rattle.vx_yard.specs.Standing.{Leads, StandsFor}
 use Rattle.vx_yard.specs.Stands.{AreTold}
@@ -84,12 +80,6 @@ none_start n row sites starts receives = shown_none n row n.state (linked_sites 
 -- what the world makes of the packet of this number
 abbrev outcome_at : Doubted → (number : ℕ) → Outcome
 outcome_at d number = delivered d.world number (packet_at d.world.packets number)
-
--- nothing that is not a receiver takes updates
-deaf_above : (a : Above) → is_receiver a ≡ false → IsDeaf a
-deaf_above Nothing none = tt
-deaf_above (Origin core) none = tt
-deaf_above (Receiver core waiting) none = absurd (let e : true ≡ false = none in cc)
 
 module _ {R : Type 0} {g : Ghosts R} where
   -- whether contents are told
@@ -132,24 +122,23 @@ module _ {R : Type 0} {g : Ghosts R} where
 
   module _ (d : Doubted) (number : ℕ) (p : Packet) (k : ℕ) (x : Write) (at : packet_at d.world.packets number ≡ Some p) (message : p.message ≡ Update k x) where
     -- disks that receive nothing
-    ignored_by : (beside : KeptBeside) (e : DiskSet R g) (b : Bool) → Receives e b → b ≡ false → RoleIs (d.world.nodes p.target) e → SiteStands beside (d.world.nodes p.target) e → outcome_at d number ≡ says d.world IsIgnored
-    ignored_by beside (Bare rack) b is none role stands = ignored_is d.world number p k x at message (inl (inl (ap (λ (m : Node). is_up m.state) stands.bare.is)))
-    ignored_by beside (Spoiled rack) b is none role stands = ignored_is d.world number p k x at message (inl (inl (ap (λ (m : Node). is_up m.state) stands.is)))
-    ignored_by beside (Up rvg) b is none role stands = ignored_is d.world number p k x at message (inr role)
-    ignored_by beside (HasRoom s) b is none role stands = absurd (let e : true ≡ false = sym is ∙ none in cc)
-    ignored_by beside (Down rack) b is none role stands = ignored_is d.world number p k x at message (inl (inl (ap is_up stands.state)))
-    ignored_by beside (OfGroup s) b is none role stands = ⊎_elim
+    ignored_by : (beside : KeptBeside) (e : DiskSet R g) (b : Bool) → Receives e b → b ≡ false → RoleIs (d.world.nodes p.target) e → is_over_rvg (d.world.nodes p.target) ≡ false → SiteStands beside (d.world.nodes p.target) e → outcome_at d number ≡ says d.world IsIgnored
+    ignored_by beside (Bare rack) b is none role off stands = ignored_is d.world number p k x at message (inl (inl (ap (λ (m : Node). is_up m.state) stands.bare.is)))
+    ignored_by beside (Spoiled rack) b is none role off stands = ignored_is d.world number p k x at message (inl (inl (ap (λ (m : Node). is_up m.state) stands.is)))
+    ignored_by beside (Up rvg) b is none role off stands = ignored_is d.world number p k x at message (inr role)
+    ignored_by beside (HasRoom s) b is none role off stands = absurd (let e : true ≡ false = sym is ∙ none in cc)
+    ignored_by beside (Down rack) b is none role off stands = ignored_is d.world number p k x at message (inl (inl (ap is_up stands.state)))
+    ignored_by beside (OfGroup s) b is none role off stands = ⊎_elim
         (λ (bare : (d.world.nodes p.target).state ≡ IsBare). ignored_is d.world number p k x at message (inl (inl (ap is_up bare))))
         (λ made. ignored_is d.world number p k x at message (inr (ap is_origin (set_notes beside (d.world.nodes p.target) s stands made).1.none.role))) (bare_or_made (d.world.nodes p.target).state)
-    ignored_by beside (Over s) b is none role stands =
-        ignored_is d.world number p k x at message (⊎_elim (λ off. inl (inl off)) (λ origin. inr origin) (over_deaf beside (d.world.nodes p.target) s.site (deaf_above (above_in s) (sym is ∙ none)) role stands.1))
-    ignored_by beside Gone b is none role stands = absurd stands
+    ignored_by beside (Over s) b is none role off stands = absurd (both_ways (over_rvg beside (d.world.nodes p.target) s stands) off)
+    ignored_by beside Gone b is none role off stands = absurd stands
 
     pub deaf_leads : (old new : Yard R g) (before after : DiskSet R g) (b : Bool) → StandsFor d old → p.target < d.world.sites → Changed old new p.target before after → LeavesAlone before after → Receives after b → b ≡ false → RoleIs (d.world.nodes p.target) after → is_over_rvg (d.world.nodes p.target) ≡ false → SiteStands (beside_of d p.target) (d.world.nodes p.target) after
         → new.facts.items ≡ old.facts.items → SameLoad old new → (IsTold new → IsTold old) → Leads d (Deliver number) Ignored old new
     deaf_leads old new before after b stands below changed alone is none role off here facts load told =
         let h : Doubted = happened d (DeliverAt number) false in
-        let ignored : outcome_at d number ≡ says d.world IsIgnored = ignored_by (beside_of d p.target) after b is none role here in
+        let ignored : outcome_at d number ≡ says d.world IsIgnored = ignored_by (beside_of d p.target) after b is none role off here in
         let node : (outcome_at d number).world.nodes p.target ≡ d.world.nodes p.target = ap (λ (r : Outcome). r.world.nodes p.target) ignored in
         let effect = update_effect d number p k x false at message in
         let noted = worked_effect p.target d h ((outcome_at d number).world.nodes p.target) (d.world.links p.target) (d.world.headers p.target) (d.after p.target) (outcome_at d number).world.packets ((outcome_at d number).world.gathering p.target) effect in
