@@ -1,6 +1,6 @@
 -- The lines at which a run ends as at one whose kind is not built: lines on links of a site with a replicated volume group over its group of disks; and at such a
 -- site a deport and an import, those on volumes and plexes of the group, on blocks of a volume that is no data volume, and an apply.
-use Rattle.std.specs.Prelude.{◌≡◌, ◌&&◌, ℕ, Bool, false, List, not}
+use Rattle.std.specs.Prelude.{◌≡◌, ◌&&◌, ℕ, Bool, true, false, List, None, not}
 use Rattle.vx_history.specs.World.{Node, World}
 use Rattle.vx_order.specs.Calls.{is_data}
 use Rattle.vx_script.specs.declared.line.ScriptLine.{ScriptLine}
@@ -9,6 +9,7 @@ use Rattle.vx_events.specs.Facts.{site_number}
 use Rattle.vx_events.specs.RvgLinks.{links_rvg}
 use Rattle.vx_events.specs.RvgOver.{kind_named}
 use Rattle.vx_events.specs.RvgViews.{is_over_rvg}
+use Rattle.vx_events.specs.StepsOver.{refused_over}
 
 -- whether such a site has this volume, and it is no data volume
 abbrev pub is_open_volume : Node → (volume : List ℕ) → Bool
@@ -30,3 +31,8 @@ is_open w other = links_rvg w other
 -- no line is open there
 abbrev pub HasNoOpen : World → Type 0
 HasNoOpen w = (line : ScriptLine) → is_open w line ≡ false
+
+-- a run ends at the line: no test refuses it, and it is open
+pub record EndsRun (files : Bool) (w : World) (line : ScriptLine) : Type 0 where
+  pub free : refused_over w files line ≡ None
+  pub is : is_open w line ≡ true

@@ -33,7 +33,7 @@ second_off false b off = off
 is_below : (a b : ℕ) → a < b → ltb a b ≡ true
 is_below a b low = grind (arith, nat_tests)
 
-target_is : (w : World) (o : Option Packet) (p : Packet) (t : ℕ) → o ≡ Some p → p.target ≡ t → t < w.sites → rvg_target w o ≡ is_over_rvg (w.nodes t)
+pub target_is : (w : World) (o : Option Packet) (p : Packet) (t : ℕ) → o ≡ Some p → p.target ≡ t → t < w.sites → rvg_target w o ≡ is_over_rvg (w.nodes t)
 target_is w o p t is to below =
     ap (λ (x : Option Packet). rvg_target w x) is ∙ ap (λ (k : ℕ). ltb k w.sites && is_over_rvg (w.nodes k)) to ∙ ap (λ (b : Bool). b && is_over_rvg (w.nodes t)) (is_below t w.sites below)
 

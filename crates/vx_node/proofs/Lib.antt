@@ -1,5 +1,6 @@
 pub mod Built
 pub mod Handing
+pub mod OpenNames
 pub mod Replies
 pub mod SentText
 pub mod SettleEnds

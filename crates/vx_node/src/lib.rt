@@ -5,6 +5,7 @@
 
 mod answering;
 mod calls;
+mod closing;
 mod going;
 pub mod laws;
 pub mod sent;

@@ -33,9 +33,10 @@ use Rattle.vx_yard.specs.OfSites.{HasCalled}
 use Rattle.vx_yard.specs.Steps.{Prints}
 use Rattle.vx_yard.specs.Working.{IsFree}
 use Rattle.vx_yard.specs.declared.errors.LineStop.{LineStop}
-use Rattle.vx_yard.specs.declared.errors.LineStop.TheVariants.{WriteFault, OutOfMemory as NoMemory}
+use Rattle.vx_yard.specs.declared.errors.LineStop.TheVariants.{WriteFault, Open as AtOpen, OutOfMemory as NoMemory}
 use Rattle.vx_events.specs.LinksFit.{LinksFit}
 use Rattle.vx_events.specs.Lists.{crash_count}
+use Rattle.vx_events.specs.OpenLines.{EndsRun}
 use Rattle.vx_events.specs.declared.said.Said.{Said}
 use Rattle.vx_yard.specs.Stands.{RoseAll}
 use Rattle.vx_yard.specs.Yards.{IsTold, count_of, in_files}
@@ -210,9 +211,11 @@ module _ {R : Type 0} {g : Ghosts R} where
     -- where no test refuses the line, the fuse of its site is as its calls leave it
     pub called : IsFree old line → HasCalled d.world line prints.said old new
 
-  -- The whole text was written. Or the sink failed, and a part of it is missing. Or memory ran out, and nothing was written.
+  -- The whole text was written. Or the sink failed, and a part of it is missing. Or memory ran out, and nothing was written. Or the run ends at the line, and
+  -- nothing was done.
   abbrev pub LineFor : Doubted → ScriptLine → Yard R g → Yard R g → Option (List ℕ) → Option (List ℕ) → Result (Unit {0}) LineStop → Type 0
   LineFor d line old new written now (Ok done) = (text : List ℕ) × StepsFor d line old new text × Appends written now text
   LineFor d line old new written now (Err WriteFault) =
       (text : List ℕ) × (sent : List ℕ) × (unsent : List ℕ) × StepsFor d line old new text × (text ≡ sent ++ unsent) × (unsent ≢ []) × Appends written now sent
+  LineFor d line old new written now (Err AtOpen) = EndsRun (in_files old) d.world line × StaysFor d old new × Appends written now []
   LineFor d line old new written now (Err NoMemory) = (StopsAbove d line old new ⊎ ((text : List ℕ) × StepsFor d line old new text)) × Appends written now []

@@ -10,4 +10,7 @@ pub enum LineStop {
     /// Memory ran out, and there is no reply.
     #[error("out of memory")]
     OutOfMemory,
+    /// The line is open: the run ends there, as at one whose kind is not built.
+    #[error("the line is not built here")]
+    Open,
 }

@@ -1,0 +1,161 @@
+// Whether a run ends at a line: no test refuses it, and it is open.
+ghost use Rattle.std.specs.Prelude.{◌≡◌, ℕ, Some, false, true};
+ghost use Rattle.vx_history.specs.Doubts.{Doubted};
+ghost use Rattle.vx_history.specs.Events.{packet_at};
+ghost use Rattle.vx_events.specs.OpenLines.{EndsRun, is_open};
+ghost use Rattle.vx_events.specs.RvgLinks.{rvg_target};
+ghost use Rattle.vx_events.specs.RvgSteps.{over_rvg_at};
+ghost use Rattle.vx_script.specs.declared.line.ScriptLine.TheVariants.{Deliver};
+ghost use Rattle.vx_yard.specs.Carries.{Carries};
+ghost use Rattle.vx_yard.specs.Standing.{StandsFor};
+ghost use Rattle.vx_yard.specs.Working.{IsFree};
+ghost use Rattle.vx_yard.specs.Yards.{IsYardKept, in_files};
+ghost use Rattle.vx_node.specs.OpenSites.{block_volume, open_second, open_site};
+
+use crate::answering::refusal;
+use vx_courier::part_at;
+use vx_disk::Rack;
+use vx_group_lines::{has_rvg, has_rvg_in, is_plain};
+use vx_model::Name;
+use vx_script::ScriptLine;
+use vx_yard::Yard;
+
+// A site at which a line is open, or works on blocks, where a replicated volume group is over its group.
+fn open_site(line: &ScriptLine) -> Option<Name>
+    ensures { result ≡ open_site line.now }
+{
+    match line {
+        ScriptLine::GroupDeport { site }
+        | ScriptLine::GroupImport { site }
+        | ScriptLine::Volume { site, .. }
+        | ScriptLine::PlexDetach { site, .. }
+        | ScriptLine::PlexAttach { site, .. }
+        | ScriptLine::Write { site, .. }
+        | ScriptLine::Put { site, .. }
+        | ScriptLine::Read { site, .. }
+        | ScriptLine::Show { site, .. }
+        | ScriptLine::Apply { site, .. } => Some(*site),
+        ScriptLine::Link { primary, .. }
+        | ScriptLine::Set { primary, .. }
+        | ScriptLine::Pump { primary, .. }
+        | ScriptLine::Settle { primary, .. } => Some(*primary),
+        _ => None,
+    }
+}
+
+// Another one at which it is.
+fn open_second(line: &ScriptLine) -> Option<Name>
+    ensures { result ≡ open_second line.now }
+{
+    match line {
+        ScriptLine::Link { secondary, .. } | ScriptLine::Settle { secondary, .. } => {
+            Some(*secondary)
+        }
+        _ => None,
+    }
+}
+
+// The volume whose blocks it writes or reads.
+fn block_volume(line: &ScriptLine) -> Option<Name>
+    ensures { result ≡ block_volume line.now }
+{
+    match line {
+        ScriptLine::Write { volume, .. }
+        | ScriptLine::Put { volume, .. }
+        | ScriptLine::Read { volume, .. }
+        | ScriptLine::Show { volume, .. } => Some(*volume),
+        _ => None,
+    }
+}
+
+// Whether a packet goes to a site with a replicated volume group over its group.
+fn goes_above<R: Rack>(yard: &Yard<R>, number: u64) -> bool
+    requires free { IsFree yard.now (Deliver number) }
+    ensures { (d : Doubted) → StandsFor d yard.now → Carries d yard.now → result ≡ rvg_target d.world (packet_at d.world.packets number) }
+{
+    let Some(part) = part_at(&yard.flight, number) else {
+        return false;
+    };
+    let site = part.target as usize;
+    if site >= yard.facts.len() {
+        return false;
+    }
+    has_rvg_in(yard, site)
+}
+
+// A line at a site that has one.
+fn is_open_above<R: Rack>(yard: &Yard<R>, line: &ScriptLine, site: &Name) -> bool
+    requires kept { IsYardKept yard.now }
+    requires free { IsFree yard.now line.now }
+    requires there { open_site line.now ≡ Some site.now }
+    ensures { (d : Doubted) → StandsFor d yard.now → over_rvg_at d.world site.now ≡ true → result ≡ is_open d.world line.now }
+{
+    match block_volume(line) {
+        Some(volume) => is_plain(yard, site, &volume),
+        None => true,
+    }
+}
+
+// One of which that site has none.
+fn is_open_beside<R: Rack>(yard: &Yard<R>, line: &ScriptLine, site: &Name) -> bool
+    requires kept { IsYardKept yard.now }
+    requires free { IsFree yard.now line.now }
+    requires there { open_site line.now ≡ Some site.now }
+    ensures { (d : Doubted) → StandsFor d yard.now → over_rvg_at d.world site.now ≡ false → result ≡ is_open d.world line.now }
+{
+    match open_second(line) {
+        Some(second) => has_rvg(yard, &second),
+        None => false,
+    }
+}
+
+// One that may be open at this site.
+fn is_open_from<R: Rack>(yard: &Yard<R>, line: &ScriptLine, site: &Name) -> bool
+    requires kept { IsYardKept yard.now }
+    requires free { IsFree yard.now line.now }
+    requires there { open_site line.now ≡ Some site.now }
+    ensures { (d : Doubted) → StandsFor d yard.now → result ≡ is_open d.world line.now }
+{
+    if has_rvg(yard, site) {
+        is_open_above(yard, line, site)
+    } else {
+        is_open_beside(yard, line, site)
+    }
+}
+
+// One that hands no packet over.
+fn is_open_at<R: Rack>(yard: &Yard<R>, line: &ScriptLine) -> bool
+    requires kept { IsYardKept yard.now }
+    requires free { IsFree yard.now line.now }
+    requires sites { (number : ℕ) → line.now ≡ Deliver number → ⊥ }
+    ensures { (d : Doubted) → StandsFor d yard.now → result ≡ is_open d.world line.now }
+{
+    match open_site(line) {
+        Some(site) => is_open_from(yard, line, &site),
+        None => false,
+    }
+}
+
+// Any that no test refuses.
+fn is_open_line<R: Rack>(yard: &Yard<R>, line: &ScriptLine) -> bool
+    requires kept { IsYardKept yard.now }
+    requires free { IsFree yard.now line.now }
+    ensures { (d : Doubted) → StandsFor d yard.now → Carries d yard.now → result ≡ is_open d.world line.now }
+{
+    match line {
+        ScriptLine::Deliver { packet } => goes_above(yard, *packet),
+        _ => is_open_at(yard, line),
+    }
+}
+
+/// Whether a run ends at the line.
+pub(crate) fn ends_run<R: Rack>(yard: &Yard<R>, line: &ScriptLine) -> bool
+    requires kept { IsYardKept yard.now }
+    ensures ends { result ≡ true → (d : Doubted) → StandsFor d yard.now → Carries d yard.now → EndsRun (in_files yard.now) d.world line.now }
+    ensures closed { result ≡ false → IsFree yard.now line.now → (d : Doubted) → StandsFor d yard.now → Carries d yard.now → is_open d.world line.now ≡ false }
+{
+    match refusal(yard, line) {
+        Some(_) => false,
+        None => is_open_line(yard, line),
+    }
+}
