@@ -25,5 +25,5 @@ module _ {R : Type 0} {g : Ghosts R} where
   stands_failing beside n failing (Down rack) h = down_failing beside n failing (g.meaning rack) h
   stands_failing beside n failing (OfGroup s) h = set_failing beside n failing s h
   stands_failing beside n failing (Over s) h =
-      ((h.0.0, λ k is. (let ground = h.0.1 k is in record { units = ground.units; disks = ground.disks; blocks = ground.blocks }), h.0.2, h.0.3), over_failing beside n failing s.site h.1)
+      (h.0, over_failing beside n failing s.site h.1)
   stands_failing beside n failing Gone h = absurd h

@@ -93,4 +93,4 @@ module _ {R : Type 0} {g : Ghosts R} where
     pub over_fell : (e new : DiskSet R g) (s : OverSet R g) → e ≡ Over s → SiteStands beside n e → (CutAt beside (with_first n n.safe) (Over s) → CrashedAt beside (with_first n n.safe) new) → CrashedTo beside n n.safe new
     over_fell e new s is stands falls =
         let at : IsOverSite beside n × OverStands beside n s.site = subst (λ (x : DiskSet R g). SiteStands beside n x) is stands in
-        fell_within n n.safe new (over_sure beside n s.site at.1 runs) (falls (over_on beside n (with_first n n.safe) refl refl refl at.0, cut_durable s.site at.1))
+        fell_within n n.safe new (over_sure beside n s.site at.1 runs) (falls (over_on beside n (with_first n n.safe) refl refl refl refl at.0, cut_durable s.site at.1))

@@ -69,6 +69,8 @@ use Rattle.vx_diskset.proofs.OverNoted.{note_read}
 use Rattle.vx_diskset.proofs.Rewriting.{is_among, place_among}
 use Rattle.vx_diskset.proofs.RvgMade.{rvg_stands}
 use Rattle.vx_diskset.proofs.UnitsLie.{units_few}
+use Rattle.vx_model.specs.Sites.{is_origin}
+use Rattle.vx_model.specs.declared.site.Role.{Role}
 
 -- ---- notes of the volumes
 
@@ -213,10 +215,10 @@ module _ {R : Type 0} {g : Ghosts R} (rackful : (s : R) → IsRack (g.meaning s)
   disks_many : length l.core.inner.config.disks ≡ n.disks
   disks_many = wanted_count (laid_disks l).units (laid_disks l).size (wide l.core).config l.stands.group.stands.wanted ∙ up.at.lies.units
 
-  over_site : (beside : KeptBeside) → beside.doubt ≡ None → IsOverSite beside after
-  over_site beside certain = (
+  over_site : (beside : KeptBeside) → beside.links ≡ [] → beside.doubt ≡ None → IsOverSite beside after
+  over_site beside unlinked certain = (
     λ is. no_note is,
-    λ x is. no_doubt (sym certain ∙ is),
+    certain,
     (let many = disks_many in let most = spelled_few l.core.inner.config up.spells in omega (arith, many, most)),
     (let many = disks_many in
         let some = l.stands.group.stands.disks in
@@ -225,16 +227,12 @@ module _ {R : Type 0} {g : Ghosts R} (rackful : (s : R) → IsRack (g.meaning s)
         let size = up.at.lies.size 0 here in
         let large = l.stands.group.stands.large.each 0 (omega (arith, here, units)) in
         omega (arith, size, large)),
+    unlinked,
+    ap (λ (r : Role). is_origin r) up.noted.none.role,
   )
     where
       no_note : {A : Type 0} {x : A} → Some x ≡ None → ⊥
       no_note is = cc
-
-      no_doubt : {A P : Type 0} {x : A} → None ≡ Some x → P
-      no_doubt is = absurd (never is)
-        where
-          never : {B : Type 0} {y : B} → None ≡ Some y → ⊥
-          never is = cc
 
   -- ---- the line is done
 
@@ -248,7 +246,7 @@ module _ {R : Type 0} {g : Ghosts R} (rackful : (s : R) → IsRack (g.meaning s)
     subst (λ (e : GroupSite R g). ConfigGoes (λ x y. LosesSome (laid_disks l) (site_disks e) (as_replicated u x) y) middle settled (Up l) e) (sym is) goes,
     subst (λ (e : GroupSite R g). AgreesStill middle settled (laid_disks l) (site_disks e)) (sym is) agrees,
     λ beside unlinked certain. (
-      over_site beside certain,
+      over_site beside unlinked certain,
       over_from beside after o.site
           (subst (λ (a : Above). OverUp beside after a (site_in o)) (sym above)
           (subst (λ (e : GroupSite R g). OverUp beside after (Origin core) e) (sym is) (stands beside unlinked certain))),

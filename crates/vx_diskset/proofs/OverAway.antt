@@ -274,7 +274,7 @@ module _ {R : Type 0} {g : Ghosts R} (laws : (s : Shade R) → Lawful (shade_mea
 
     away_stands : (new : OverSet R g) → site_in new ≡ Deported idle → Rests → SiteStands beside (gone_site n) (Over new)
     away_stands new at rests = (
-      over_on beside n (gone_site n) refl refl refl over,
+      over_on beside n (gone_site n) refl refl refl refl over,
       subst (λ (x : OverSite R g). OverStands beside (gone_site n) x) (sym (given_site new.site idle at)) (refl, rests),
     )
 

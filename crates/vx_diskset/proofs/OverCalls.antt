@@ -39,10 +39,10 @@ module _ {R : Type 0} {g : Ghosts R} (beside : KeptBeside) (n : Node) (old : Ove
 
   module _ (over : IsOverSite beside n) where
     pub over_logged : (x : Write) (r : Result ℕ No) → LoggedAs beside n x (laid_volumes f.laid) f'.core (laid_volumes f'.laid) r → LoggedUp beside n x (Over old) (Over new) r
-    over_logged x (Ok number) l = (l.0, l.1, (over_on beside n (logged n x) refl refl refl over, l.2), λ origin calls told exact. absurd (over.0 exact.raw))
-    over_logged x (Err (Device disk)) l = ((over_on beside n (halted_with n x disk) refl refl refl over, l.0), rose_over disk l.1, l.2)
-    over_logged x (Err (Limit what most)) l = (l.0, l.1, (over_on beside n (worked n) refl refl refl over, l.2))
-    over_logged x (Err IsDown) l = (l.0, (over_on beside n (half_begun n x) refl refl refl over, l.1), (λ origin calls told exact. absurd (over.0 exact.raw)), l.3)
+    over_logged x (Ok number) l = (l.0, l.1, (over_on beside n (logged n x) refl refl refl refl over, l.2), λ origin calls told exact. absurd (over.0 exact.raw))
+    over_logged x (Err (Device disk)) l = ((over_on beside n (halted_with n x disk) refl refl refl refl over, l.0), rose_over disk l.1, l.2)
+    over_logged x (Err (Limit what most)) l = (l.0, l.1, (over_on beside n (worked n) refl refl refl refl over, l.2))
+    over_logged x (Err IsDown) l = (l.0, (over_on beside n (half_begun n x) refl refl refl refl over, l.1), (λ origin calls told exact. absurd (over.0 exact.raw)), l.3)
     over_logged x (Err other) l = l
 
     pub over_read : (volume start count : ℕ) (bytes : List ℕ) (r : Result (Unit {0}) No) → ReadAs beside n volume start count bytes f'.core (laid_volumes f.laid) (laid_volumes f'.laid) r → ReadAt beside n volume start count bytes (Over old) (Over new) r

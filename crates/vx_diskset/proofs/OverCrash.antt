@@ -36,10 +36,11 @@ use Rattle.vx_diskset.specs.Stands.{FellOver, IsHeldAt, IsOverSite, RestsOver, S
 use Rattle.vx_diskset.specs.declared.disk_set.DiskSet.TheVariants.{Over}
 use Rattle.vx_diskset.specs.declared.group_set.CutWrite.{CutWrite}
 use Rattle.vx_diskset.specs.declared.over_set.OverSite.TheVariants.{Down as GroupFell}
-use Rattle.vx_diskset.proofs.BesideLemmas.{doubted, writes_itself}
+use Rattle.vx_diskset.proofs.BesideLemmas.{writes_itself}
 use Rattle.vx_diskset.proofs.CrashGroup.{one_value}
 use Rattle.vx_model.proofs.Contents.{folded_size}
 use Rattle.vx_diskset.proofs.Laying.{laid_in, laid_sized, over_there}
+use Rattle.vx_model.specs.Sites.{is_origin}
 
 -- ---- images of the disks, and of the volumes
 
@@ -170,6 +171,8 @@ module _ {R : Type 0} {g : Ghosts R} where
     pub kept : KeptSite
     pub is : (kept ≡ itself beside n) ⊎ (beside.doubt ≡ Some kept)
     pub ground : SameGround kept.node n
+    pub links : kept.links ≡ []
+    pub role : is_origin kept.node.role ≡ true
     pub count : ℕ
     pub least : kept.node.safe ≤ count
     pub most : count ≤ length kept.node.log
@@ -193,26 +196,17 @@ module _ {R : Type 0} {g : Ghosts R} where
           kept = itself beside n;
           is = inl refl;
           ground = own;
+          links = over.4;
+          role = over.5;
           count = writes.count;
           least = writes.least;
           most = writes.most;
           rests = rests_by (itself beside n) n l idle good own stop law rack kept held.lies held.low held.begun here j x now is writes;
         }
 
-    fell_besides : (j : Image) (x : Config) → (idle_disks idle).now j → finds (laid_disks l) j ≡ Found x → HasDoubted beside.doubt (shown volumes_config x j) → FellShown beside n idle
-    fell_besides j x now is has =
-        let d = doubted beside.doubt (shown volumes_config x j) has in
-        let k : KeptSite = d.0 in
-        let may = held.may k d.1 in
-        record {
-          kept = k;
-          is = inr d.1;
-          ground = over.1 k d.1;
-          count = d.2.count;
-          least = d.2.least;
-          most = d.2.most;
-          rests = rests_by k n l idle good (over.1 k d.1) stop law rack kept may.lies may.low may.begun here j x now is d.2;
-        }
+    -- it is nothing besides
+    fell_besides : (above : Image) → HasDoubted beside.doubt above → FellShown beside n idle
+    fell_besides above has = absurd (let it : HasDoubted None above = subst (λ (o : Option KeptSite). HasDoubted o above) over.1 has in it)
 
     fell_by : (b : Bool) → (idle_ready idle).tells ≡ b → FellShown beside n idle
     fell_by true tells =
@@ -220,12 +214,14 @@ module _ {R : Type 0} {g : Ghosts R} where
         let j : Image = it.0 in
         let each : Each (laid_disks l).leaves j = λ u b. stop.leaves u b (j u b) (law.within j it.1 u b) in
         let some = found_some (finds (laid_disks l) j) (kept.finds j each) in
-        ⊎_elim (λ has. fell_itself j some.0 it.1 some.1 has) (λ has. fell_besides j some.0 it.1 some.1 has)
+        ⊎_elim (λ has. fell_itself j some.0 it.1 some.1 has) (λ has. fell_besides (shown volumes_config some.0 j) has)
         (held.left (shown volumes_config some.0 j) (record { image = j; left = stop.now j it.1; config = some.0; found = some.1; shows = shows volumes_config some.0 j }))
     fell_by false untold = record {
       kept = itself beside n;
       is = inl refl;
       ground = own;
+      links = over.4;
+      role = over.5;
       count = n.safe;
       least = omega arith;
       most = held.logged;
@@ -244,9 +240,11 @@ module _ {R : Type 0} {g : Ghosts R} where
           stands = (
             (
               over.0,
-              (λ k is. absurd (let e : None ≡ Some k = is in cc)),
+              refl,
               (let few = over.2 in let same = it.ground.disks in omega (arith, few, same)),
               (let some = over.3 in let same = it.ground.blocks in omega (arith, some, same)),
+              it.links,
+              it.role,
             ),
             (refl, refl, it.rests, settles),
           );

@@ -1,5 +1,5 @@
 -- The disks of a site whose group has a replicated volume group, once it is no longer known what they hold.
-use Rattle.std.proofs.Common.{◌≡◌, ◌∙◌, true, IsTrue, refl, subst, sym}
+use Rattle.std.proofs.Common.{◌≡◌, true, IsTrue, refl, subst, sym}
 use Rattle.std.specs.Prelude.{Err, None, Option}
 use Rattle.vx_config.specs.Checks.{blocks_of}
 use Rattle.vx_config.specs.declared.config.Config.{Config}
@@ -50,7 +50,7 @@ module _ (beside : KeptBeside) (n : Node) (state : SiteState) (fuse : Fuse) (gro
   }
 
   ground_dim : (group ≡ None → ⊥) → IsOverSite beside n → IsOverSite beside k
-  ground_dim has it = (has, λ x is. record { units = (it.1 x is).units ∙ sym units; disks = (it.1 x is).disks; blocks = (it.1 x is).blocks }, it.2, it.3)
+  ground_dim has it = (has, it.1, it.2, it.3, it.4, it.5)
 
 module _ {R : Type 0} {g : Ghosts R} (beside : KeptBeside) (n : Node) (fuse : Fuse) (group : Option GroupNode) (units : units_by group n.disks ≡ units_of n) (has : group ≡ None → ⊥) (P : Config → Type 0) (a : Meaning) (rests : RestsOver P beside n a) (over : IsOverSite beside n) (idle : Idle R g)
     (untold : IsTrue (idle_ready idle).tells → ⊥) where

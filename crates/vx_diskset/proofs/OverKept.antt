@@ -111,7 +111,7 @@ module _ {R : Type 0} {g : Ghosts R} (laws : (s : Shade R) → Lawful (shade_mea
   module _ (beside : KeptBeside) (n : Node) (a : Above) (new : OverSet R g) (aside : IsAside mine a) (over : IsOverSite beside n) (running : n.halted ≡ None) where
     kept_by : (e e' : GroupSite R g) → site_in new ≡ e' → StaysAbove a e' (above_in new) → SiteGoes mine e e' → AboveStays a e → OverUp beside n a e → StaysHere e' → KeptBy beside n new e'
     kept_by (Up old) (Up mid) at above goes sound it here = (
-      over_on beside n (worked n) refl refl refl over,
+      over_on beside n (worked n) refl refl refl refl over,
       over_from beside (worked n) new.site
           (subst (λ (x : GroupSite R g). OverUp beside (worked n) (above_in new) x) (sym at)
           (subst (λ (x : Above). AboveStands beside (worked n) x (laid_volumes mid)) (sym above) (stands_up beside n a old mid goes sound aside over.0 running here it))),

@@ -137,7 +137,7 @@ module _ (beside : KeptBeside) (n : Node) (group : Option GroupNode) (fuse : Fus
   }
 
   ground_as : IsOverSite beside n → IsOverSite beside k
-  ground_as it = (has, λ x is. record { units = (it.1 x is).units ∙ sym units; disks = (it.1 x is).disks; blocks = (it.1 x is).blocks }, it.2, it.3)
+  ground_as it = (has, it.1, it.2, it.3, it.4, it.5)
 
   module _ {R : Type 0} {g : Ghosts R} (lit : (x : Meaning) → FuseOn n.fuse x → FuseOn fuse x) (unlit : n.fuse ≡ NoFuse → fuse ≡ NoFuse) where
     stands_as : (s : OverSite R g) → OverStands beside n s → OverStands beside k s

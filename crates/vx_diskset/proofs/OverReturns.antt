@@ -1,5 +1,5 @@
 -- A replicated volume group over a group of disks comes up with it, where contents are told.
-use Rattle.std.proofs.Common.{◌≡◌, ◌∙◌, IsTrue, refl, sym}
+use Rattle.std.proofs.Common.{◌≡◌, IsTrue, refl}
 use Rattle.std.specs.Prelude.{None, Some}
 use Rattle.vx_disk.specs.Racks.{IsRack}
 use Rattle.vx_disk.specs.Shelf.{Lawful, Meaning}
@@ -37,7 +37,7 @@ never_none e = cc
 
 -- on a group, with this note of it
 over_again : (beside : KeptBeside) (n : Node) (note : GroupNode) (fuse : Fuse) → beside.doubt ≡ None → IsOverSite beside n → IsOverSite beside (came_with fuse note n)
-over_again beside n note fuse sure over = ((λ none. never_none none), (λ k is. absurd (never_none (sym is ∙ sure))), over.2, over.3)
+over_again beside n note fuse sure over = ((λ none. never_none none), sure, over.2, over.3, over.4, over.5)
 
 module _ {R : Type 0} {g : Ghosts R} (racks : (s : Shade R) → IsRack (shade_meaning g.meaning s)) (laws : (s : Shade R) → Lawful (shade_meaning g.meaning s)) (beside : KeptBeside) (n : Node) (note : GroupNode) (fuse : Fuse) (idle : Idle R g) (laid : Laid R g) (s : OverSet R g)
     (units : config_units (config_of note.config) ≡ units_of n) (over : IsOverSite beside n) (started : Started (units_of n) laid s) (brings : BringsSite (idle_ready idle) laid) (told : IsTrue (laid_disks laid).tells) (on : FuseOn fuse (laid_volumes started.laid)) where

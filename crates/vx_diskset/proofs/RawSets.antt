@@ -1,7 +1,6 @@
 -- The disks of a site that is on no group, or on one.
 use Rattle.std.proofs.Common.{◌≡◌, ◌∙◌, ◌+◌, ap, refl, sym, subst, ℕ, arith}
-use Rattle.vx_history.specs.Groups.{GroupNode}
-use Rattle.std.specs.Prelude.{None, Option, Some}
+use Rattle.std.specs.Prelude.{None, Some}
 use Rattle.vx_disk.specs.declared.shelf.Shelf.{Ghosts}
 use Rattle.vx_history.specs.World.{Node}
 use Rattle.vx_events.proofs.Places.{some_same}
@@ -10,7 +9,8 @@ use Rattle.vx_secondary.specs.declared.secondary.Secondary.{Secondary}
 use Rattle.vx_diskset.specs.Holds.{KeptBeside, KeptSite, sure_of}
 use Rattle.vx_diskset.specs.DiskSets.{halted_at}
 use Rattle.vx_diskset.specs.Keeps.{doubting, restated}
-use Rattle.vx_diskset.specs.Layouts.{units_by}
+use Rattle.vx_model.specs.Sites.{is_origin}
+use Rattle.vx_model.specs.declared.site.Role.{Role}
 use Rattle.vx_model.specs.declared.state.State.{State}
 use Rattle.vx_diskset.specs.Stands.{CutAt, IsHeldAt, IsOverSite, IsUngrouped, IsReceiverAt, IsUpAt, SiteStands}
 use Rattle.vx_diskset.specs.declared.disk_set.DiskSet.{DiskSet}
@@ -39,18 +39,14 @@ raw_doubting beside n s disk none = (none, raw_doubted (record { node = halted_a
 -- ---- the same of one that is on a group
 
 -- what else a node has does not count
-pub over_on : (beside : KeptBeside) (n k : Node) → k.group ≡ n.group → k.disks ≡ n.disks → k.blocks ≡ n.blocks → IsOverSite beside n → IsOverSite beside k
-over_on beside n k group disks blocks over = (
+pub over_on : (beside : KeptBeside) (n k : Node) → k.group ≡ n.group → k.disks ≡ n.disks → k.blocks ≡ n.blocks → k.role ≡ n.role → IsOverSite beside n → IsOverSite beside k
+over_on beside n k group disks blocks role over = (
   (λ none. over.0 (sym group ∙ none)),
-  (λ x is.
-      let same = over.1 x is in
-      record {
-        units = same.units ∙ sym (ap (λ (d : ℕ). units_by k.group d) disks ∙ ap (λ (o : Option GroupNode). units_by o n.disks) group);
-        disks = same.disks ∙ sym disks;
-        blocks = same.blocks ∙ sym blocks;
-      }),
+  over.1,
   (let few = over.2 in omega (arith, few, disks)),
   (let some = over.3 in omega (arith, some, blocks)),
+  over.4,
+  ap (λ (r : Role). is_origin r) role ∙ over.5,
 )
 
 -- ---- disk sets

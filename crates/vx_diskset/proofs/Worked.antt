@@ -28,5 +28,5 @@ module _ {R : Type 0} {g : Ghosts R} where
   stands_worked beside n (Down rack) stands = subst (λ (k : Node). IsDownAt beside k (g.meaning rack)) (down_worked n (g.meaning rack) stands) stands
   stands_worked beside n (OfGroup s) stands = set_burned beside n s stands
   stands_worked beside n (Over s) stands =
-      ((stands.0.0, λ k is. (let ground = stands.0.1 k is in record { units = ground.units; disks = ground.disks; blocks = ground.blocks }), stands.0.2, stands.0.3), over_worked beside n s.site stands.1)
+      (stands.0, over_worked beside n s.site stands.1)
   stands_worked beside n Gone stands = absurd stands

@@ -213,9 +213,9 @@ pub record SameGround (k n : Node) : Type 0 where
   pub disks : k.disks ≡ n.disks
   pub blocks : k.blocks ≡ n.blocks
 
--- one on a group of disks: what it may be besides lies on the same
+-- one on a group of disks, which is never in doubt: it has no links, and writes of its line arise there
 abbrev pub IsOverSite : KeptBeside → Node → Type 0
-IsOverSite beside n = (n.group ≡ None → ⊥) × ((k : KeptSite) → beside.doubt ≡ Some k → SameGround k.node n) × (n.disks ≤ MOST_DISKS) × (LEAST_BLOCKS ≤ n.blocks)
+IsOverSite beside n = (n.group ≡ None → ⊥) × (beside.doubt ≡ None) × (n.disks ≤ MOST_DISKS) × (LEAST_BLOCKS ≤ n.blocks) × (beside.links ≡ []) × (is_origin n.role ≡ true)
 
 -- a write is cut only at a site that is down, and lies in its volume
 pub record CutLies (n : Node) (x : CutWrite) : Type 0 where
