@@ -9,7 +9,7 @@ use Rattle.vx_ground.specs.Lifted.{laid_volumes}
 use Rattle.vx_grouped.specs.GroupSites.{idle_below, idle_disks, laid_below, laid_disks, site_below, site_disks}
 use Rattle.vx_grouped.specs.declared.group_site.GroupSite.{GroupSite}
 use Rattle.vx_grouped.specs.Away.{IsAwayAt}
-use Rattle.vx_grouped.specs.GroupNotes.{GroupLies}
+use Rattle.vx_grouped.specs.GroupNotes.{GroupLies, is_sure}
 use Rattle.vx_grouped.specs.declared.idle.Idle.{Idle}
 use Rattle.vx_grouped.specs.declared.laid.Laid.{Laid}
 use Rattle.vx_history.specs.Groups.{GroupNode}
@@ -64,11 +64,11 @@ module _ {R : Type 0} {g : Ghosts R} where
     pub tells : (site_disks new).tells ≡ (site_disks old).tells
     pub told : TellsLess (site_below old) (site_below new)
 
-  -- the disks of it crashed with this pick
+  -- The disks of it crashed with this pick. Where its newest configuration is not committed imports of them may disagree.
   pub record LaidFell (pick : ℕ) (old : Laid R g) (idle : Idle R g) : Type 0 where
     pub away : (n : Node) (note : GroupNode) → GroupLies n note old.core (laid_disks old) → IsAwayAt (record n { state = IsDown }) note old.core.inner.config (idle_disks idle)
     pub stopped : Stopped (laid_disks old) (idle_disks idle)
-    pub agreed : idle.agreed ≡ old.core.inner.agreed
+    pub agreed : idle.agreed ≡ is_sure old.core
     pub lacking : (r : Rested) → idle.rested ≡ Some r → LacksCommit old.core.inner → ⊥
     pub disks : OnDisks (laid_disks old).disks (idle_disks idle).disks (Crashed (laid_disks old).size pick)
     pub told : TellsLess (laid_below old) (idle_below idle)

@@ -30,4 +30,5 @@ pub mod Zeros
 pub mod Works
 pub mod OverAsks
 pub mod OverKeeps
+pub mod OverRises
 pub mod OverStarts

@@ -1,16 +1,21 @@
 -- What a site notes of its group of disks, below a replicated volume group or not.
 use Rattle.std.specs.Prelude.{◌≡◌, ◌⊎◌, ℕ, [], false, IsFalse, IsTrue, Some, None, Result}
 use Rattle.vx_disk.specs.Disks.{Disks}
-use Rattle.vx_disk.specs.Shelf.{Meaning}
+use Rattle.vx_disk.specs.Shelf.{Each, Image, Meaning}
 use Rattle.vx_disk.specs.declared.shelf.Shelf.{Ghosts}
 use Rattle.vx_model.specs.declared.no.No.{No}
 use Rattle.vx_model.specs.declared.site.Role.TheVariants.{Primary}
 use Rattle.vx_model.specs.declared.site.SiteState.TheVariants.{Down as IsDown, Up as IsUp}
+use Rattle.vx_model.specs.declared.units.Units.{Units}
 use Rattle.vx_history.specs.Groups.{GroupNode, NoteWorks}
 use Rattle.vx_history.specs.Steps.{crashed}
 use Rattle.vx_history.specs.Stops.{IsFused}
 use Rattle.vx_history.specs.World.{FuseSet, Node, NoFuse}
 use Rattle.vx_groupmaps.specs.Loading.{DeviceRose}
+use Rattle.vx_events.specs.RvgFits.{rvg_noted}
+use Rattle.vx_config.specs.declared.config.Config.{Config}
+use Rattle.vx_copyfmt.specs.Imports.{Found}
+use Rattle.vx_kept.specs.Groups.{found as finds}
 use Rattle.vx_grouped.specs.ConfigMoves.{LosesSome}
 use Rattle.vx_grouped.specs.GroupSites.{AwayNoted, CutNoted, DownNoted, UpNoted, site_below, site_disks, with_note}
 use Rattle.vx_grouped.specs.SiteEnds.{ConfigGoes}
@@ -23,7 +28,7 @@ use Rattle.vx_diskset.specs.Asked.{IsRawSet}
 use Rattle.vx_diskset.specs.Burning.{OffIf}
 use Rattle.vx_diskset.specs.Holds.{KeptBeside}
 use Rattle.vx_diskset.specs.Layouts.{units_of}
-use Rattle.vx_diskset.specs.Stands.{RoleBy, SiteStands}
+use Rattle.vx_diskset.specs.Stands.{RoleBy, SiteStands, idle_ready}
 use Rattle.vx_diskset.specs.declared.over_set.OverSet.{OverSet}
 use Rattle.vx_diskset.specs.GroupSets.{cut_value}
 use Rattle.vx_diskset.specs.declared.disk_set.DiskSet.{DiskSet}
@@ -32,6 +37,19 @@ use Rattle.vx_diskset.specs.declared.disk_set.DiskSet.TheVariants.{OfGroup, Over
 -- a site as its group has it, without its replicated volume group
 abbrev pub below_rvg : Node → Node
 below_rvg n = record n { role = Primary; volumes = []; log = []; safe = 0; halted = None }
+
+-- no configuration is begun while imports agree
+abbrev pub IsNoteTidy : GroupNode → Type 0
+IsNoteTidy note = note.loose ≡ false → note.begun ≡ []
+
+-- what a site notes of its group below a replicated volume group on these units: its configuration names that one
+pub record TidyNote (units : Units) (note : GroupNode) : Type 0 where
+  pub tidy : IsNoteTidy note
+  pub named : rvg_noted note ≡ Some units
+
+-- so does each configuration that an import may find
+pub record FoundNamed (units : Units) (m : Meaning) : Type 0 where
+  pub each : (i : Image) (x : Config) → Each m.leaves i → finds m i ≡ Found x → x.rvg ≡ Some units
 
 -- where imports agreed, and nothing was begun, it is so behind the calls, or one of them failed
 abbrev pub AgreesStill : GroupNode → GroupNode → Meaning → Meaning → Type 0
@@ -72,10 +90,15 @@ module _ {R : Type 0} {g : Ghosts R} where
   NotedOn n note (Down idle) = DownNoted n note (Down idle)
   NotedOn n note other = ⊥
 
+  -- of disks that crashed: each configuration that an import may find names this replicated volume group
+  abbrev pub RestsNamed : Units → GroupSite R g → Type 0
+  RestsNamed units (Down idle) = FoundNamed units (idle_ready idle)
+  RestsNamed units other = Unit {0}
+
   -- so it is of the disks of a site, with the write that is cut
   abbrev pub SiteNoted : Node → GroupNode → DiskSet R g → Type 0
   SiteNoted n note (OfGroup s) = NotedOn n note s.site × (cut_value s.cut ≡ note.cut)
-  SiteNoted n note (Over s) = NotedOn (below_rvg n) note (site_in s) × (cut_value s.cut ≡ note.cut) × InsideOf (units_of n) note
+  SiteNoted n note (Over s) = NotedOn (below_rvg n) note (site_in s) × (cut_value s.cut ≡ note.cut) × InsideOf (units_of n) note × TidyNote (units_of n) note × RestsNamed (units_of n) (site_in s)
   SiteNoted n note other = ⊥
 
   -- the group of a site with a replicated volume group over it is as the site notes it
@@ -107,7 +130,7 @@ module _ {R : Type 0} {g : Ghosts R} where
   abbrev pub NotesWorked : Node → GroupNode → GroupSite R g → GroupSite R g → Type 0
   NotesWorked n note below below' =
       (next : GroupNode) × NoteWorks note next × ConfigGoes (LosesSome (site_disks below) (site_disks below')) note next below below'
-      × ((UpNoted (below_rvg (with_note next n)) next below' × AgreesStill note next (site_disks below) (site_disks below')) ⊎ (CutNoted (below_rvg (with_note next n)) next below' × IsFused n.fuse))
+      × ((UpNoted (below_rvg (with_note next n)) next below' × AgreesStill note next (site_disks below) (site_disks below')) ⊎ (CutNoted (below_rvg (with_note next n)) next below' × IsFused n.fuse)) × IsNoteTidy next
 
   -- What each call on the replicated volume group of a site over a group makes of the group: the disks that are made to fail are the same, a fuse has no more calls
   -- left, no count falls; and so the note moves.
@@ -122,11 +145,13 @@ module _ {R : Type 0} {g : Ghosts R} where
   pub record StaysNoted (old new : OverSet R g) : Type 0 where
     pub cut : cut_value new.cut ≡ cut_value old.cut
     pub each : (n : Node) (note : GroupNode) → NotedOn n note (site_in old) → NotedOn n note (site_in new)
+    pub named : (units : Units) → RestsNamed units (site_in old) → RestsNamed units (site_in new)
 
   -- one that sets the fuse of a site that is up
   pub record FusesNoted (calls : ℕ) (old new : OverSet R g) : Type 0 where
     pub cut : cut_value new.cut ≡ cut_value old.cut
     pub each : (n : Node) (note : GroupNode) → UpNoted n note (site_in old) → UpNoted (record n { fuse = FuseSet calls }) note (site_in new)
+    pub named : (units : Units) → RestsNamed units (site_in old) → RestsNamed units (site_in new)
 
   -- the same of disk sets: those that are not below a replicated volume group stay apart from one
   abbrev pub OversStay : DiskSet R g → DiskSet R g → Type 0
@@ -147,8 +172,9 @@ module _ {R : Type 0} {g : Ghosts R} where
 
   -- the crash behind it
   pub record OverFalls (old new : OverSet R g) : Type 0 where
-    pub fallen : (n : Node) (note : GroupNode) → CutNoted n note (site_in old) → DownNoted (crashed n 0) note (site_in new)
-    pub up : (n : Node) (note : GroupNode) → UpNoted n note (site_in old) → DownNoted (crashed n 0) note (site_in new)
+    pub fallen : (n : Node) (note : GroupNode) → IsNoteTidy note → CutNoted n note (site_in old) → DownNoted (crashed n 0) note (site_in new)
+    pub up : (n : Node) (note : GroupNode) → IsNoteTidy note → UpNoted n note (site_in old) → DownNoted (crashed n 0) note (site_in new)
+    pub named : (n : Node) (note : GroupNode) (units : Units) → UpNoted n note (site_in old) ⊎ CutNoted n note (site_in old) → rvg_noted note ≡ Some units → RestsNamed units (site_in new)
     pub counts : (d : ℕ) → (site_disks (site_in new)).disk_faults d ≡ (site_disks (site_in old)).disk_faults d
     pub cut : new.cut ≡ old.cut
     pub calls : UnderCalls (site_disks (site_in old)) (site_disks (site_in new))

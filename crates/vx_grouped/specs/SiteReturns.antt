@@ -174,3 +174,8 @@ module _ {R : Type 0} {g : Ghosts R} where
   abbrev pub LessLeft : Meaning → GroupSite R g → Result (Unit {0}) Stop → Type 0
   LessLeft old new (Ok done) = Unit {0}
   LessLeft old new (Err stop) = stops_early stop ≡ true → LeftLess old (as_imported new)
+
+  -- one that was refused behind that leaves disks that tell nothing
+  abbrev pub LateDark : GroupSite R g → Result (Unit {0}) Stop → Type 0
+  LateDark new (Ok done) = Unit {0}
+  LateDark new (Err stop) = stops_early stop ≡ false → TellsNone (site_disks new)
