@@ -6,6 +6,7 @@ pub mod SentText
 pub mod SettleEnds
 pub mod SettleLine
 pub mod SettleParts
+pub mod SettleRaw
 pub mod SettleSent
 pub mod SettleTurns
 pub mod StepWent
