@@ -1,11 +1,13 @@
 -- What a site notes of its group below a replicated volume group, past calls and lines that leave the group alone, and past its crash.
-use Rattle.std.proofs.Common.{◌≡◌, ◌∙◌, ℕ, ap, refl, subst, sym}
-use Rattle.std.specs.Prelude.{Option}
+use Rattle.std.proofs.Common.{◌≡◌, ◌∙◌, ℕ, ap, inl, refl, subst, sym}
+use Rattle.std.specs.Prelude.{Option, unwrap_or}
 use Rattle.vx_disk.specs.declared.shelf.Shelf.{Ghosts}
 use Rattle.vx_grouped.specs.GroupSites.{idle_below, idle_disks, laid_below, laid_disks}
 use Rattle.vx_grouped.specs.SetFuses.{HasFuse}
 use Rattle.vx_grouped.specs.declared.group_site.GroupSite.{GroupSite}
 use Rattle.vx_grouped.specs.declared.group_site.GroupSite.TheVariants.{Up, Deported, Down, Marked, Gone}
+use Rattle.vx_events.specs.GroupNotes.{no_note}
+use Rattle.vx_events.specs.GroupViews.{config_of}
 use Rattle.vx_history.specs.Groups.{GroupNode}
 use Rattle.vx_history.specs.Steps.{crashed}
 use Rattle.vx_history.specs.World.{Fuse, FuseSet, Node}
@@ -16,7 +18,7 @@ use Rattle.vx_diskset.specs.GroupSets.{cut_value}
 use Rattle.vx_diskset.specs.Holds.{KeptBeside}
 use Rattle.vx_diskset.specs.Layouts.{units_by, units_of}
 use Rattle.vx_diskset.specs.Asked.{IsRawSet}
-use Rattle.vx_diskset.specs.Noted.{FellAs, FusesNoted, NotedAt, NotedOn, NotesAs, OverFalls, OversFall, OversFused, OversStay, SiteNoted, StaysNoted, below_rvg}
+use Rattle.vx_diskset.specs.Noted.{FellAs, FusesNoted, IsNamed, NotedAt, NotedOn, NotesAs, OverFalls, OversFall, OversFused, OversStay, RestsNamed, SiteNoted, StaysNoted, TidyNote, below_rvg}
 use Rattle.vx_diskset.specs.Stands.{SiteStands}
 use Rattle.vx_diskset.specs.declared.disk_set.DiskSet.{DiskSet}
 use Rattle.vx_diskset.specs.declared.disk_set.DiskSet.TheVariants.{Bare, Spoiled, Up as UpSet, Receives, Down as DownSet, OfGroup, Over, Gone as GoneSet}
@@ -49,6 +51,9 @@ module _ (n m : Node) (like : NotesAs n m) where
     unfused = λ none. like.fuse ∙ none;
   }
 
+  pub named_as : IsNamed n → IsNamed m
+  named_as it = (it.0, it.1, ap (λ (o : Option GroupNode). config_of (unwrap_or o no_note).config) like.group ∙ it.2, it.3, like.volumes ∙ it.4)
+
   units_as : units_of n ≡ units_of m
   units_as = ap (λ (o : Option GroupNode). units_by o n.disks) (sym like.group) ∙ ap (λ (d : ℕ). units_by m.group d) (sym like.disks)
 
@@ -61,16 +66,25 @@ module _ (n m : Node) (like : NotesAs n m) where
     on_like note Gone it = absurd it
 
     site_like : (note : GroupNode) (o : OverSet R g) → SiteNoted n note (Over o) → SiteNoted m note (Over o)
-    site_like note o it = (on_like note (site_in o) it.0, it.1, subst (λ (u : Units). InsideOf u note) units_as it.2)
+    site_like note o it = (
+      on_like note (site_in o) it.0,
+      it.1,
+      subst (λ (u : Units). InsideOf u note) units_as it.2,
+      subst (λ (u : Units). TidyNote u note) units_as it.3,
+      subst (λ (u : Units). RestsNamed u (site_in o)) units_as it.4,
+    )
 
     -- by another node that has all by which a group is noted
     pub noted_as : (o : OverSet R g) → NotedAt n (Over o) → NotedAt m (Over o)
-    noted_as o noted note is = site_like note o (noted note (sym like.group ∙ is))
+    noted_as o noted = (λ note is. site_like note o (noted.0 note (sym like.group ∙ is)), named_as noted.1)
 
     over_stays : (o s : OverSet R g) → StaysNoted o s → NotedAt n (Over o) → NotedAt m (Over s)
-    over_stays o s stays noted note is =
-        let was = noted note (sym like.group ∙ is) in
-        site_like note s (stays.each (below_rvg n) note was.0, stays.cut ∙ was.1, was.2)
+    over_stays o s stays noted = (
+      (λ note is.
+          let was = noted.0 note (sym like.group ∙ is) in
+          site_like note s (stays.each (below_rvg n) note was.0, stays.cut ∙ was.1, was.2, was.3, stays.named (units_of n) was.4)),
+      named_as noted.1,
+    )
 
     -- behind a call that leaves the note as it is
     pub noted_stays : (e new : DiskSet R g) → OversStay e new → NotedAt n e → NotedAt m new
@@ -92,13 +106,18 @@ module _ (n m : Node) (like : NotesAs n m) where
 
 module _ {R : Type 0} {g : Ghosts R} (beside : KeptBeside) (n m : Node) where
   over_fused : (calls : ℕ) (like : NotesAs (record n { fuse = FuseSet calls }) m) (o s : OverSet R g) → SiteStands beside n (Over o) → n.state ≡ IsUp → FusesNoted calls o s → NotedAt n (Over o) → NotedAt m (Over s)
-  over_fused calls like o s stands up fuses noted note is =
-      let was = noted note (sym like.group ∙ is) in
-      site_like (record n { fuse = FuseSet calls }) m like note s (
-        up_noted (below_rvg (record n { fuse = FuseSet calls })) note (site_in s) (fuses.each (below_rvg n) note (noted_up beside n note o.site stands.1 up was.0)),
-        fuses.cut ∙ was.1,
-        was.2,
-      )
+  over_fused calls like o s stands up fuses noted = (
+    (λ note is.
+        let was = noted.0 note (sym like.group ∙ is) in
+        site_like (record n { fuse = FuseSet calls }) m like note s (
+          up_noted (below_rvg (record n { fuse = FuseSet calls })) note (site_in s) (fuses.each (below_rvg n) note (noted_up beside n note o.site stands.1 up was.0)),
+          fuses.cut ∙ was.1,
+          was.2,
+          was.3,
+          fuses.named (units_of n) was.4,
+        )),
+    named_as (record n { fuse = FuseSet calls }) m like noted.1,
+  )
 
   -- behind one that sets the fuse of a site that is up
   pub noted_fused : (calls : ℕ) (like : NotesAs (record n { fuse = FuseSet calls }) m) (e new : DiskSet R g) → SiteStands beside n e → n.state ≡ IsUp → OversFused calls e new → NotedAt n e → NotedAt m new
@@ -119,13 +138,20 @@ module _ {R : Type 0} {g : Ghosts R} (beside : KeptBeside) (n m : Node) where
   noted_fused calls like GoneSet new stands up fused noted = noted_apart m new fused
 
   over_fell : (like : FellAs n m) (o s : OverSet R g) → SiteStands beside n (Over o) → n.state ≡ IsUp → OverFalls o s → NotedAt n (Over o) → NotedAt m (Over s)
-  over_fell like o s stands up falls noted note is =
-      let has = sym like.group ∙ is in
-      let was = noted note has in
-      site_like (crashed n 0) m (record { name = like.name; disks = like.disks; blocks = like.blocks; volumes = like.volumes; group = like.group; state = like.state; fuse = like.fuse }) note s (
-        down_again n note (site_in s) has (falls.up (below_rvg n) note (noted_up beside n note o.site stands.1 up was.0)),
-        ap (λ (c : Option CutWrite). cut_value c) falls.cut ∙ was.1,
-        was.2,
+  over_fell like o s stands up falls noted =
+      let down : NotesAs (crashed n 0) m = record { name = like.name; disks = like.disks; blocks = like.blocks; volumes = like.volumes; group = like.group; state = like.state; fuse = like.fuse } in (
+        (λ note is.
+            let has = sym like.group ∙ is in
+            let was = noted.0 note has in
+            let here = noted_up beside n note o.site stands.1 up was.0 in
+            site_like (crashed n 0) m down note s (
+              down_again n note (site_in s) has (falls.up (below_rvg n) note was.3.tidy here),
+              ap (λ (c : Option CutWrite). cut_value c) falls.cut ∙ was.1,
+              was.2,
+              was.3,
+              falls.named (below_rvg n) note (units_of n) (inl here) was.3.named,
+            )),
+        named_as (crashed n 0) m down noted.1,
       )
 
   -- behind the crash

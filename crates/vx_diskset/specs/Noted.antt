@@ -1,5 +1,5 @@
 -- What a site notes of its group of disks, below a replicated volume group or not.
-use Rattle.std.specs.Prelude.{◌≡◌, ◌⊎◌, ℕ, [], false, IsFalse, IsTrue, Some, None, Result}
+use Rattle.std.specs.Prelude.{◌≡◌, ◌⊎◌, ℕ, [], false, IsFalse, IsTrue, Some, None, Result, map}
 use Rattle.vx_disk.specs.Disks.{Disks}
 use Rattle.vx_disk.specs.Shelf.{Each, Image, Meaning}
 use Rattle.vx_disk.specs.declared.shelf.Shelf.{Ghosts}
@@ -10,9 +10,12 @@ use Rattle.vx_model.specs.declared.units.Units.{Units}
 use Rattle.vx_history.specs.Groups.{GroupNode, NoteWorks}
 use Rattle.vx_history.specs.Steps.{crashed}
 use Rattle.vx_history.specs.Stops.{IsFused}
+use Rattle.vx_history.specs.Volumes.{as_volume}
 use Rattle.vx_history.specs.World.{FuseSet, Node, NoFuse}
 use Rattle.vx_groupmaps.specs.Loading.{DeviceRose}
-use Rattle.vx_events.specs.RvgFits.{rvg_noted}
+use Rattle.vx_events.specs.GroupNotes.{note_at}
+use Rattle.vx_events.specs.GroupViews.{config_of}
+use Rattle.vx_events.specs.RvgFits.{data_of, rvg_noted}
 use Rattle.vx_config.specs.declared.config.Config.{Config}
 use Rattle.vx_copyfmt.specs.Imports.{Found}
 use Rattle.vx_kept.specs.Groups.{found as finds}
@@ -50,6 +53,10 @@ pub record TidyNote (units : Units) (note : GroupNode) : Type 0 where
 -- so does each configuration that an import may find
 pub record FoundNamed (units : Units) (m : Meaning) : Type 0 where
   pub each : (i : Image) (x : Config) → Each m.leaves i → finds m i ≡ Found x → x.rvg ≡ Some units
+
+-- the data volumes of a site are those of the replicated volume group of the configuration that it notes
+abbrev pub IsNamed : Node → Type 0
+IsNamed n = (c : Config) × (units : Units) × (config_of (note_at n).config ≡ Some c) × (c.rvg ≡ Some units) × (n.volumes ≡ map as_volume (data_of c.volumes units))
 
 -- where imports agreed, and nothing was begun, it is so behind the calls, or one of them failed
 abbrev pub AgreesStill : GroupNode → GroupNode → Meaning → Meaning → Type 0
@@ -101,9 +108,9 @@ module _ {R : Type 0} {g : Ghosts R} where
   SiteNoted n note (Over s) = NotedOn (below_rvg n) note (site_in s) × (cut_value s.cut ≡ note.cut) × InsideOf (units_of n) note × TidyNote (units_of n) note × RestsNamed (units_of n) (site_in s)
   SiteNoted n note other = ⊥
 
-  -- the group of a site with a replicated volume group over it is as the site notes it
+  -- the group of a site with a replicated volume group over it is as the site notes it, and so are the data volumes of the site
   abbrev pub NotedAt : Node → DiskSet R g → Type 0
-  NotedAt n (Over s) = (note : GroupNode) → n.group ≡ Some note → SiteNoted n note (Over s)
+  NotedAt n (Over s) = ((note : GroupNode) → n.group ≡ Some note → SiteNoted n note (Over s)) × IsNamed n
   NotedAt n e = Unit {0}
 
   -- How a call on the replicated volume group of a site moves the note: its group is up still, or it crashed as its fuse ran out.
