@@ -1,7 +1,7 @@
 -- What a line that no test refuses, and that is not open, is answered: one that makes a replicated volume group, one at a site that has one over a group of disks, one
 -- that works on a group of disks, or another.
-use Rattle.std.proofs.Common.{◌≡◌, ℕ, Bool, true, false, List, [], inl, sym, subst, refl, ap}
-use Rattle.std.specs.Prelude.{◌&&◌, ◌||◌, Result, Ok, Err, not}
+use Rattle.std.proofs.Common.{◌≡◌, arith, ℕ, Bool, true, false, List, [], inl, sym, subst, refl}
+use Rattle.std.specs.Prelude.{Result, Ok, Err}
 use Rattle.vx_history.specs.Doubts.{Doubted}
 use Rattle.vx_model.specs.declared.errors.OutOfMemory.{OutOfMemory}
 use Rattle.vx_disk.specs.declared.shelf.Shelf.{Ghosts}
@@ -11,7 +11,7 @@ use Rattle.vx_events.specs.Brights.{told_for}
 use Rattle.vx_events.specs.Fails.{Fails}
 use Rattle.vx_events.specs.Lines.{is_of_links}
 use Rattle.vx_events.specs.OpenLines.{is_open}
-use Rattle.vx_events.specs.RvgOver.{OverRvg, is_plain_kind}
+use Rattle.vx_events.specs.RvgOver.{OverRvg}
 use Rattle.vx_events.specs.RvgSteps.{AsBefore, FoundPlain, MakesNoRvg, WorksAbove, WorksBeside, WorksFull, is_for_rvg, rvg_place}
 use Rattle.vx_events.specs.StepsOver.{WorksOver, group_place, is_for_group}
 use Rattle.vx_events.specs.declared.said.Said.{Said}
@@ -20,13 +20,13 @@ use Rattle.vx_events.proofs.Parts.{none_done}
 use Rattle.vx_events.proofs.Tolds.{told_less, works_told}
 use Rattle.vx_yard.specs.AboveLines.{LeadsAboveIs, LeadsBesideIs, WorksIs}
 use Rattle.vx_yard.specs.Gaining.{LeadsRvgIs}
+use Rattle.vx_yard.proofs.OverGroup.{over_plain}
 use Rattle.vx_yard.proofs.RecoverLine.{rose_then}
-use Rattle.vx_yard.specs.Standing.{LeadsIs, LeadsOrStops, LeadsOverOrStops, StaysFor, StopsAbove, StopsFor}
+use Rattle.vx_model.proofs.Lists.{get_there}
+use Rattle.vx_diskset.specs.Holds.{beside_of}
+use Rattle.vx_yard.specs.Standing.{LeadsFoundIs, LeadsIs, LeadsOrStops, LeadsOverOrStops, StandsFor, StaysFor, StopsAbove, StopsFor}
 use Rattle.vx_yard.specs.Yards.{IsTold, count_of}
 use Rattle.vx_yard.specs.declared.yard.Yard.{Yard}
-use Rattle.vx_order.specs.declared.facts.VolumeKind.{VolumeKind}
-use Rattle.vx_order.specs.declared.facts.VolumeKind.TheVariants.{Data, Map, Plain, Srl}
-use Rattle.vx_order.specs.Calls.{is_data}
 
 -- ---- a line that makes no replicated volume group
 
@@ -61,39 +61,59 @@ module _ {R : Type 0} {g : Ghosts R} where
   pub stops_full : (d : Doubted) (line : ScriptLine) (old new : Yard R g) → StopsFor d line old new → StopsAbove d line old new
   stops_full d line old new stops = record { next = stops.next; part = inl stops.part; stands = stops.stands; carries = stops.carries; rose = stops.rose }
 
+  -- what a site notes of its group names no replicated volume group, where none is over it
+  found_plain : (line : ScriptLine) (s : ℕ) (next : Doubted) (new : Yard R g) → StandsFor next new → FoundPlain line s next
+  found_plain line s next new stands = λ brings below over.
+      let there = get_there new.disk_sets.items s (omega (arith, below, stands.disk_sets.few, stands.disk_sets.eight)) in
+      over_plain (beside_of next s) (next.world.nodes s) there.0 (stands.disk_sets.sites s there.0 below there.1) over
+
   -- ---- a line at sites without one
 
   module _ (d : Doubted) (line : ScriptLine) (old new : Yard R g) (none : MakesNoRvg line) (closed : is_open d.world line ≡ false) (off : is_for_rvg d.world line ≡ false) where
     -- one that works on no group
-    pub works_plain : (r : Result Said OutOfMemory) → is_for_group d.world line ≡ false → ((next : Doubted) → FoundPlain line (group_place d.world line) next) → LeadsOrStops d line old new r → WorksIs d line old new r
-    works_plain (Ok said) plain found leads = record {
+    pub works_plain : (r : Result Said OutOfMemory) → is_for_group d.world line ≡ false → LeadsOrStops d line old new r → WorksIs d line old new r
+    works_plain (Ok said) plain leads = record {
       next = leads.next;
       fails = leads.fails;
       works = beside_full (IsTold new) d line leads.fails said leads.next none closed off
           (AsBefore (works_told (λ (t : told_for (IsTold new) d.world line). told_less (IsTold new) d.world (is_of_links line) t) (is_for_group d.world line) d line leads.fails said leads.next
-          (subst (λ (b : Bool). WorksOver b (IsTold new) d line leads.fails said leads.next) (sym plain) (inl leads.done))) (found leads.next));
+          (subst (λ (b : Bool). WorksOver b (IsTold new) d line leads.fails said leads.next) (sym plain) (inl leads.done))) (found_plain line (group_place d.world line) leads.next new leads.stands));
       stands = leads.stands;
       carries = leads.carries;
       rose = leads.rose;
     }
-    works_plain (Err e) plain found stops = stops_full d line old new stops
+    works_plain (Err e) plain stops = stops_full d line old new stops
 
-    pub works_whole : (r : Result Said OutOfMemory) → is_for_group d.world line ≡ false → ((next : Doubted) → FoundPlain line (group_place d.world line) next) → LeadsIs d line old new r → WorksIs d line old new r
-    works_whole r plain found leads = works_plain r plain found (leads_whole d line old new r leads)
+    pub works_whole : (r : Result Said OutOfMemory) → is_for_group d.world line ≡ false → LeadsIs d line old new r → WorksIs d line old new r
+    works_whole r plain leads = works_plain r plain (leads_whole d line old new r leads)
+
+    -- a recovery that looked for a group on disks of which nothing is told
+    pub works_found : (r : Result Said OutOfMemory) → is_for_group d.world line ≡ false → LeadsFoundIs d line old new r → WorksIs d line old new r
+    works_found (Ok said) plain leads = record {
+      next = leads.next;
+      fails = leads.fails;
+      works = beside_full (IsTold new) d line leads.fails said leads.next none closed off
+          (AsBefore (works_told (λ (t : told_for (IsTold new) d.world line). told_less (IsTold new) d.world (is_of_links line) t) (is_for_group d.world line) d line leads.fails said leads.next
+          (subst (λ (b : Bool). WorksOver b (IsTold new) d line leads.fails said leads.next) (sym plain) leads.done)) (found_plain line (group_place d.world line) leads.next new leads.stands));
+      stands = leads.stands;
+      carries = leads.carries;
+      rose = leads.rose;
+    }
+    works_found (Err e) plain stays = stops_full d line old new (stays_short d line old new stays)
 
     -- one that works on a group
-    pub works_over : (r : Result Said OutOfMemory) → is_for_group d.world line ≡ true → ((next : Doubted) → FoundPlain line (group_place d.world line) next) → LeadsOverOrStops d line old new r → WorksIs d line old new r
-    works_over (Ok said) over found leads = record {
+    pub works_over : (r : Result Said OutOfMemory) → is_for_group d.world line ≡ true → LeadsOverOrStops d line old new r → WorksIs d line old new r
+    works_over (Ok said) over leads = record {
       next = leads.next;
       fails = leads.fails;
       works = beside_full (IsTold new) d line leads.fails said leads.next none closed off
           (AsBefore (works_told (λ (t : told_for (IsTold new) d.world line). told_less (IsTold new) d.world (is_of_links line) t) (is_for_group d.world line) d line leads.fails said leads.next
-          (subst (λ (b : Bool). WorksOver b (IsTold new) d line leads.fails said leads.next) (sym over) leads.done)) (found leads.next));
+          (subst (λ (b : Bool). WorksOver b (IsTold new) d line leads.fails said leads.next) (sym over) leads.done)) (found_plain line (group_place d.world line) leads.next new leads.stands));
       stands = leads.stands;
       carries = leads.carries;
       rose = leads.rose;
     }
-    works_over (Err e) over found stops = stops_full d line old new stops
+    works_over (Err e) over stops = stops_full d line old new stops
 
     -- one that may find a replicated volume group
     pub works_beside : (r : Result Said OutOfMemory) → LeadsBesideIs d line old new r → WorksIs d line old new r
@@ -121,13 +141,13 @@ module _ {R : Type 0} {g : Ghosts R} where
   works_above d line old new none closed over (Err e) stops = stops
 
   -- a line of one site, with one or not
-  pub works_either : (d : Doubted) (line : ScriptLine) (old new : Yard R g) → MakesNoRvg line → is_open d.world line ≡ false → (r : Result Said OutOfMemory) → is_for_group d.world line ≡ false → ((next : Doubted) → FoundPlain line (group_place d.world line) next)
+  pub works_either : (d : Doubted) (line : ScriptLine) (old new : Yard R g) → MakesNoRvg line → is_open d.world line ≡ false → (r : Result Said OutOfMemory) → is_for_group d.world line ≡ false
       → (is_for_rvg d.world line ≡ false → LeadsOrStops d line old new r) → (is_for_rvg d.world line ≡ true → LeadsAboveIs d line old new r) → WorksIs d line old new r
-  works_either d line old new none closed r plain found leads above = by (is_for_rvg d.world line) refl
+  works_either d line old new none closed r plain leads above = by (is_for_rvg d.world line) refl
     where
       by : (b : Bool) → is_for_rvg d.world line ≡ b → WorksIs d line old new r
       by true over = works_above d line old new none closed over r (above over)
-      by false off = works_plain d line old new none closed off r plain found (leads off)
+      by false off = works_plain d line old new none closed off r plain (leads off)
 
   -- one that makes one
   pub works_rvg : (d : Doubted) (site srl maps : List ℕ) (volumes : List (List ℕ)) (old new : Yard R g) (r : Result Said OutOfMemory) → LeadsRvgIs d site srl maps volumes old new r → WorksIs d (Rvg site srl maps volumes) old new r
@@ -153,23 +173,3 @@ module _ {R : Type 0} {g : Ghosts R} where
     carries = λ was. stops.carries (stays.carries was);
     rose = rose_then [] (count_of old) (count_of mid) (count_of new) stays.rose stops.rose;
   }
-
--- ---- a volume of a line that does not go to the group of its site
-
--- it is a data volume, where the site has a replicated volume group over its group
-pub kept_above : (a b : Bool) (k : VolumeKind) → (a || (b && not (is_data k))) ≡ false → b ≡ true → k ≡ Data
-kept_above true b k off is = absurd (let clash : true ≡ false = off in cc)
-kept_above false true Data off is = refl
-kept_above false true Srl off is = absurd (let clash : true ≡ false = off in cc)
-kept_above false true Map off is = absurd (let clash : true ≡ false = off in cc)
-kept_above false true Plain off is = absurd (let clash : true ≡ false = off in cc)
-kept_above false false k off is = absurd (let clash : false ≡ true = is in cc)
-
--- and no plain one
-pub above_plain : (a b : Bool) (k : VolumeKind) → (a || (b && not (is_data k))) ≡ false → b ≡ true → is_plain_kind k ≡ false
-above_plain a b k off is = ap (λ (x : VolumeKind). is_plain_kind x) (kept_above a b k off is)
-
--- and the site is over no group without one
-pub apart_off : (a b : Bool) → (a || b) ≡ false → a ≡ false
-apart_off true b off = absurd (let clash : true ≡ false = off in cc)
-apart_off false b off = refl

@@ -1,6 +1,6 @@
 -- What a line does to a world in which some sites are over groups of disks, with replicated volume groups or without: its first refusal, or its events and
 -- the way in which they end.
-use Rattle.std.specs.Prelude.{◌≡◌, ℕ, Bool, true, false, List, Option, Some, None}
+use Rattle.std.specs.Prelude.{◌≡◌, ◌<◌, ℕ, Bool, true, false, List, Option, Some, None}
 use Rattle.vx_model.specs.declared.no.No.{No}
 use Rattle.vx_history.specs.Doubts.{Doubted}
 use Rattle.vx_history.specs.World.{World}
@@ -11,10 +11,11 @@ use Rattle.vx_events.specs.Ends.{place_of}
 use Rattle.vx_events.specs.Facts.{site_number}
 use Rattle.vx_events.specs.Fails.{Fails}
 use Rattle.vx_events.specs.GroupEnds.{BringsUp}
+use Rattle.vx_events.specs.GroupLines.{is_over_group}
 use Rattle.vx_events.specs.GroupNotes.{note_at}
 use Rattle.vx_events.specs.Lines.{IsRefusedLine}
 use Rattle.vx_events.specs.OpenLines.{is_open}
-use Rattle.vx_events.specs.RvgBack.{RvgBack, RvgFinds}
+use Rattle.vx_events.specs.RvgBack.{RvgFinds}
 use Rattle.vx_events.specs.RvgFits.{rvg_noted}
 use Rattle.vx_events.specs.RvgMakes.{MakesRvg}
 use Rattle.vx_events.specs.RvgOver.{OverRvg}
@@ -56,9 +57,9 @@ rvg_place w (PlexDetach site volume plex) = site_number w site
 rvg_place w (PlexAttach site volume plex) = site_number w site
 rvg_place w other = place_of w other
 
--- a line that brings a group up found one without a replicated volume group
+-- a line that brings a group up found one without a replicated volume group, where its site is over one then
 abbrev pub FoundPlain : ScriptLine → (s : ℕ) → Doubted → Type 0
-FoundPlain line s new = BringsUp line → rvg_noted (note_at (new.world.nodes s)) ≡ None
+FoundPlain line s new = BringsUp line → s < new.world.sites → is_over_group (new.world.nodes s) ≡ true → rvg_noted (note_at (new.world.nodes s)) ≡ None
 
 -- A line at no site that has a replicated volume group over a group of disks. One that brings a group up, of a site over one or of a bare one, may find one.
 pub data WorksBeside (told : Type 0) (d : Doubted) (line : ScriptLine) (fails : Fails) (said : Said) (new : Doubted) : Type 0 where

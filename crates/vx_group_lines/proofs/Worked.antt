@@ -9,7 +9,6 @@ use Rattle.vx_script.specs.declared.line.ScriptLine.{ScriptLine}
 use Rattle.vx_script.specs.declared.line.ScriptLine.TheVariants.{GroupInit, GroupDeport, GroupImport, Volume, PlexDetach, PlexAttach, Rvg, Disk, Crash, Fuse, Recover, Status, Write, Put, Read, Show}
 use Rattle.vx_events.proofs.RvgTests.{group_alone}
 use Rattle.vx_events.specs.Facts.{site_number}
-use Rattle.vx_events.specs.GroupEnds.{BringsUp}
 use Rattle.vx_events.specs.OpenLines.{is_open}
 use Rattle.vx_events.specs.RvgSteps.{MakesNoRvg, is_for_rvg, over_rvg_at}
 use Rattle.vx_events.specs.StepsOver.{is_for_group, over_group_at}
@@ -40,11 +39,6 @@ WorksAlone other = Unit {0}
 alone_makes : (line : ScriptLine) → WorksAlone line → MakesNoRvg line
 alone_makes (Rvg site srl maps volumes) alone = alone
 alone_makes other alone = tt
-
-alone_brings : (line : ScriptLine) → WorksAlone line → BringsUp line → ⊥
-alone_brings (GroupImport site) alone brings = alone
-alone_brings (Recover site) alone brings = alone
-alone_brings other alone brings = brings
 
 -- where it is not open, no replicated volume group is over the group
 alone_off : (w : World) (line : ScriptLine) → WorksAlone line → goes_to_group w line ≡ true → is_open w line ≡ false → is_for_rvg w line ≡ false
@@ -110,7 +104,7 @@ module _ {R : Type 0} {g : Ghosts R} (d : Doubted) (y : Yard R g) where
     alone_works line r alone stands kept free goes closed leads =
         let off : is_for_rvg d.world line ≡ false = alone_off d.world line alone goes closed in
         let group : is_for_group d.world line ≡ true = alone_goes line (alone_makes line alone) stands kept free goes off in
-        works_over d line y new (alone_makes line alone) closed off r group (λ next brings. absurd (alone_brings line alone brings)) (or_stops d line y new r (leads group))
+        works_over d line y new (alone_makes line alone) closed off r group (or_stops d line y new r (leads group))
 
     pub works_closed : (words line : ScriptLine) (r : Result Said OutOfMemory) → words ≡ line → WorksAlone line → StandsFor d y → IsYardKept y → IsFree y words → goes_to_group d.world words ≡ true → is_open d.world words ≡ false
         → (is_for_group d.world line ≡ true → LeadsOverIs d line y new r) → WorksIs d words y new r

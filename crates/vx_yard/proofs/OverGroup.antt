@@ -1,6 +1,6 @@
 -- Which sites are over a group, as their disks stand.
 use Rattle.std.proofs.Common.{◌≡◌, ◌∙◌, ◌≤◌, ◌⊎◌, ⊎_elim, ℕ, Bool, true, false, List, [], length, ap, subst, sym, refl, arith}
-use Rattle.std.specs.Prelude.{◌&&◌, eqb, not, Option, Some, None, is_some}
+use Rattle.std.specs.Prelude.{◌&&◌, eqb, not, Option, Some, None, is_some, unwrap_or}
 use Rattle.std.proofs.lemmas.Bool.Decides.{nat_tests}
 use Rattle.vx_history.specs.Groups.{GroupNode}
 use Rattle.vx_history.specs.World.{Node, Volume}
@@ -28,6 +28,8 @@ use Rattle.vx_diskset.specs.declared.group_set.GroupSet.{GroupSet}
 use Rattle.vx_diskset.specs.Noted.{NotedAt}
 use Rattle.vx_events.proofs.Places.{never_some}
 use Rattle.vx_events.specs.GroupLines.{is_over_group}
+use Rattle.vx_events.specs.GroupNotes.{no_note, note_at}
+use Rattle.vx_events.specs.RvgFits.{rvg_noted}
 use Rattle.vx_events.specs.RvgViews.{is_over_rvg}
 use Rattle.vx_yard.specs.Standing.{BeginsFirst}
 
@@ -212,6 +214,15 @@ module _ {R : Type 0} {g : Ghosts R} where
       let of = over_is beside n e it over in
       let set : IsGroupSet beside n of.0 = subst (λ (x : DiskSet R g). SiteStands beside n x) of.1 it in
       (set_notes beside n of.0 set (λ bare. both_ways over (bare_apart n (set.bare bare)))).1.none
+
+  -- nor does what it notes of its group name one
+  pub over_plain : (beside : KeptBeside) (n : Node) (e : DiskSet R g) → SiteStands beside n e → is_over_group n ≡ true → rvg_noted (note_at n) ≡ None
+  over_plain beside n e it over =
+      let of = over_is beside n e it over in
+      let set : IsGroupSet beside n of.0 = subst (λ (x : DiskSet R g). SiteStands beside n x) of.1 it in
+      let made : n.state ≡ IsBare → ⊥ = λ bare. both_ways over (bare_apart n (set.bare bare)) in
+      let noted = set_notes beside n of.0 set made in
+      ap (λ (o : Option GroupNode). rvg_noted (unwrap_or o no_note)) noted.1.is ∙ set.plain made noted.0 noted.1.is
 
   -- one that receives is over no group
   pub receives_apart : (beside : KeptBeside) (n : Node) (e : DiskSet R g) → SiteStands beside n e → is_origin n.role ≡ false → is_over_group n ≡ false
