@@ -14,6 +14,8 @@ pub mod RvgGained
 pub mod RvgLeads
 pub mod RvgStays
 pub mod RvgRefused
+pub mod RvgOff
+pub mod RvgEnds
 pub mod GroupPlain
 pub mod GroupWrite
 pub mod GroupRead

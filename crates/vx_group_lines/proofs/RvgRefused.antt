@@ -55,7 +55,7 @@ use Rattle.vx_group_lines.proofs.RvgNotes.{notes_lacking, notes_none}
 use Rattle.vx_group_lines.proofs.RvgStays.{rvg_left, stays_carries, stays_none, stays_stands}
 
 module _ {R : Type 0} {g : Ghosts R} where
-  plain_noted : (m : Node) (next : GroupNode) (e : DiskSet R g) → PlainNoted m next e → SiteNoted m next e
+  pub plain_noted : (m : Node) (next : GroupNode) (e : DiskSet R g) → PlainNoted m next e → SiteNoted m next e
   plain_noted m next (OfGroup s) it = it
   plain_noted m next (Bare rack) it = absurd it
   plain_noted m next (Spoiled rack) it = absurd it

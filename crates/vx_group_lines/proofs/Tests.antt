@@ -1,11 +1,11 @@
 -- What is known of a line of a disk group that no test refuses.
-use Rattle.std.proofs.Common.{◌≡◌, ◌∙◌, ◌<◌, ◌≤◌, ℕ, List, length, ap, subst, sym, refl, arith, Bool, true, false}
+use Rattle.std.proofs.Common.{◌≡◌, ◌∙◌, ◌*◌, ◌<◌, ◌≤◌, ℕ, List, ◌∷◌, length, ap, subst, sym, refl, arith, Bool, true, false}
 use Rattle.std.proofs.lemmas.Bool.{and_parts}
 use Rattle.std.specs.Prelude.{Option, Some, None, not, ◌&&◌, nat_le, nat_lt, if◌then◌else◌}
-use Rattle.std.specs.List.{find}
+use Rattle.std.specs.List.{find, sum_by}
 use Rattle.std.specs.Str.{bytes_eq}
 use Rattle.std.proofs.lemmas.Bool.Decides.{nat_tests}
-use Rattle.vx_model.specs.declared.limits.TheConstants.{LEAST_GROUP_BLOCKS, MOST_PLEXES, MOST_VOLUMES}
+use Rattle.vx_model.specs.declared.limits.TheConstants.{LEAST_BLOCKS, LEAST_GROUP_BLOCKS, LINK_PLACES, MOST_DATA_VOLUMES, MOST_PLEXES, MOST_VOLUMES}
 use Rattle.vx_model.specs.declared.no.No.{No}
 use Rattle.vx_model.specs.declared.site.SiteState.{SiteState}
 use Rattle.vx_model.specs.declared.site.SiteState.TheVariants.{Bare, Up, Deported, Down}
@@ -13,11 +13,12 @@ use Rattle.vx_model.specs.Sites.{is_bare, is_up}
 use Rattle.vx_history.proofs.StateCases.{bare_is, up_is}
 use Rattle.vx_script.specs.declared.line.Layout.{Layout}
 use Rattle.vx_script.specs.declared.line.ReadPolicy.{ReadPolicy}
-use Rattle.vx_script.specs.declared.line.ScriptLine.TheVariants.{GroupInit, GroupDeport, GroupImport, Volume, PlexDetach, PlexAttach, Recover}
+use Rattle.vx_script.specs.declared.line.ScriptLine.TheVariants.{GroupInit, GroupDeport, GroupImport, Volume, PlexDetach, PlexAttach, Recover, Rvg}
 use Rattle.vx_script.specs.declared.line.VolumeLog.{VolumeLog}
 use Rattle.vx_script.specs.declared.line.VolumeMap.{VolumeMap}
 use Rattle.vx_order.specs.Grouping.{group_role, group_size, import_role, is_deported, recover_role}
 use Rattle.vx_order.specs.Order.{line_refusal}
+use Rattle.vx_order.specs.Replicating.{are_distinct, blocks_named, fits_group, maps_named}
 use Rattle.vx_order.specs.Shapes.{line_role, line_unknown, over_limit, raw_role, taken, wrong_size}
 use Rattle.vx_order.specs.Sites.{site_named, volume_of}
 use Rattle.vx_order.specs.Subject.{first_name}
@@ -189,3 +190,31 @@ rise_may sites files name e =
     let p = passes sites files (Recover name) e in
     let site = named sites name p.known in
     record { site = site; home = home_role site.facts (subst (λ (o : Option SiteFacts). recover_role o ≡ None) site.found p.role) }
+
+-- ---- a replicated volume group that is made
+
+pub rvg_named : (sites : List SiteFacts) (files : Bool) (name srl maps : List ℕ) (volumes : List (List ℕ)) → line_refusal sites files (Rvg name srl maps volumes) ≡ None → Named sites name
+unfolding first_name
+rvg_named sites files name srl maps volumes e = named sites name (passes sites files (Rvg name srl maps volumes) e).known
+
+few_by_test : (a b : ℕ) → nat_le a b ≡ true → a ≤ b
+few_by_test a b e = grind (arith, nat_tests)
+
+few_volumes : (site : Option SiteFacts) (srl maps : List ℕ) (volumes : List (List ℕ)) → fits_group site srl maps volumes ≡ true → length volumes ≤ MOST_DATA_VOLUMES
+few_volumes site srl maps volumes fits =
+    let some : Bool = nat_le 1 (length volumes) in
+    let few : Bool = nat_le (length volumes) MOST_DATA_VOLUMES in
+    let apart : Bool = are_distinct (srl ∷ maps ∷ volumes) in
+    let large : Bool = nat_le LEAST_BLOCKS (blocks_named site srl) in
+    let room : Bool = nat_le (LINK_PLACES * sum_by (maps_named site) volumes) (blocks_named site maps) in
+    let four = (and_parts (some && few && apart && large) room fits).0 in
+    let three = (and_parts (some && few && apart) large four).0 in
+    let two = (and_parts (some && few) apart three).0 in
+    few_by_test (length volumes) MOST_DATA_VOLUMES (and_parts some few two).1
+
+-- it has few data volumes
+pub rvg_few : (sites : List SiteFacts) (files : Bool) (name srl maps : List ℕ) (volumes : List (List ℕ)) → line_refusal sites files (Rvg name srl maps volumes) ≡ None → length volumes ≤ MOST_DATA_VOLUMES
+unfolding first_name wrong_size
+rvg_few sites files name srl maps volumes e =
+    let p = passes sites files (Rvg name srl maps volumes) e in
+    few_volumes (site_named sites name) srl maps volumes (not_false (fits_group (site_named sites name) srl maps volumes) (when_none (not (fits_group (site_named sites name) srl maps volumes)) _ p.size))

@@ -1,4 +1,5 @@
 pub mod Founds
+pub mod Making
 pub mod Noting
 pub mod Plain
 pub mod Rises

@@ -16,7 +16,7 @@ use Rattle.vx_group_lines.proofs.noting.note_up.Goals as goal
 
 -- the configuration that is asked for is sound
 pub table_of-volumes-requires-clause-sound : goal.table_of-volumes-requires-clause-sound
-table_of-volumes-requires-clause-sound g c = λ κs within x is.
+table_of-volumes-requires-clause-sound g c = λ x is.
     let one = get_at c.args.yard.now.disk_sets.items c.args.site c.index.result.now c.requires.disk_set c.index.ensures in
     let two = get_at c.args.yard.now.disk_sets.items c.args.site c.index-2.result.now c.requires.disk_set c.index-2.ensures in
     c.sound.ensures x (ap (λ e. config_in e) (some_same (sym one ∙ two)) ∙ sym c.config.ensures ∙ is)
