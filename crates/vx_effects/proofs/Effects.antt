@@ -30,6 +30,7 @@ changes_same s d = record {
   links = λ i k apart. refl;
   headers = λ i apart. refl;
   after = λ i apart. refl;
+  strayed = λ calm. calm;
   gathering = λ i apart. refl;
 }
 
@@ -40,6 +41,7 @@ changes_then s d e f a b = record {
   links = λ i k apart. b.links i k apart ∙ a.links i k apart;
   headers = λ i apart. b.headers i apart ∙ a.headers i apart;
   after = λ i apart. b.after i apart ∙ a.after i apart;
+  strayed = λ calm. a.strayed (b.strayed calm);
   gathering = λ i apart. b.gathering i apart ∙ a.gathering i apart;
 }
 
@@ -123,6 +125,7 @@ effect_of d e o s many {n} {row} {packets} {gathered} is t here others =
         links = λ i k apart. t.links i k ∙ ap (λ (r : ℕ → Link). r k) (updated_other d.world.links s i row apart);
         headers = λ i apart. none_more (d.world.headers i) (headers_by e d.world o i) (others i apart);
         after = λ i apart. refl;
+        strayed = λ calm. calm;
         gathering = λ i apart. t.gathering i ∙ updated_other d.world.gathering s i gathered apart;
       };
       is = record {
@@ -171,6 +174,7 @@ resolved_changes d s false = record {
     links = λ i k apart. refl;
     headers = λ i apart. refl;
     after = λ i apart. updated_other d.after s i None apart;
+    strayed = λ calm. calm;
     gathering = λ i apart. refl;
   };
   packets = refl;
@@ -186,6 +190,7 @@ resolved_changes d s true = by_doubt (d.after s)
         links = λ i k apart. refl;
         headers = λ i apart. refl;
         after = λ i apart. updated_other d.after s i None apart;
+        strayed = λ calm. calm;
         gathering = λ i apart. refl;
       };
       packets = refl;
@@ -198,6 +203,7 @@ resolved_changes d s true = by_doubt (d.after s)
         links = λ i k apart. ap (λ (r : ℕ → Link). r k) (updated_other d.world.links s i a.row apart);
         headers = λ i apart. refl;
         after = λ i apart. updated_other d.after s i None apart;
+        strayed = λ calm. calm;
         gathering = λ i apart. refl;
       };
       packets = refl;

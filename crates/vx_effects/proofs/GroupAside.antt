@@ -1,5 +1,5 @@
 -- How a line over a group of disks ends changes its own site alone.
-use Rattle.std.proofs.Common.{◌≡◌, ◌∙◌, ◌+◌, ℕ, List, false, refl, ap, arith, ◌++◌, ◌∷◌, []}
+use Rattle.std.proofs.Common.{◌≡◌, ◌∙◌, ◌+◌, ℕ, List, false, refl, ap, sym, arith, ◌++◌, ◌∷◌, []}
 use Rattle.std.specs.Prelude.{not, Option, None}
 use Rattle.vx_model.specs.declared.no.No.TheVariants.{Role as WrongRole, Down as NotUp}
 use Rattle.vx_model.specs.declared.site.SiteState.{SiteState}
@@ -111,18 +111,19 @@ crash_changes s kept d =
       links = a.links;
       headers = λ i apart. plus_none (d.world.headers i);
       after = λ i apart. updated_other d.after s i None apart;
+      strayed = λ calm. calm;
       gathering = a.gathering;
     }
 
 group_changes : (s : ℕ) (d : Doubted) → ChangesNode s d (happened d (GroupAt s) false)
 group_changes s d =
     let a : Aside s d.world (outcome_of d.world (GroupAt s)).world = group_aside s d.world in
-    record { sites = a.sites; nodes = a.nodes; links = a.links; headers = λ i apart. plus_none (d.world.headers i); after = λ i apart. refl; gathering = a.gathering }
+    record { sites = a.sites; nodes = a.nodes; links = a.links; headers = λ i apart. plus_none (d.world.headers i); after = λ i apart. refl; strayed = λ calm. calm; gathering = a.gathering }
 
 deport_changes : (s : ℕ) (d : Doubted) → ChangesNode s d (happened d (DeportAt s) false)
 deport_changes s d =
     let a : Aside s d.world (outcome_of d.world (DeportAt s)).world = deport_aside s d in
-    record { sites = a.sites; nodes = a.nodes; links = a.links; headers = λ i apart. plus_none (d.world.headers i); after = λ i apart. refl; gathering = a.gathering }
+    record { sites = a.sites; nodes = a.nodes; links = a.links; headers = λ i apart. plus_none (d.world.headers i); after = λ i apart. refl; strayed = λ calm. calm; gathering = a.gathering }
 
 recovery_changes : (state : SiteState) (s : ℕ) (d : Doubted) → ChangesNode s d (run_as false d (group_recovery state s))
 recovery_changes Bare s d = group_changes s d
@@ -192,6 +193,7 @@ left_by s last new v a is = record {
   links = λ i k apart. ap (λ (x : World). x.links i k) is.world ∙ a.links i k apart;
   headers = λ i apart. ap (λ (x : World). x.headers i) is.world ∙ a.headers i;
   after = λ i apart. is.after i;
+  strayed = λ calm. sym is.strayed ∙ calm;
   gathering = λ i apart. ap (λ (x : World). x.gathering i) is.world ∙ a.gathering i apart;
 }
 

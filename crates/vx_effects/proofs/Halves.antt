@@ -32,6 +32,7 @@ module _ (d : Doubted) (e : Event) (s : ℕ) (n : Node) (row : ℕ → Link) (pa
       links = λ i k apart. refl;
       headers = f.site.headers;
       after = λ i apart. updated_other d.after s i (Some (after_of d e s disk)) apart;
+      strayed = λ calm. calm;
       gathering = λ i apart. refl;
     };
     is = record {
@@ -70,6 +71,7 @@ crashed_effect d s kept taken =
         links = λ i k apart. t.links i k ∙ ap (λ (r : ℕ → Link). r k) (updated_other w.links s i row apart);
         headers = λ i apart. t.headers i;
         after = λ i apart. refl;
+        strayed = λ calm. calm;
         gathering = λ i apart. t.gathering i ∙ updated_other w.gathering s i None apart;
       });
       is = record {

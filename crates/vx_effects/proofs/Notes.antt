@@ -103,6 +103,7 @@ noted_effect d e a b s n row many doubt packets gathered one f = record {
     links = f.site.links;
     headers = f.site.headers;
     after = f.site.after;
+    strayed = f.site.strayed;
     gathering = f.site.gathering;
   };
   is = record { node = both_here e.world.nodes a b s one ∙ ap worked f.is.node; links = f.is.links; headers = f.is.headers; after = f.is.after };

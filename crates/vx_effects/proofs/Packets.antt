@@ -127,6 +127,7 @@ update_effect d number p k x taken at is =
         links = λ i j apart. hands.links i j;
         headers = λ i apart. let zero = none i in omega (arith, zero);
         after = λ i apart. refl;
+        strayed = λ calm. calm;
         gathering = hands.gathering;
       };
       is = record { node = refl; links = λ j. hands.links p.target j; headers = let zero = none p.target in omega (arith, zero); after = refl };

@@ -157,6 +157,7 @@ module _ (d : Doubted) (s : ℕ) where
       links = λ i k apart. refl;
       headers = λ i apart. refl;
       after = λ i apart. refl;
+      strayed = λ calm. calm;
       gathering = λ i apart. refl;
     };
     is = record { node = at_place w.nodes s m; links = λ k. refl; headers = refl; after = refl };
@@ -166,7 +167,7 @@ module _ (d : Doubted) (s : ℕ) where
 
 quiet_same : (s : ℕ) (d : Doubted) → ChangesAt s d d
 quiet_same s d = record {
-  site = record { sites = refl; nodes = λ i apart. refl; links = λ i k apart. refl; headers = λ i apart. refl; after = λ i apart. refl; gathering = λ i apart. refl };
+  site = record { sites = refl; nodes = λ i apart. refl; links = λ i k apart. refl; headers = λ i apart. refl; after = λ i apart. refl; strayed = λ calm. calm; gathering = λ i apart. refl };
   packets = refl;
   gathering = refl;
 }
@@ -191,6 +192,7 @@ as_quiet s d new v is c = record {
     links = λ i k apart. ap (λ (w : World). w.links i k) is.world ∙ c.site.links i k apart;
     headers = λ i apart. ap (λ (w : World). w.headers i) is.world ∙ c.site.headers i apart;
     after = λ i apart. is.after i;
+    strayed = λ calm. sym is.strayed ∙ calm;
     gathering = λ i apart. ap (λ (w : World). w.gathering i) is.world ∙ c.site.gathering i apart;
   };
   packets = ap (λ (w : World). w.packets) is.world ∙ c.packets;
@@ -216,6 +218,7 @@ site_adds d name disks blocks taken is =
       links = λ i k. refl;
       headers = λ i. none_more (d.world.headers i) 0 refl;
       after = λ i. refl;
+      strayed = λ calm. calm;
       packets = refl;
       gathering = λ i. refl;
     })

@@ -14,16 +14,15 @@ use Rattle.vx_history.specs.declared.event.Event.TheVariants.{Crash as CrashAt, 
 use Rattle.vx_script.specs.declared.line.ScriptLine.{ScriptLine}
 use Rattle.vx_script.specs.declared.line.ScriptLine.TheVariants.{Site, Raw, Disk as DiskLine, Crash, Fuse as FuseLine, Recover, Write, Put, Read, Show, Apply, Status}
 use Rattle.vx_events.proofs.GroupStopping.{noted_like}
+use Rattle.vx_events.proofs.KnownLaws.{finds_none}
 use Rattle.vx_events.proofs.Noting.{as_like, disks_like, like_disks, like_noted, like_self, like_then, like_site}
-use Rattle.vx_events.proofs.RvgFull.{brings_found}
-use Rattle.vx_events.proofs.RvgKnown.{back_dark}
 use Rattle.vx_events.proofs.RvgStopping.{ended as ended_rvg, same_doubted}
-use Rattle.vx_events.proofs.Stopping.{BeginsWrite, ended, runs_as}
+use Rattle.vx_events.proofs.Stopping.{BeginsWrite, Recovers, ended, runs_as}
 use Rattle.vx_events.specs.Doubts.{run_as, with_disks}
 use Rattle.vx_events.specs.Ends.{place_of}
 use Rattle.vx_events.specs.Facts.{site_number}
 use Rattle.vx_events.specs.Fails.{Fails}
-use Rattle.vx_events.specs.GroupEnds.{BringsUp}
+use Rattle.vx_events.specs.GroupEnds.{KnowsNothing}
 use Rattle.vx_events.specs.GroupLines.{group_noted, noting}
 use Rattle.vx_events.specs.GroupNotes.{IsKnown, note_at}
 use Rattle.vx_events.specs.Lists.{Choice, events_of, recovery_of, crash_count}
@@ -31,7 +30,6 @@ use Rattle.vx_events.specs.RvgBack.{FindsNoRvg, FindsPlain, FindsRvg, GroupHeld,
 use Rattle.vx_events.specs.RvgMakes.{RvgStops}
 use Rattle.vx_events.specs.RvgOver.{EndsOver, OpensFor, OverRvg, noting_over, fuse_behind}
 use Rattle.vx_events.specs.RvgParts.{RvgShort, ShortGroup, ShortLog, ShortMade}
-use Rattle.vx_events.specs.RvgWorks.{AgreesOr}
 use Rattle.vx_events.specs.declared.said.Said.{Said}
 
 -- ---- ends in worlds that differ in notes alone
@@ -127,11 +125,12 @@ module _ (told : Type 0) (d : Doubted) (line : ScriptLine) (s : ℕ) (fails : Fa
 
   -- ---- other lines
 
-  over_stops : IsKnown told (note_at (d.world.nodes s))
+  -- one that is no recovery
+  over_stops : (Recovers line → ⊥)
       → ((c : Choice) → BeginsWrite (events_of d.world line c) → IsOpen (d.world.nodes (place_of d.world line)) × (place_of d.world line < d.world.sites))
       → EndsOver told d line s fails said new → RvgStops d new
-  over_stops known opens h =
-      let stops = ended (IsKnown told (note_at (d.world.nodes s))) known d line opens h.ending h.inner h.middle h.ends in
+  over_stops rises opens h =
+      let stops = ended (IsKnown told (note_at (d.world.nodes s))) d line (λ untold recovers. rises recovers) opens h.ending h.inner h.middle h.ends in
       record {
         before = d;
         like = same_doubted d;
@@ -174,27 +173,27 @@ opens_at w other opens c h = absurd h
 
 -- ---- any line at such a site
 
-module _ (told : Type 0) (is_told : told) (d : Doubted) (s : ℕ) (bright : (note_at (d.world.nodes s)).dark ≡ false) (fails : Fails) (said : Said) (new : Doubted) where
-  -- what the disks hold is known, and imports agree, so nothing else is found on them
-  pub never_found : (line : ScriptLine) → (note_at (d.world.nodes s)).loose ≡ false → RvgFinds told d line s fails said new → ⊥
-  never_found line agree (FindsRvg kept taken next mid n k row c units are brings (inl untold) dark is same comes config fits lies says left) = untold is_told
-  never_found line agree (FindsRvg kept taken next mid n k row c units are brings (inr (inl loose)) dark is same comes config fits lies says left) = absurd (let e : true ≡ false = sym loose ∙ agree in cc)
-  never_found line agree (FindsRvg kept taken next mid n k row c units are brings (inr (inr unknown)) dark is same comes config fits lies says left) = absurd (let e : true ≡ false = sym unknown ∙ bright in cc)
-  never_found line agree (FindsPlain kept taken next mid has are brings (inl untold) dark is none says left) = untold is_told
-  never_found line agree (FindsPlain kept taken next mid has are brings (inr (inl loose)) dark is none says left) = absurd (let e : true ≡ false = sym loose ∙ agree in cc)
-  never_found line agree (FindsPlain kept taken next mid has are brings (inr (inr unknown)) dark is none says left) = absurd (let e : true ≡ false = sym unknown ∙ bright in cc)
-  never_found line agree (FindsNoRvg kept taken lost next why has are brings (inl untold) free notes says left) = untold is_told
-  never_found line agree (FindsNoRvg kept taken lost next why has are brings (inr (inl loose)) free notes says left) = absurd (let e : true ≡ false = sym loose ∙ agree in cc)
-  never_found line agree (FindsNoRvg kept taken lost next why has are brings (inr (inr unknown)) free notes says left) = absurd (let e : true ≡ false = sym unknown ∙ bright in cc)
+unknown_found : (told : Type 0) (d : Doubted) (s : ℕ) (fails : Fails) (said : Said) (new : Doubted) (line : ScriptLine) → RvgFinds told d line s fails said new
+    → KnowsNothing told (note_at (d.world.nodes s))
+unknown_found told d s fails said new line (FindsRvg kept taken next mid n k row c units are brings unknown dark is same comes config fits lies says left) = unknown
+unknown_found told d s fails said new line (FindsPlain kept taken next mid has are brings unknown dark is none says left) = unknown
+unknown_found told d s fails said new line (FindsNoRvg kept taken lost next why has are brings unknown free notes says left) = unknown
 
-  -- Where it is known behind the line what they hold, nothing else was found either: at most none was found, and a site that is up crashed.
-  pub finds_stops : (line : ScriptLine) → AgreesOr (note_at (d.world.nodes s)) (note_at (new.world.nodes s)) → RvgFinds told d line s fails said new → RvgStops d new
-  finds_stops line (inl agree) finds = absurd (never_found line agree finds)
-  finds_stops line (inr known) (FindsRvg kept taken next mid n k row c units are brings unknown dark is same comes config fits lies says left) =
-      absurd (let e : true ≡ false = sym (dark is_told) ∙ sym (back_dark s line taken next d _ new left) ∙ known in cc)
-  finds_stops line (inr known) (FindsPlain kept taken next mid has are brings unknown dark is none says left) =
-      absurd (let e : true ≡ false = sym (dark is_told) ∙ sym (back_dark s line taken next d _ new left) ∙ known in cc)
-  finds_stops line (inr known) (FindsNoRvg kept taken lost next why has are brings unknown free notes says left) = fall_stops d s line kept taken lost next new left
+-- what the disks hold is known, and imports agree, so nothing else is found on them
+pub never_found : (told : Type 0) → told → (d : Doubted) (s : ℕ) → (note_at (d.world.nodes s)).dark ≡ false → (fails : Fails) (said : Said) (new : Doubted) (line : ScriptLine)
+    → (note_at (d.world.nodes s)).loose ≡ false → RvgFinds told d line s fails said new → ⊥
+never_found told tells d s bright fails said new line agree finds = finds_none told tells (note_at (d.world.nodes s)) bright tight (unknown_found told d s fails said new line finds)
+  where
+    tight : (note_at (d.world.nodes s)).loose ≡ true → ⊥
+    tight loose = absurd (let e : true ≡ false = sym loose ∙ agree in cc)
+
+module _ (told : Type 0) (d : Doubted) (s : ℕ) (fails : Fails) (said : Said) (new : Doubted) where
+  -- Where the world has not strayed, nothing else came up from the disks: at most none was found, and a site that is up crashed.
+  pub finds_stops : (line : ScriptLine) → new.strayed ≡ false → RvgFinds told d line s fails said new → RvgStops d new
+  finds_stops line calm (FindsRvg kept taken next mid n k row c units are brings unknown dark is same comes config fits lies says left) =
+      absurd (let e : true ≡ false = sym left.strayed ∙ calm in cc)
+  finds_stops line calm (FindsPlain kept taken next mid has are brings unknown dark is none says left) = absurd (let e : true ≡ false = sym left.strayed ∙ calm in cc)
+  finds_stops line calm (FindsNoRvg kept taken lost next why has are brings unknown free notes says left) = fall_stops d s line kept taken lost next new left
 
   back_or : (line : ScriptLine) → RvgBack told d line s fails said new ⊎ RvgFinds told d line s fails said new → RvgStops d new ⊎ RvgFinds told d line s fails said new
   back_or line (inl back) = inl (back_stops told d line s fails said new back)
@@ -203,12 +202,11 @@ module _ (told : Type 0) (is_told : told) (d : Doubted) (s : ℕ) (bright : (not
   -- the line ended as events do, or found something on disks of which nothing is known
   pub stops_or_finds : (line : ScriptLine) → OpensFor d.world line → OverRvg told d line s fails said new → RvgStops d new ⊎ RvgFinds told d line s fails said new
   stops_or_finds (Recover site) opens ends = back_or (Recover site) ends
-  stops_or_finds other opens ends = inl (over_stops told d other s fails said new (is_told, bright) (opens_at d.world other opens) ends)
+  stops_or_finds other opens ends = inl (over_stops told d other s fails said new (λ recovers. recovers) (opens_at d.world other opens) ends)
 
-  pub over_rvg_stops : (line : ScriptLine) → (BringsUp line → AgreesOr (note_at (d.world.nodes s)) (note_at (new.world.nodes s))) → OpensFor d.world line
-      → OverRvg told d line s fails said new → RvgStops d new
-  over_rvg_stops line agree opens ends = by (stops_or_finds line opens ends)
+  pub over_rvg_stops : (line : ScriptLine) → new.strayed ≡ false → OpensFor d.world line → OverRvg told d line s fails said new → RvgStops d new
+  over_rvg_stops line calm opens ends = by (stops_or_finds line opens ends)
     where
       by : RvgStops d new ⊎ RvgFinds told d line s fails said new → RvgStops d new
       by (inl stops) = stops
-      by (inr finds) = finds_stops line (agree (brings_found told d line s fails said new finds)) finds
+      by (inr finds) = finds_stops line calm finds

@@ -1,4 +1,4 @@
--- However a line ends, it ends as events of the world do, where it is known what the disks of groups hold and imports of them agree.
+-- However a line ends, it ends as events of the world do, where the world has not strayed behind it.
 use Rattle.std.proofs.Common.{◌≡◌, inl, inr, ℕ, Bool, true, false, [], Option, Some, None, refl}
 use Rattle.std.specs.Prelude.{◌&&◌, not, eqb, is_some, length}
 use Rattle.vx_model.specs.declared.no.No.{No}
@@ -33,13 +33,6 @@ use Rattle.vx_events.specs.StepsOver.{WorksOver, facts_over, group_place, is_for
 use Rattle.vx_events.specs.declared.said.Said.{Said}
 use Rattle.vx_events.proofs.Tolds.{told_now}
 
--- imports agree of the site of a line that brings a group up, or it is known what its disks hold
-agrees_at : (w : World) (line : ScriptLine) (v : World) → AgreeFor w line v → BringsUp line
-    → AgreesOr (note_at (w.nodes (rvg_place w line))) (note_at (v.nodes (rvg_place w line)))
-agrees_at w (GroupImport site) v all brings = all.agree tt
-agrees_at w (Recover site) v all brings = all.agree tt
-agrees_at w other v all brings = absurd brings
-
 -- a site with a replicated volume group is over no group without one
 apart_of : (group : Bool) (none : Bool) → (group && not none) ≡ true → (group && none) ≡ false
 apart_of true true e = absurd (let f : false ≡ true = e in cc)
@@ -70,7 +63,7 @@ module _ (told : Type 0) (is_told : told) (files : Bool) (d : Doubted) (fails : 
       let stops = link_stops told is_told d line fails said new ends in
       record { before = d; like = same_doubted d; events = stops.events; ending = fails; stops = stops.stops }
   done_by_kind false line opens ends =
-      let stops = ended told is_told d line (opens_at d.world line opens) fails said new ends in
+      let stops = ended told d line (λ untold recovers. untold is_told) (opens_at d.world line opens) fails said new ends in
       record { before = d; like = same_doubted d; events = stops.events; ending = stops.ending; stops = stops.stops }
 
   -- ---- where a line writes its site is open
@@ -92,29 +85,28 @@ module _ (told : Type 0) (is_told : told) (files : Bool) (d : Doubted) (fails : 
   before_stops false line is free (inl step) = done_by_kind (is_of_links line) line (opens_apart line is free) step.ends
   before_stops false line is free (inr kept) = absurd (kept.untold is_told)
 
-module _ (told : Type 0) (is_told : told) (files : Bool) (d : Doubted) (fails : Fails) (said : Said) (new : Doubted) where
-  beside_stops : (line : ScriptLine) → AgreeFor d.world line new.world → refused_over d.world files line ≡ None → WorksBeside told d line fails said new → RvgStops d new
-  beside_stops line all free (AsBefore works found) =
-      before_stops (told_for told d.world line) (told_now told is_told d.world all.known (is_of_links line)) files d fails said new (is_for_group d.world line) line refl free works
-  beside_stops line all free (FoundOne finds) =
-      let s : ℕ = group_place d.world line in
-      finds_stops told is_told d s (all.known s) fails said new line (all.agree (brings_found told d line s fails said new finds)) finds
+module _ (told : Type 0) (is_told : told) (files : Bool) (d : Doubted) (fails : Fails) (said : Said) (new : Doubted) (calm : new.strayed ≡ false) (was : d.strayed ≡ false) where
+  beside_stops : (line : ScriptLine) → refused_over d.world files line ≡ None → WorksBeside told d line fails said new → RvgStops d new
+  beside_stops line free (AsBefore works found) =
+      before_stops (told_for told d line) (told_now told is_told d was (is_of_links line)) files d fails said new (is_for_group d.world line) line refl free works
+  beside_stops line free (FoundOne finds) = finds_stops told d (group_place d.world line) fails said new line calm finds
 
-  above_stops : (halts above : Bool) (line : ScriptLine) → AgreeFor d.world line new.world → is_for_rvg d.world line ≡ above → refused_over d.world files line ≡ None
+  above_stops : (halts above : Bool) (line : ScriptLine) → is_for_rvg d.world line ≡ above → refused_over d.world files line ≡ None
       → WorksAbove halts above told d line fails said new → RvgStops d new
-  above_stops true above line all is free ends = absurd ends
-  above_stops false true line all is free ends =
-      let s : ℕ = rvg_place d.world line in
-      over_rvg_stops told is_told d s (all.known s) fails said new line (agrees_at d.world line new.world all) (opens_above told is_told files d fails said new line is free) ends
-  above_stops false false line all is free ends = beside_stops line all free ends
+  above_stops true above line is free ends = absurd ends
+  above_stops false true line is free ends =
+      over_rvg_stops told d (rvg_place d.world line) fails said new line calm (opens_above told is_told files d fails said new line is free) ends
+  above_stops false false line is free ends = beside_stops line free ends
 
-  full_stops : (line : ScriptLine) → AgreeFor d.world line new.world → refused_over d.world files line ≡ None → WorksFull told d line fails said new → RvgStops d new
-  full_stops (Rvg site srl maps volumes) all free ends = rvg_stops told d (Rvg site srl maps volumes) (site_number d.world site) fails said new ends
-  full_stops other all free ends = above_stops (is_open d.world other) (is_for_rvg d.world other) other all refl free ends
+  full_stops : (line : ScriptLine) → refused_over d.world files line ≡ None → WorksFull told d line fails said new → RvgStops d new
+  full_stops (Rvg site srl maps volumes) free ends = rvg_stops told d (Rvg site srl maps volumes) (site_number d.world site) fails said new ends
+  full_stops other free ends = above_stops (is_open d.world other) (is_for_rvg d.world other) other refl free ends
 
-  by_refusal : (line : ScriptLine) (o : Option No) → AgreeFor d.world line new.world → refused_over d.world files line ≡ o → FullBy o told d line fails said new → RvgStops d new
-  by_refusal line (Some why) all is step = refused_stops told is_told files d fails said new why step
-  by_refusal line None all is step = full_stops line all is step
+  by_refusal : (line : ScriptLine) (o : Option No) → refused_over d.world files line ≡ o → FullBy o told d line fails said new → RvgStops d new
+  by_refusal line (Some why) is step = refused_stops told is_told files d fails said new why step
+  by_refusal line None is step = full_stops line is step
 
-  pub step_stops : (line : ScriptLine) → AgreeFor d.world line new.world → StepFull told files d line fails said new → RvgStops d new
-  step_stops line all step = by_refusal line (refused_over d.world files line) all refl step
+pub step_stops : (told : Type 0) → told → (files : Bool) (d : Doubted) (fails : Fails) (said : Said) (new : Doubted) (line : ScriptLine) → new.strayed ≡ false
+    → StepFull told files d line fails said new → RvgStops d new
+step_stops told is_told files d fails said new line calm step =
+    by_refusal told is_told files d fails said new calm (step_calm told files d line fails said new step calm) line (refused_over d.world files line) refl step

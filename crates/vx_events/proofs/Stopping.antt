@@ -252,8 +252,12 @@ module _ (d : Doubted) (all : List Event) (s kept : ℕ) (fails : Fails) (new : 
       absurd (subst (λ (x : Event). WritesAHeader d.world x s) (first_same f (RecoverAt p (Some disk)) leaves) writes)
   header_ended other f disk is may_write leaves writes one like = absurd leaves
 
--- a line whose site is up and runs, where it writes
-module _ (told : Type 0) (is_told : told) (d : Doubted) (line : ScriptLine)
+abbrev pub Recovers : ScriptLine → Type 0
+Recovers (Recover site) = Unit {0}
+Recovers other = ⊥
+
+-- a line whose site is up and runs, where it writes, and of whose disks contents are told where it recovers it
+module _ (told : Type 0) (d : Doubted) (line : ScriptLine) (finds : (told → ⊥) → Recovers line → ⊥)
     (opens : (c : Choice) → BeginsWrite (events_of d.world line c) → IsOpen (d.world.nodes (place_of d.world line)) × (place_of d.world line < d.world.sites)) where
   abbrev s : ℕ
   s = place_of d.world line
@@ -300,13 +304,15 @@ module _ (told : Type 0) (is_told : told) (d : Doubted) (line : ScriptLine)
         came = First (events_of d.world line c) refl;
         stops = all_stop false d [] [] new refl (left_like s line false d d new leads);
       })
-  ended fails said new (FindsLinks untold c taken site mid n k row is from comes none says leads) = absurd (untold is_told)
-  ended fails said new (FindsNone untold c taken site mid n why is from other none says leads) = absurd (untold is_told)
+  ended fails said new (FindsLinks untold c taken site mid n k row is from comes none says leads) = absurd (finds untold (subst (λ (l : ScriptLine). Recovers l) (sym is) tt))
+  ended fails said new (FindsNone untold c taken site mid n why is from other none says leads) = absurd (finds untold (subst (λ (l : ScriptLine). Recovers l) (sym is) tt))
 
-  -- of any kind
-  ended_by_kind : (links : Bool) (fails : Fails) (said : Said) (new : Doubted) → EndsBy links told d line fails said new → StopsBy links d line fails new
-  ended_by_kind true fails said new ends = link_stops told is_told d line fails said new ends
-  ended_by_kind false fails said new ends = ended fails said new ends
+-- a line of any kind
+ended_by_kind : (told : Type 0) → told → (d : Doubted) (line : ScriptLine)
+    → ((c : Choice) → BeginsWrite (events_of d.world line c) → IsOpen (d.world.nodes (place_of d.world line)) × (place_of d.world line < d.world.sites))
+    → (links : Bool) (fails : Fails) (said : Said) (new : Doubted) → EndsBy links told d line fails said new → StopsBy links d line fails new
+ended_by_kind told is_told d line opens true fails said new ends = link_stops told is_told d line fails said new ends
+ended_by_kind told is_told d line opens false fails said new ends = ended told d line (λ untold recovers. untold is_told) opens fails said new ends
 
 -- a line that a test refuses stands for none of its events
 refused : (links : Bool) (d : Doubted) (line : ScriptLine) (why : No) (fails : Fails) (said : Said) (new : Doubted) → IsRefusedLine why d fails said new → StopsBy links d line fails new

@@ -1,15 +1,17 @@
 -- What an event at one site changes of a world in which sites may be in doubt, place by place.
-use Rattle.std.specs.Prelude.{◌≡◌, ℕ, ◌+◌, List, Option}
+use Rattle.std.specs.Prelude.{◌≡◌, ℕ, ◌+◌, false, List, Option}
 use Rattle.vx_history.specs.Doubts.{After, Doubted}
 use Rattle.vx_history.specs.World.{Gathering, Link, Node, Packet}
 
--- each other site is as it was: its node, its links, the headers of its log, what it may be besides, and what it puts together
+-- Each other site is as it was: its node, its links, the headers of its log, what it may be besides, and what it puts together. The world has not strayed before where it
+-- has not behind that.
 pub record ChangesNode (s : ℕ) (d e : Doubted) : Type 0 where
   pub sites : e.world.sites ≡ d.world.sites
   pub nodes : (i : ℕ) → (i ≡ s → ⊥) → e.world.nodes i ≡ d.world.nodes i
   pub links : (i k : ℕ) → (i ≡ s → ⊥) → e.world.links i k ≡ d.world.links i k
   pub headers : (i : ℕ) → (i ≡ s → ⊥) → e.world.headers i ≡ d.world.headers i
   pub after : (i : ℕ) → (i ≡ s → ⊥) → e.after i ≡ d.after i
+  pub strayed : e.strayed ≡ false → d.strayed ≡ false
   pub gathering : (i : ℕ) → (i ≡ s → ⊥) → e.world.gathering i ≡ d.world.gathering i
 
 -- besides, no packet is sent, and what the site itself puts together stays
@@ -33,6 +35,7 @@ pub record AddsSite (d e : Doubted) (n : Node) : Type 0 where
   pub links : (i k : ℕ) → e.world.links i k ≡ d.world.links i k
   pub headers : (i : ℕ) → e.world.headers i ≡ d.world.headers i
   pub after : (i : ℕ) → e.after i ≡ d.after i
+  pub strayed : e.strayed ≡ false → d.strayed ≡ false
   pub packets : e.world.packets ≡ d.world.packets
   pub gathering : (i : ℕ) → e.world.gathering i ≡ d.world.gathering i
 

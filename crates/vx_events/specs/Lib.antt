@@ -43,4 +43,5 @@ pub mod Settles
 pub mod Stamps
 pub mod StepsOver
 pub mod Stopping
+pub mod Strays
 pub mod Views

@@ -143,6 +143,7 @@ pub record MovesBetween (p s : ℕ) (d e : Doubted) : Type 0 where
   pub sent : e.world.packets ≡ d.world.packets ++ more
   pub all : AllByRecursion (GoesOn p s d.world) more
   pub after : (i : ℕ) → e.after i ≡ d.after i
+  pub strayed : e.strayed ≡ d.strayed
 
 -- how it ends behind that
 pub data EndsBetween (p s : ℕ) (d middle : Doubted) (fails : Fails) (said : Said) (last : Doubted) : Type 0 where

@@ -33,6 +33,7 @@ use Rattle.vx_events.specs.RvgFits.{FitsRvg, HasUnits, NoteKeepsRvg, rvg_noted}
 use Rattle.vx_events.specs.RvgViews.{is_over_rvg, over_disks}
 use Rattle.vx_events.specs.RvgWorks.{NotesWork, WorksCut}
 use Rattle.vx_events.specs.Stamps.{most_stamp_at}
+use Rattle.vx_events.specs.Strays.{gone_astray}
 use Rattle.vx_events.specs.declared.said.Said.{Said}
 use Rattle.vx_events.specs.declared.said.Said.TheVariants.{Done, Refused, Resumed}
 
@@ -114,18 +115,18 @@ SaysFoundUp (Recover site) s next v said = (kept : Option Kept) × (said ≡ rvg
 SaysFoundUp (GroupImport site) s next v said = said ≡ Done
 SaysFoundUp other s next v said = ⊥
 
--- what stood on disks of which nothing is known came up with the links that the header of its log keeps, or was refused
+-- What stood on disks of which nothing is known came up with the links that the header of its log keeps, and the world has strayed; or it was refused.
 pub data RvgFinds (told : Type 0) (d : Doubted) (line : ScriptLine) (s : ℕ) (fails : Fails) (said : Said) (new : Doubted) : Type 0 where
   FindsRvg : (kept : ℕ) (taken : Bool) (next : GroupNode) (mid : Doubted) (n k : Node) (row : ℕ → Link) (c : Config) (units : Units) → AreOf s fails → BringsUp line
       → KnowsNothing told (note_at (d.world.nodes s)) → (told → next.dark ≡ true) → mid ≡ run_as taken d (fall_first (d.world.nodes s).state s kept)
       → n ≡ record (mid.world.nodes s) { volumes = k.volumes; group = k.group } → ComesUpAs s mid.world.sites n k row → config_of next.config ≡ Some c → FitsRvg k c units → HasUnits c.volumes units
       → SaysFoundUp line s next (found_linked mid s k row).world said
-      → IsLeftBack s line taken next d (found_linked mid s k row) new → RvgFinds told d line s fails said new
+      → IsLeftBack s line taken next d (gone_astray (found_linked mid s k row)) new → RvgFinds told d line s fails said new
   -- a site that had one came up without
   FindsPlain : (kept : ℕ) (taken : Bool) (next : GroupNode) (mid : Doubted) → is_over_rvg (d.world.nodes s) ≡ true → AreOf s fails → BringsUp line
       → KnowsNothing told (note_at (d.world.nodes s)) → (told → next.dark ≡ true) → mid ≡ run_as taken d (fall_first (d.world.nodes s).state s kept)
       → rvg_noted next ≡ None → SaysFound (mid.world.nodes s) line next said
-      → IsLeftBack s line taken next d (found_linked mid s (group_set s (mid.world.nodes s)) (λ k. no_link)) new → RvgFinds told d line s fails said new
+      → IsLeftBack s line taken next d (gone_astray (found_linked mid s (group_set s (mid.world.nodes s)) (λ k. no_link))) new → RvgFinds told d line s fails said new
   FindsNoRvg : (kept : ℕ) (taken lost : Bool) (next : GroupNode) (why : No) → is_over_rvg (d.world.nodes s) ≡ true → AreOf s fails → BringsUp line
       → KnowsNothing told (note_at (d.world.nodes s))
       → IsNoDevice why → NotesRefused (note_at (d.world.nodes s)) next → said ≡ Refused why

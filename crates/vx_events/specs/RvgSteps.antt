@@ -6,7 +6,6 @@ use Rattle.vx_history.specs.Doubts.{Doubted}
 use Rattle.vx_history.specs.World.{World}
 use Rattle.vx_script.specs.declared.line.ScriptLine.{ScriptLine}
 use Rattle.vx_script.specs.declared.line.ScriptLine.TheVariants.{GroupDeport, GroupImport, Volume, PlexDetach, PlexAttach, Rvg, Disk, Crash, Fuse, Recover, Write, Put, Read, Show, Apply, Status}
-use Rattle.vx_events.specs.Brights.{SitesBright, told_for}
 use Rattle.vx_events.specs.Ends.{place_of}
 use Rattle.vx_events.specs.Facts.{site_number}
 use Rattle.vx_events.specs.Fails.{Fails}
@@ -20,8 +19,8 @@ use Rattle.vx_events.specs.RvgFits.{rvg_noted}
 use Rattle.vx_events.specs.RvgMakes.{MakesRvg}
 use Rattle.vx_events.specs.RvgOver.{OverRvg}
 use Rattle.vx_events.specs.RvgViews.{is_over_rvg}
-use Rattle.vx_events.specs.RvgWorks.{AgreesOr}
 use Rattle.vx_events.specs.StepsOver.{WorksOver, group_place, is_for_group, refused_over}
+use Rattle.vx_events.specs.Strays.{told_for}
 use Rattle.vx_events.specs.declared.said.Said.{Said}
 
 -- ---- lines
@@ -63,7 +62,7 @@ FoundPlain line s new = BringsUp line → s < new.world.sites → is_over_group 
 
 -- A line at no site that has a replicated volume group over a group of disks. One that brings a group up, of a site over one or of a bare one, may find one.
 pub data WorksBeside (told : Type 0) (d : Doubted) (line : ScriptLine) (fails : Fails) (said : Said) (new : Doubted) : Type 0 where
-  AsBefore : WorksOver (is_for_group d.world line) (told_for told d.world line) d line fails said new → FoundPlain line (group_place d.world line) new → WorksBeside told d line fails said new
+  AsBefore : WorksOver (is_for_group d.world line) (told_for told d line) d line fails said new → FoundPlain line (group_place d.world line) new → WorksBeside told d line fails said new
   FoundOne : RvgFinds told d line (group_place d.world line) fails said new → WorksBeside told d line fails said new
 
 abbrev pub WorksAbove : (halts above : Bool) → Type 0 → Doubted → ScriptLine → Fails → Said → Doubted → Type 0
@@ -94,8 +93,3 @@ HasNoRvgs w = (i : ℕ) → is_over_rvg (w.nodes i) ≡ false
 abbrev pub MakesNoRvg : ScriptLine → Type 0
 MakesNoRvg (Rvg site srl maps volumes) = ⊥
 MakesNoRvg other = Unit {0}
-
--- it is known what the disks of groups hold; and where the line brings a group up, imports of it agree, or it is known too what its disks hold in the world behind it
-pub record AgreeFor (w : World) (line : ScriptLine) (v : World) : Type 0 where
-  pub known : SitesBright w
-  pub agree : BringsUp line → AgreesOr (note_at (w.nodes (group_place w line))) (note_at (v.nodes (group_place w line)))

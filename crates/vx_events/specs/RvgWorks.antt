@@ -1,5 +1,5 @@
 -- What calls on the volumes of a group of disks leave of its note, where a line makes several of them.
-use Rattle.std.specs.Prelude.{◌≡◌, ◌⊎◌, ℕ, false, [], Option, Contains}
+use Rattle.std.specs.Prelude.{◌≡◌, ℕ, false, [], Option, Contains}
 use Rattle.vx_model.specs.Content.{Write}
 use Rattle.vx_model.specs.declared.no.No.TheVariants.{Down as IsOff}
 use Rattle.vx_history.specs.Groups.{GroupNode, NoteWorks}
@@ -15,10 +15,6 @@ use Rattle.vx_events.specs.declared.said.Said.TheVariants.{Refused}
 pub record NoteAgrees (note : GroupNode) : Type 0 where
   pub loose : note.loose ≡ false
   pub begun : note.begun ≡ []
-
--- imports of a group agree, or it is known behind a line what its disks hold
-abbrev pub AgreesOr : (note next : GroupNode) → Type 0
-AgreesOr note next = (note.loose ≡ false) ⊎ (next.dark ≡ false)
 
 -- no call at this site failed
 abbrev pub NoneFailed : (s : ℕ) → Fails → Type 0

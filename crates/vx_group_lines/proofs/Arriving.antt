@@ -69,6 +69,7 @@ changes_at d e s m before = changes_then s d e (with_at e s m) before (record {
   links = λ i k apart. refl;
   headers = λ i apart. refl;
   after = λ i apart. refl;
+  strayed = λ calm. calm;
   gathering = λ i apart. refl;
 })
 

@@ -60,6 +60,7 @@ given_effect d s m o more = record {
     links = λ i k apart. refl;
     headers = λ i apart. refl;
     after = λ i apart. refl;
+    strayed = λ calm. calm;
     gathering = λ i apart. updated_other d.world.gathering s i o apart;
   };
   is = record { node = at_place d.world.nodes s m; links = λ k. refl; headers = refl; after = refl };
@@ -70,7 +71,7 @@ given_effect d s m o more = record {
 -- nothing was done
 same_effect : (d : Doubted) (s : ℕ) → EffectAt s d d (d.world.nodes s) (d.world.links s) (d.world.headers s) (d.after s) d.world.packets (d.world.gathering s)
 same_effect d s = record {
-  site = record { sites = refl; nodes = λ i apart. refl; links = λ i k apart. refl; headers = λ i apart. refl; after = λ i apart. refl; gathering = λ i apart. refl };
+  site = record { sites = refl; nodes = λ i apart. refl; links = λ i k apart. refl; headers = λ i apart. refl; after = λ i apart. refl; strayed = λ calm. calm; gathering = λ i apart. refl };
   is = record { node = refl; links = λ k. refl; headers = refl; after = refl };
   sent = refl;
   gathering = refl;

@@ -37,6 +37,7 @@ noted_effect note s notes d h f = record {
     links = f.site.links;
     headers = f.site.headers;
     after = f.site.after;
+    strayed = f.site.strayed;
     gathering = f.site.gathering;
   };
   is = record { node = notes.here h.world.nodes ∙ ap (λ (m : Node). worked m) f.is.node; links = f.is.links; headers = f.is.headers; after = f.is.after };
@@ -138,6 +139,7 @@ module _ (note : (ℕ → Node) → ℕ → Node) (s : ℕ) (notes : NotesAt s n
           links = c.links;
           headers = c.headers;
           after = c.after;
+          strayed = c.strayed;
           gathering = c.gathering;
         }
 

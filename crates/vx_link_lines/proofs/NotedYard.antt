@@ -80,6 +80,7 @@ module _ {R : Type 0} {g : Ghosts R} where
           links = λ i k apart. refl;
           headers = λ i apart. refl;
           after = λ i apart. refl;
+          strayed = λ calm. calm;
           gathering = λ i apart. refl;
         };
         links = fit_worked d s stands.links;

@@ -82,6 +82,7 @@ module _ (p s : ℕ) (d : Doubted) (may : MayMove p s d.world) where
     sent = m.site.sent;
     all = m.site.all;
     after = λ i. refl;
+    strayed = refl;
   }
     where
       neither : (i : ℕ) → (i ≡ p → ⊥) → (i ≡ s → ⊥) → (g ≡ p) ⊎ (g ≡ s) → i ≡ g → ⊥
@@ -108,6 +109,7 @@ module _ (p s : ℕ) (d : Doubted) (may : MayMove p s d.world) where
     sent = sym (append-nil d.world.packets);
     all = tt;
     after = λ i. refl;
+    strayed = refl;
   }
 
   pub connects : (taken : Bool) → MovesBetween p s d (happened d (Connect p s) taken)
@@ -257,6 +259,7 @@ module _ (p s : ℕ) (d e f : Doubted) where
         sent = b.sent ∙ ap (λ (ps : List Packet). ps ++ b.more) a.sent ∙ append_assoc d.world.packets a.more b.more;
         all = each_append (GoesOn p s d.world) a.more b.more a.all (each_weaker (GoesOn p s e.world) (GoesOn p s d.world) (went p s d e a) b.more b.all);
         after = λ i. b.after i ∙ a.after i;
+        strayed = b.strayed ∙ a.strayed;
       }
 
 module _ (p s : ℕ) (d e : Doubted) (m : MovesBetween p s d e) where

@@ -241,7 +241,7 @@ module _ {R : Type 0} {g : Ghosts R} where
 
     comes_recounted : Comes d (recounted d d.world) s after
     comes_recounted = record {
-      changes = record { sites = refl; nodes = λ i apart. refl; links = λ i k apart. refl; headers = λ i apart. no_more (d.world.headers i); after = λ i apart. refl; gathering = λ i apart. refl };
+      changes = record { sites = refl; nodes = λ i apart. refl; links = λ i k apart. refl; headers = λ i apart. no_more (d.world.headers i); after = λ i apart. refl; strayed = λ calm. calm; gathering = λ i apart. refl };
       links = recounted_fits d stands.links;
       stands = subst (λ (b : KeptBeside). SiteStands b (d.world.nodes s) after) (sym (beside_same d (recounted d d.world) s refl (λ k. refl) (no_more (d.world.headers s)) refl)) here;
       failing = comes.failing;

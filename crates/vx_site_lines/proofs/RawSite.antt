@@ -188,6 +188,7 @@ module _ {R : Type 0} {g : Ghosts R} where
           links = λ i k apart. refl;
           headers = λ i apart. no_more (d.world.headers i);
           after = λ i apart. refl;
+          strayed = λ calm. calm;
           gathering = λ i apart. refl;
         };
         links = raw_fits d s found.outcome stands.links;

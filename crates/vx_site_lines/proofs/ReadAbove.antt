@@ -167,7 +167,7 @@ module _ {R : Type 0} {g : Ghosts R} (d : Doubted) (old new : Yard R g) (name vo
 
     reach_counted : Reaches d (recounted d d.world) s n (Over p)
     reach_counted = record {
-      changes = record { sites = refl; nodes = λ i apart. refl; links = λ i k apart. refl; headers = λ i apart. no_more (d.world.headers i); after = λ i apart. refl; gathering = λ i apart. refl };
+      changes = record { sites = refl; nodes = λ i apart. refl; links = λ i k apart. refl; headers = λ i apart. no_more (d.world.headers i); after = λ i apart. refl; strayed = λ calm. calm; gathering = λ i apart. refl };
       here = refl;
       links = recounted_fits d stands.links;
       stands = subst (λ (b : KeptBeside). SiteStands b n (Over p)) (sym (beside_same d (recounted d d.world) s refl (λ k. refl) (no_more (d.world.headers s)) refl)) stood;

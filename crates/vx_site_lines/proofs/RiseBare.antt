@@ -79,7 +79,7 @@ module _ {R : Type 0} {g : Ghosts R} where
   -- a site of which a refused event counts no header
   comes_counted : (d : Doubted) (s : ℕ) (after : DiskSet R g) → Comes d d s after → Comes d (recounted d d.world) s after
   comes_counted d s after comes = record {
-    changes = record { sites = refl; nodes = λ i apart. refl; links = λ i k apart. refl; headers = λ i apart. no_more (d.world.headers i); after = λ i apart. refl; gathering = λ i apart. refl };
+    changes = record { sites = refl; nodes = λ i apart. refl; links = λ i k apart. refl; headers = λ i apart. no_more (d.world.headers i); after = λ i apart. refl; strayed = λ calm. calm; gathering = λ i apart. refl };
     links = recounted_fits d comes.links;
     stands = subst (λ (b : KeptBeside). SiteStands b (d.world.nodes s) after) (sym (beside_same d (recounted d d.world) s refl (λ k. refl) (no_more (d.world.headers s)) refl)) comes.stands;
     failing = comes.failing;

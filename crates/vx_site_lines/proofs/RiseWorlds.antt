@@ -63,6 +63,7 @@ module _ (s : ℕ) (w : World) (h last : Doubted) (n : Node) (row : ℕ → Link
       links = eff.site.links;
       headers = eff.site.headers;
       after = eff.site.after;
+      strayed = eff.site.strayed;
       gathering = eff.site.gathering;
     };
     is = record {
@@ -180,6 +181,7 @@ found_effect h s k row = record {
     links = λ i j apart. ap (λ (r : ℕ → Link). r j) (apart_place h.world.links s row i apart);
     headers = λ i apart. refl;
     after = λ i apart. refl;
+    strayed = λ calm. calm;
     gathering = λ i apart. refl;
   };
   is = record { node = at_place h.world.nodes s k; links = λ j. ap (λ (r : ℕ → Link). r j) (at_place h.world.links s row); headers = refl; after = refl };

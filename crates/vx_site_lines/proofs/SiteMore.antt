@@ -183,6 +183,7 @@ site_adds d name disks blocks = record {
   links = λ i k. refl;
   headers = λ i. no_more (d.world.headers i);
   after = λ i. refl;
+  strayed = λ calm. calm;
   packets = refl;
   gathering = λ i. refl;
 }

@@ -86,6 +86,7 @@ changes_disks true s w h = record {
   links = λ i k apart. refl;
   headers = λ i apart. refl;
   after = λ i apart. refl;
+  strayed = λ calm. calm;
   gathering = λ i apart. refl;
 }
 

@@ -44,6 +44,7 @@ changes_one d s n = record {
   links = λ i k apart. refl;
   headers = λ i apart. refl;
   after = λ i apart. refl;
+  strayed = λ calm. calm;
   gathering = λ i apart. refl;
 }
 
@@ -128,7 +129,7 @@ module _ {R : Type 0} {g : Ghosts R} where
   -- a site of which nothing is noted
   pub comes_same : (d : Doubted) (s : ℕ) (after : DiskSet R g) → LinksFit d → SiteStands (beside_of d s) (d.world.nodes s) after → FailsAs (d.world.nodes s) after → FusedAs (d.world.nodes s) after → RoleIs (d.world.nodes s) after → Comes d d s after
   comes_same d s after fits stands failing fuse role = record {
-    changes = record { sites = refl; nodes = λ i apart. refl; links = λ i k apart. refl; headers = λ i apart. refl; after = λ i apart. refl; gathering = λ i apart. refl };
+    changes = record { sites = refl; nodes = λ i apart. refl; links = λ i k apart. refl; headers = λ i apart. refl; after = λ i apart. refl; strayed = λ calm. calm; gathering = λ i apart. refl };
     links = fits;
     stands = stands;
     failing = failing;

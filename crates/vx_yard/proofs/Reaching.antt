@@ -60,7 +60,7 @@ module _ {R : Type 0} {g : Ghosts R} where
   -- one of which nothing happened
   pub reaches_same : (d : Doubted) (s : ℕ) (after : DiskSet R g) → LinksFit d → SiteStands (beside_of d s) (d.world.nodes s) after → RoleIs (d.world.nodes s) after → Reaches d d s (d.world.nodes s) after
   reaches_same d s after fits stands role = record {
-    changes = record { sites = refl; nodes = λ i apart. refl; links = λ i k apart. refl; headers = λ i apart. refl; after = λ i apart. refl; gathering = λ i apart. refl };
+    changes = record { sites = refl; nodes = λ i apart. refl; links = λ i k apart. refl; headers = λ i apart. refl; after = λ i apart. refl; strayed = λ calm. calm; gathering = λ i apart. refl };
     here = refl;
     links = fits;
     stands = stands;
