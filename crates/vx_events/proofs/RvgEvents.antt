@@ -4,32 +4,30 @@ use Rattle.std.specs.Prelude.{◌&&◌, not, eqb, is_some, length}
 use Rattle.vx_model.specs.declared.no.No.{No}
 use Rattle.vx_history.specs.Doubts.{Doubted}
 use Rattle.vx_history.specs.Stops.{AllDone as EventsDone}
-use Rattle.vx_history.specs.World.{Node, World}
+use Rattle.vx_history.specs.World.{Node}
 use Rattle.vx_script.specs.declared.line.ScriptLine.{ScriptLine}
-use Rattle.vx_script.specs.declared.line.ScriptLine.TheVariants.{GroupImport, Put, Recover, Rvg, Write}
+use Rattle.vx_script.specs.declared.line.ScriptLine.TheVariants.{Put, Rvg, Write}
 use Rattle.vx_events.proofs.GroupStopping.{group_stops}
 use Rattle.vx_events.proofs.LinkStopping.{link_stops}
 use Rattle.vx_events.proofs.Noting.{same_like}
 use Rattle.vx_events.proofs.RvgEnding.{finds_stops, opens_at, over_rvg_stops}
-use Rattle.vx_events.proofs.RvgFull.{brings_found}
 use Rattle.vx_events.proofs.RefusedCalls.{put_may, write_may}
 use Rattle.vx_events.proofs.Stopping.{writes_open}
 use Rattle.vx_events.proofs.RvgStopping.{rvg_stops, same_doubted}
+use Rattle.vx_events.proofs.StrayLines.{step_calm}
 use Rattle.vx_events.proofs.Stopping.{ended}
 use Rattle.vx_events.specs.Facts.{site_number}
 use Rattle.vx_events.specs.Fails.{Fails}
-use Rattle.vx_events.specs.GroupEnds.{BringsUp, GroupEnds}
+use Rattle.vx_events.specs.GroupEnds.{GroupEnds}
 use Rattle.vx_events.specs.GroupLines.{is_over_group}
-use Rattle.vx_events.specs.GroupNotes.{note_at}
-use Rattle.vx_events.specs.Brights.{told_for}
 use Rattle.vx_events.specs.Lines.{EndsBy, IsRefusedLine, is_of_links}
 use Rattle.vx_events.specs.OpenLines.{is_open}
 use Rattle.vx_events.specs.RvgMakes.{RvgStops}
 use Rattle.vx_events.specs.RvgOver.{OpensFor}
-use Rattle.vx_events.specs.RvgSteps.{AgreeFor, AsBefore, FoundOne, FullBy, StepFull, WorksAbove, WorksBeside, WorksFull, is_for_rvg, rvg_place}
+use Rattle.vx_events.specs.RvgSteps.{AsBefore, FoundOne, FullBy, StepFull, WorksAbove, WorksBeside, WorksFull, is_for_rvg, rvg_place}
 use Rattle.vx_events.specs.RvgViews.{is_over_rvg}
-use Rattle.vx_events.specs.RvgWorks.{AgreesOr}
 use Rattle.vx_events.specs.StepsOver.{WorksOver, facts_over, group_place, is_for_group, refused_over}
+use Rattle.vx_events.specs.Strays.{told_for}
 use Rattle.vx_events.specs.declared.said.Said.{Said}
 use Rattle.vx_events.proofs.Tolds.{told_now}
 
