@@ -7,7 +7,7 @@ use Rattle.vx_model.specs.declared.errors.OutOfMemory.{OutOfMemory}
 use Rattle.vx_disk.specs.declared.shelf.Shelf.{Ghosts}
 use Rattle.vx_script.specs.declared.line.ScriptLine.{ScriptLine}
 use Rattle.vx_script.specs.declared.line.ScriptLine.TheVariants.{Rvg}
-use Rattle.vx_events.specs.Brights.{told_for}
+use Rattle.vx_events.specs.Strays.{told_for}
 use Rattle.vx_events.specs.Fails.{Fails}
 use Rattle.vx_events.specs.Lines.{is_of_links}
 use Rattle.vx_events.specs.OpenLines.{is_open}
@@ -76,7 +76,7 @@ module _ {R : Type 0} {g : Ghosts R} where
       next = leads.next;
       fails = leads.fails;
       works = beside_full (IsTold new) d line leads.fails said leads.next none closed off
-          (AsBefore (works_told (λ (t : told_for (IsTold new) d.world line). told_less (IsTold new) d.world (is_of_links line) t) (is_for_group d.world line) d line leads.fails said leads.next
+          (AsBefore (works_told (λ (t : told_for (IsTold new) d line). told_less (IsTold new) d (is_of_links line) t) (is_for_group d.world line) d line leads.fails said leads.next
           (subst (λ (b : Bool). WorksOver b (IsTold new) d line leads.fails said leads.next) (sym plain) (inl leads.done))) (found_plain line (group_place d.world line) leads.next new leads.stands));
       stands = leads.stands;
       carries = leads.carries;
@@ -107,7 +107,7 @@ module _ {R : Type 0} {g : Ghosts R} where
       next = leads.next;
       fails = leads.fails;
       works = beside_full (IsTold new) d line leads.fails said leads.next none closed off
-          (AsBefore (works_told (λ (t : told_for (IsTold new) d.world line). told_less (IsTold new) d.world (is_of_links line) t) (is_for_group d.world line) d line leads.fails said leads.next
+          (AsBefore (works_told (λ (t : told_for (IsTold new) d line). told_less (IsTold new) d (is_of_links line) t) (is_for_group d.world line) d line leads.fails said leads.next
           (subst (λ (b : Bool). WorksOver b (IsTold new) d line leads.fails said leads.next) (sym over) leads.done)) (found_plain line (group_place d.world line) leads.next new leads.stands));
       stands = leads.stands;
       carries = leads.carries;

@@ -14,7 +14,7 @@ use Rattle.vx_events.specs.GroupNotes.{note_at}
 use Rattle.vx_events.specs.Lines.{is_of_links}
 use Rattle.vx_events.specs.Parts.{StopsBetween, StopsDown, StopsInPart, StopsRead, StopsShort}
 use Rattle.vx_events.specs.RvgBack.{GroupHeld, GroupUnfound, KeptLost, LogFails, LogLacks, FindsNoRvg, FindsPlain, FindsRvg, RvgBack, RvgFinds, RvgUp}
-use Rattle.vx_events.specs.Brights.{told_for}
+use Rattle.vx_events.specs.Strays.{told_for}
 use Rattle.vx_events.specs.OpenLines.{is_open}
 use Rattle.vx_events.specs.RvgMakes.{MakesRvg, RvgCut, RvgDone, RvgFails, RvgLacks}
 use Rattle.vx_events.specs.RvgNotes.{NotesLacking, NotesNarrowed, NotesNoRvg, NotesRvg}
@@ -97,7 +97,7 @@ module _ {T U : Type 0} (f : U → T) where
 
   beside_told : (d : Doubted) (line : ScriptLine) (fails : Fails) (said : Said) (new : Doubted) → WorksBeside T d line fails said new → WorksBeside U d line fails said new
   beside_told d line fails said new (AsBefore works found) =
-      AsBefore (works_told (λ (u : told_for U d.world line). for_more f d.world (is_of_links line) u) (is_for_group d.world line) d line fails said new works) found
+      AsBefore (works_told (λ (u : told_for U d line). for_more f d (is_of_links line) u) (is_for_group d.world line) d line fails said new works) found
   beside_told d line fails said new (FoundOne x) = FoundOne (found_told d line (group_place d.world line) fails said new x)
 
   above_told : (halts above : Bool) (d : Doubted) (line : ScriptLine) (fails : Fails) (said : Said) (new : Doubted) → WorksAbove halts above T d line fails said new → WorksAbove halts above U d line fails said new

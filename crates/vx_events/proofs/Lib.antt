@@ -44,6 +44,8 @@ pub mod Rows
 pub mod Steps
 pub mod Stopping
 pub mod StoppingCuts
+pub mod StrayFinds
+pub mod StrayLines
 pub mod Straying
 pub mod Testing
 pub mod Tolds

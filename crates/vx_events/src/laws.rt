@@ -23,13 +23,12 @@ ghost use Rattle.vx_config.specs.declared.config.Config.{Config};
 ghost use Rattle.vx_events.specs.GroupViews.{config_of};
 ghost use Rattle.vx_events.specs.RvgFits.{FitsNoted, FitsSome, MayGetRvg, NoteKeepsRvg, rvg_noted};
 ghost use Rattle.vx_events.specs.RvgBack.{RvgBack};
-ghost use Rattle.vx_events.specs.RvgWorks.{AgreesOr, FuseRanOut, NoneFailed, NoteAgrees};
+ghost use Rattle.vx_events.specs.RvgWorks.{FuseRanOut, NoneFailed, NoteAgrees};
 ghost use Rattle.vx_events.specs.declared.said.Said.TheVariants.{Done as SaysDone};
-ghost use Rattle.vx_events.specs.Brights.{SitesBright};
 ghost use Rattle.vx_events.specs.RvgMakes.{MakesRvg, RvgStops};
 ghost use Rattle.vx_events.specs.RvgOver.{OpensFor, OverRvg};
-ghost use Rattle.vx_events.specs.RvgParts.{RvgShort};
-ghost use Rattle.vx_events.specs.RvgSteps.{AgreeFor, FoundPlain, HasNoRvgs, MakesNoRvg, StepFull};
+ghost use Rattle.vx_events.specs.RvgParts.{RvgShort, ShortFull};
+ghost use Rattle.vx_events.specs.RvgSteps.{FoundPlain, HasNoRvgs, MakesNoRvg, StepFull};
 ghost use Rattle.vx_events.specs.RvgViews.{is_over_rvg};
 ghost use Rattle.vx_events.specs.Fails.{AreBorne, Fails};
 ghost use Rattle.vx_events.specs.Lines.{LineStep, is_of_links};
@@ -38,6 +37,7 @@ ghost use Rattle.vx_events.specs.Parts.{DonePart, FellFirst, ReadFirst, StopsSho
 ghost use Rattle.vx_events.specs.Plain.{HasNoGroups, IsUnlinked, IsSizedAs};
 ghost use Rattle.vx_events.specs.StepsOver.{MakesNoGroup, StepOver, group_place, is_for_group, refused_over};
 ghost use Rattle.vx_events.specs.Stopping.{StopsBy};
+ghost use Rattle.vx_events.specs.Strays.{NotesNoRvgs};
 ghost use Rattle.vx_events.specs.declared.said.Said.{Said};
 
 use vx_model::limits::BLOCK;
@@ -123,12 +123,10 @@ pub fn made_rvgs_fit()
         → FitsNoted (new.world.nodes (site_number d.world site)) }
 {}
 
-/// So does each line at a site over a group of disks with a replicated volume group, where it is known what the disks hold; of one that brings the site up, where imports
-/// agree, or it is known behind it too.
+/// So does each line at a site over a group of disks with a replicated volume group, where the world has not strayed behind it.
 pub fn lines_over_rvgs_are_events()
-    ensures over { (d : Doubted) (line : ScriptLine) (s : ℕ) (fails : Fails) (said : Said) (new : Doubted) → OpensFor d.world line
-        → (note_at (d.world.nodes s)).dark ≡ false → (BringsUp line → AgreesOr (note_at (d.world.nodes s)) (note_at (new.world.nodes s))) → OverRvg (Unit {0}) d line s fails said new
-        → RvgStops d new }
+    ensures over { (tells : Bool) (d : Doubted) (line : ScriptLine) (s : ℕ) (fails : Fails) (said : Said) (new : Doubted) → OpensFor d.world line → new.strayed ≡ false
+        → OverRvg (IsTrue tells) d line s fails said new → RvgStops d new }
 {}
 
 /// So does what want of memory leaves of a recovery or an import of such a site, or of a line that makes a replicated volume group.
@@ -167,19 +165,31 @@ pub fn steps_over_groups()
 {}
 
 /// However a line ends that is refused or not, in worlds in which sites are over groups of disks with replicated volume groups or without: it ends as events of the
-/// world do, where it is known what the disks of groups hold, and imports agree of a group that the line brings up, or it is known behind the line too what its disks
-/// hold.
+/// world do, where the world has not strayed behind it.
 pub fn full_lines_are_events()
-    ensures { (files : Bool) (d : Doubted) (line : ScriptLine) (fails : Fails) (said : Said) (new : Doubted) → AgreeFor d.world line new.world
+    ensures { (files : Bool) (d : Doubted) (line : ScriptLine) (fails : Fails) (said : Said) (new : Doubted) → new.strayed ≡ false
         → StepFull (Unit {0}) files d line fails said new → RvgStops d new }
 {}
 
+/// A world strays where a log comes up from disks of which nothing is known, as imports of a group did not agree. What has not strayed behind a line had not before it. And
+/// none strays where no site has a group behind the line; or where no site has a replicated volume group over one before it, and none notes one behind it. Want of
+/// memory leaves it as it was.
+pub fn worlds_stray_by_what_is_found()
+    ensures calm { (tells files : Bool) (d : Doubted) (line : ScriptLine) (fails : Fails) (said : Said) (new : Doubted) → StepFull (IsTrue tells) files d line fails said new
+        → new.strayed ≡ false → d.strayed ≡ false }
+    ensures groups { (tells files : Bool) (d : Doubted) (line : ScriptLine) (fails : Fails) (said : Said) (new : Doubted) → HasNoGroups new.world
+        → StepFull (IsTrue tells) files d line fails said new → new.strayed ≡ d.strayed }
+    ensures plain { (tells files : Bool) (d : Doubted) (line : ScriptLine) (fails : Fails) (said : Said) (new : Doubted) → HasNoRvgs d.world → NotesNoRvgs new.world
+        → StepFull (IsTrue tells) files d line fails said new → new.strayed ≡ d.strayed }
+    ensures short { (tells : Bool) (d : Doubted) (line : ScriptLine) (new : Doubted) → ShortFull (IsTrue tells) d line new → new.strayed ≡ d.strayed }
+{}
+
 /// In a world in which no site is over a group of disks with a replicated volume group, a line that makes none does what it does there. Only one that brings a group
-/// up may find one, which another line had begun to make; and one of links is told contents only where it is known what the disks of all groups hold.
+/// up may find one, which another line had begun to make; and one of links is told contents only where the world has not strayed.
 pub fn steps_over_rvgs()
     ensures full { (tells files : Bool) (d : Doubted) (line : ScriptLine) (fails : Fails) (said : Said) (new : Doubted) → HasNoRvgs d.world → MakesNoRvg line
         → FoundPlain line (group_place d.world line) new → StepOver (IsTrue tells) files d line fails said new → StepFull (IsTrue tells) files d line fails said new }
-    ensures over { (tells files : Bool) (d : Doubted) (line : ScriptLine) (fails : Fails) (said : Said) (new : Doubted) → SitesBright d.world → HasNoRvgs d.world → MakesNoRvg line
+    ensures over { (tells files : Bool) (d : Doubted) (line : ScriptLine) (fails : Fails) (said : Said) (new : Doubted) → d.strayed ≡ false → HasNoRvgs d.world → MakesNoRvg line
         → (BringsUp line → ⊥) → StepFull (IsTrue tells) files d line fails said new → StepOver (IsTrue tells) files d line fails said new }
 {}
 

@@ -28,7 +28,7 @@ use Rattle.vx_events.specs.LinkEnds.{AppliesCut, AppliesPart, AreLeft, LinkEnds,
 use Rattle.vx_events.specs.Lists.{events_of}
 use Rattle.vx_events.specs.LinkLists.{link_events}
 use Rattle.vx_events.specs.RvgBack.{GroupHeld, GroupUnfound, IsLeftBack, KeptLost, LogFails, LogLacks, RvgBack, RvgUp, fall_first}
-use Rattle.vx_events.specs.Brights.{AllBright, IsBright, told_for}
+use Rattle.vx_events.specs.Brights.{AllBright, IsBright}
 use Rattle.vx_events.proofs.Tolds.{told_now}
 use Rattle.vx_events.specs.RvgMakes.{IsLeftRvg, MakesRvg, RvgCut, RvgDone, RvgFails, RvgLacks, noting_in, units_at}
 use Rattle.vx_events.specs.RvgNotes.{volume_events}
@@ -36,6 +36,7 @@ use Rattle.vx_events.specs.OpenLines.{is_open}
 use Rattle.vx_events.specs.RvgOver.{EndsOver, OverRvg, noting_over, fuse_behind}
 use Rattle.vx_events.specs.RvgSteps.{AsBefore, FoundOne, FullBy, StepFull, WorksAbove, WorksBeside, WorksFull, is_for_rvg, rvg_place}
 use Rattle.vx_events.specs.StepsOver.{WorksOver, group_place, is_for_group, refused_over}
+use Rattle.vx_events.specs.Strays.{told_for}
 use Rattle.vx_events.specs.declared.said.Said.{Said}
 use Rattle.vx_events.specs.declared.said.Said.TheVariants.{Refused}
 use Rattle.vx_settling.specs.Brights.{IsHeldDown}
@@ -210,20 +211,20 @@ module _ (told : Type 0) (tells : told) (d : Doubted) (b : AllBright d) (fails :
 
   -- ---- any line
 
-  beside_bright : (line : ScriptLine) → (IsHeldDown line said → ⊥) → (BringsUp line → (note_at (d.world.nodes (group_place d.world line))).loose ≡ false)
+  beside_bright : d.strayed ≡ false → (line : ScriptLine) → (IsHeldDown line said → ⊥) → (BringsUp line → (note_at (d.world.nodes (group_place d.world line))).loose ≡ false)
       → WorksBeside told d line fails said new → AllBright new
-  beside_bright line held agree (AsBefore works found) = by_group (is_for_group d.world line) works
+  beside_bright calm line held agree (AsBefore works found) = by_group (is_for_group d.world line) works
     where
-      now : told_for told d.world line
-      now = told_now told tells d.world b.sites (is_of_links line)
+      now : told_for told d line
+      now = told_now told tells d calm (is_of_links line)
 
-      by_group : (group : Bool) → WorksOver group (told_for told d.world line) d line fails said new → AllBright new
+      by_group : (group : Bool) → WorksOver group (told_for told d line) d line fails said new → AllBright new
       by_group true ends =
           let s : ℕ = group_place d.world line in
-          group_bright d b fails said new (told_for told d.world line) line s held (group_known (told_for told d.world line) now d line s fails said new ends (b.sites s) (dim line s agree held)) ends
-      by_group false (inl step) = by_kind (told_for told d.world line) now (is_of_links line) d line fails said new b step.ends
+          group_bright d b fails said new (told_for told d line) line s held (group_known (told_for told d line) now d line s fails said new ends (b.sites s) (dim line s agree held)) ends
+      by_group false (inl step) = by_kind (told_for told d line) now (is_of_links line) d line fails said new b step.ends
       by_group false (inr kept) = absurd (kept.untold now)
-  beside_bright line held agree (FoundOne finds) =
+  beside_bright calm line held agree (FoundOne finds) =
       let s : ℕ = group_place d.world line in
       absurd (never_found told tells d s (b.sites s) fails said new line (agree (brings_found told d line s fails said new finds)) finds)
 
@@ -233,24 +234,24 @@ module _ (told : Type 0) (tells : told) (d : Doubted) (b : AllBright d) (fails :
   agree_at (Recover site) agree brings = agree tt
   agree_at other agree brings = absurd brings
 
-  above_bright : (halts above : Bool) (line : ScriptLine) → (IsHeldDown line said → ⊥)
+  above_bright : d.strayed ≡ false → (halts above : Bool) (line : ScriptLine) → (IsHeldDown line said → ⊥)
       → (BringsUp line → (note_at (d.world.nodes (group_place d.world line))).loose ≡ false) → WorksAbove halts above told d line fails said new → AllBright new
-  above_bright true above line held agree ends = absurd ends
-  above_bright false true line held agree ends = over_rvg_bright line (rvg_place d.world line) held (agree_at line agree) ends
-  above_bright false false line held agree ends = beside_bright line held agree ends
+  above_bright calm true above line held agree ends = absurd ends
+  above_bright calm false true line held agree ends = over_rvg_bright line (rvg_place d.world line) held (agree_at line agree) ends
+  above_bright calm false false line held agree ends = beside_bright calm line held agree ends
 
-  full_bright : (line : ScriptLine) → (IsHeldDown line said → ⊥) → (BringsUp line → (note_at (d.world.nodes (group_place d.world line))).loose ≡ false)
+  full_bright : d.strayed ≡ false → (line : ScriptLine) → (IsHeldDown line said → ⊥) → (BringsUp line → (note_at (d.world.nodes (group_place d.world line))).loose ≡ false)
       → WorksFull told d line fails said new → AllBright new
-  full_bright (Rvg site srl maps volumes) held agree ends =
+  full_bright calm (Rvg site srl maps volumes) held agree ends =
       let s : ℕ = site_number d.world site in
       makes_bright (Rvg site srl maps volumes) s (making_known told d (Rvg site srl maps volumes) s fails said new ends (b.sites s)) ends
-  full_bright other held agree ends = above_bright (is_open d.world other) (is_for_rvg d.world other) other held agree ends
+  full_bright calm other held agree ends = above_bright calm (is_open d.world other) (is_for_rvg d.world other) other held agree ends
 
-  refusal_bright : (o : Option No) (line : ScriptLine) → (IsHeldDown line said → ⊥) → (BringsUp line → (note_at (d.world.nodes (group_place d.world line))).loose ≡ false)
+  refusal_bright : d.strayed ≡ false → (o : Option No) (line : ScriptLine) → (IsHeldDown line said → ⊥) → (BringsUp line → (note_at (d.world.nodes (group_place d.world line))).loose ≡ false)
       → FullBy o told d line fails said new → AllBright new
-  refusal_bright (Some why) line held agree step = subst (λ (e : Doubted). AllBright e) (sym step.stays) b
-  refusal_bright None line held agree step = full_bright line held agree step
+  refusal_bright calm (Some why) line held agree step = subst (λ (e : Doubted). AllBright e) (sym step.stays) b
+  refusal_bright calm None line held agree step = full_bright calm line held agree step
 
-  pub step_bright : (files : Bool) (line : ScriptLine) → (IsHeldDown line said → ⊥)
+  pub step_bright : d.strayed ≡ false → (files : Bool) (line : ScriptLine) → (IsHeldDown line said → ⊥)
       → (BringsUp line → (note_at (d.world.nodes (group_place d.world line))).loose ≡ false) → StepFull told files d line fails said new → AllBright new
-  step_bright files line held agree step = refusal_bright (refused_over d.world files line) line held agree step
+  step_bright calm files line held agree step = refusal_bright calm (refused_over d.world files line) line held agree step

@@ -29,13 +29,13 @@ use Rattle.vx_events.specs.Lists.{Choice, crash_count, events_of}
 use Rattle.vx_events.specs.LinkFinds.{ApplyCut, ApplyHalts, EndsBetween, FindsOther, GivesUp, HeaderCut, HeaderHalts, IsStored, IsUnread, KeepsOther, LosesOther, MovesBetween, ReadsNone, SendsOther, SettlesOther, TakesOther}
 use Rattle.vx_events.specs.LinkLists.{link_events}
 use Rattle.vx_events.specs.RvgBack.{FindsNoRvg, FindsPlain, FindsRvg, GroupHeld, GroupUnfound, IsLeftBack, IsLeftBut, KeptLost, LogFails, LogLacks, RvgBack, RvgFinds, RvgUp, fall_first, fuse_left}
-use Rattle.vx_events.specs.Brights.{told_for}
 use Rattle.vx_events.specs.RvgMakes.{IsLeftRvg, MakesRvg, RvgCut, RvgDone, RvgFails, RvgLacks, noting_in, units_at}
 use Rattle.vx_events.specs.RvgNotes.{volume_events}
 use Rattle.vx_events.specs.OpenLines.{is_open}
 use Rattle.vx_events.specs.RvgOver.{EndsOver, OverRvg, noting_over, fuse_behind}
 use Rattle.vx_events.specs.RvgSteps.{AsBefore, FoundOne, FullBy, StepFull, WorksAbove, WorksBeside, WorksFull, is_for_rvg, rvg_place}
 use Rattle.vx_events.specs.StepsOver.{WorksOver, group_place, is_for_group, refused_over}
+use Rattle.vx_events.specs.Strays.{gone_astray, told_for}
 use Rattle.vx_events.specs.declared.said.Said.{Said}
 use Rattle.vx_settling.specs.OtherNotes.{HasNote, may_note}
 use Rattle.vx_settling.proofs.OtherNotes
@@ -305,9 +305,10 @@ module _ (i : ℕ) (o : Option GroupNode) where
 
       -- the site as it came up
       came : (line : ScriptLine) (s : ℕ) (taken : Bool) (next : GroupNode) (mid : Doubted) (k : Node) (row : ℕ → LinkRecord) → eqb i s ≡ false → HasNote i o mid
-          → IsLeftBack s line taken next d (found_linked mid s k row) new → HasNote i o new
+          → IsLeftBack s line taken next d (gone_astray (found_linked mid s k row)) new → HasNote i o new
       came line s taken next mid k row apart h left =
-          back_notes s line taken next d (found_linked mid s k row) new apart left x.has (linked_notes mid s k row apart h)
+          let linked : HasNote i o (found_linked mid s k row) = linked_notes mid s k row apart h in
+          back_notes s line taken next d (gone_astray (found_linked mid s k row)) new apart left x.has (record { note = linked.note; doubt = linked.doubt })
 
       at_rest : (s kept : ℕ) (taken : Bool) (mid : Doubted) → mid ≡ run_as taken d (fall_first (d.world.nodes s).state s kept) → HasNote i o mid
       at_rest s kept taken mid is = subst (λ (e : Doubted). HasNote i o e) (sym is) (ran taken (fall_first (d.world.nodes s).state s kept))
@@ -350,11 +351,11 @@ module _ (i : ℕ) (o : Option GroupNode) where
       beside_notes : (line : ScriptLine) → may_note d.world line i ≡ false → WorksBeside told d line fails said new → HasNote i o new
       beside_notes line off (AsBefore works found) = by_group (is_for_group d.world line) refl works
         where
-          by_group : (group : Bool) → is_for_group d.world line ≡ group → WorksOver group (told_for told d.world line) d line fails said new → HasNote i o new
-          by_group true is ends = group_notes d x (told_for told d.world line) fails said new line (group_place d.world line) (group_apart d.world line i off is) ends
-          by_group false is (inl step) = by_kind (told_for told d.world line) (is_of_links line) line fails said new off step.ends
+          by_group : (group : Bool) → is_for_group d.world line ≡ group → WorksOver group (told_for told d line) d line fails said new → HasNote i o new
+          by_group true is ends = group_notes d x (told_for told d line) fails said new line (group_place d.world line) (group_apart d.world line i off is) ends
+          by_group false is (inl step) = by_kind (told_for told d line) (is_of_links line) line fails said new off step.ends
           by_group false is (inr kept) =
-              group_notes d x (told_for told d.world line) fails said new line (group_place d.world line) (brings_apart d.world line i off (subst BringsUp (sym kept.recovers) tt)) kept.ends
+              group_notes d x (told_for told d line) fails said new line (group_place d.world line) (brings_apart d.world line i off (subst BringsUp (sym kept.recovers) tt)) kept.ends
       beside_notes line off (FoundOne finds) =
           let s : ℕ = group_place d.world line in
           finds_notes line s (brings_apart d.world line i off (brings_found told d line s fails said new finds)) finds

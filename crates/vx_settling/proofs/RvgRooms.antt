@@ -27,6 +27,7 @@ use Rattle.vx_events.specs.RvgFits.{FitsNoted, FitsRvg, HasUnits, NoteKeepsRvg}
 use Rattle.vx_events.specs.RvgMakes.{RvgStops}
 use Rattle.vx_events.specs.RvgOver.{OpensFor, OverRvg}
 use Rattle.vx_events.specs.RvgViews.{is_over_rvg}
+use Rattle.vx_events.specs.Strays.{gone_astray}
 use Rattle.vx_events.specs.declared.said.Said.{Said}
 
 -- ---- a site with a replicated volume group has data volumes
@@ -57,10 +58,10 @@ stops_room d new good alike x =
 
 module _ (told : Type 0) (d : Doubted) (line : ScriptLine) (s : ℕ) (fails : Fails) (said : Said) (new : Doubted) where
   -- the site as it came up
-  came_as : (taken : Bool) (next : GroupNode) (mid : Doubted) (k : Node) (row : ℕ → Link) → IsLeftBack s line taken next d (found_linked mid s k row) new
+  came_as : (taken : Bool) (next : GroupNode) (mid : Doubted) (k : Node) (row : ℕ → Link) → IsLeftBack s line taken next d (gone_astray (found_linked mid s k row)) new
       → SameRoom k (new.world.nodes s)
   came_as taken next mid k row left =
-      let like : IsLikeDoubted (found_linked mid s k row) new = back_like s line taken next d (found_linked mid s k row) new left in
+      let like : IsLikeDoubted (gone_astray (found_linked mid s k row)) new = back_like s line taken next d (gone_astray (found_linked mid s k row)) new left in
       let here : (found_linked mid s k row).world.nodes s ≡ k = at_place mid.world.nodes s k in
       record {
         ring = ap (λ (n : Node). n.ring) (like.worlds.nodes s) ∙ ap (λ (n : Node). n.ring) here;
@@ -69,10 +70,10 @@ module _ (told : Type 0) (d : Doubted) (line : ScriptLine) (s : ℕ) (fails : Fa
 
   -- with the replicated volume group of the configuration that was found
   found_fits : (taken : Bool) (next : GroupNode) (mid : Doubted) (k : Node) (row : ℕ → Link) (c : Config) (units : Units) → config_of next.config ≡ Some c
-      → FitsRvg k c units → HasUnits c.volumes units → IsLeftBack s line taken next d (found_linked mid s k row) new → FitsNoted (new.world.nodes s)
+      → FitsRvg k c units → HasUnits c.volumes units → IsLeftBack s line taken next d (gone_astray (found_linked mid s k row)) new → FitsNoted (new.world.nodes s)
   found_fits taken next mid k row c units config fits has left =
       let same : SameRoom k (new.world.nodes s) = came_as taken next mid k row left in
-      fits_found k (new.world.nodes s) c units next (back_group s line taken next d (found_linked mid s k row) new left) same.ring same.volumes config fits has
+      fits_found k (new.world.nodes s) c units next (back_group s line taken next d (gone_astray (found_linked mid s k row)) new left) same.ring same.volumes config fits has
 
   -- a site that had none
   pub finds_gained : (is_over_rvg (d.world.nodes s) ≡ true → ⊥) → RvgFinds told d line s fails said new → FitsNoted (new.world.nodes s)
@@ -83,7 +84,7 @@ module _ (told : Type 0) (d : Doubted) (line : ScriptLine) (s : ℕ) (fails : Fa
 
 -- ---- lines
 
-module _ (told : Type 0) (tells : told) (d : Doubted) (good : GoodDoubted d) (alike : DoubtsAlike d) (line : ScriptLine) (fails : Fails) (said : Said) (new : Doubted) where
+module _ (told : Type 0) (d : Doubted) (good : GoodDoubted d) (alike : DoubtsAlike d) (line : ScriptLine) (fails : Fails) (said : Said) (new : Doubted) where
   -- the line ended as events do
   stopped_fits : (s : ℕ) → IsMade (d.world.nodes s) → is_over_rvg (d.world.nodes s) ≡ true → RvgStops d new
       → NoteKeepsRvg (note_at (d.world.nodes s)) (note_at (new.world.nodes s)) → FitsNoted (d.world.nodes s) → FitsNoted (new.world.nodes s)
@@ -106,10 +107,10 @@ module _ (told : Type 0) (tells : told) (d : Doubted) (good : GoodDoubted d) (al
       (but_keeps told d line s fails said new over lost taken next d _ left
       (same_config (note_at (d.world.nodes s)) next (refused_config (note_at (d.world.nodes s)) next notes))) fits
 
-  pub over_fits : (s : ℕ) → IsMade (d.world.nodes s) → is_over_rvg (d.world.nodes s) ≡ true → OpensFor d.world line → (note_at (d.world.nodes s)).dark ≡ false
+  pub over_fits : (s : ℕ) → IsMade (d.world.nodes s) → is_over_rvg (d.world.nodes s) ≡ true → OpensFor d.world line
       → OverRvg told d line s fails said new → FitsNoted (d.world.nodes s) → is_over_rvg (new.world.nodes s) ≡ true → FitsNoted (new.world.nodes s)
-  over_fits s made over opens bright ends fits still =
-      by (stops_or_finds told tells d s bright fails said new line opens ends) (stays_or_finds told d s fails said new over line ends)
+  over_fits s made over opens ends fits still =
+      by (stops_or_finds told d s fails said new line opens ends) (stays_or_finds told d s fails said new over line ends)
     where
       by : RvgStops d new ⊎ RvgFinds told d line s fails said new
           → NoteKeepsRvg (note_at (d.world.nodes s)) (note_at (new.world.nodes s)) ⊎ RvgFinds told d line s fails said new → FitsNoted (new.world.nodes s)
