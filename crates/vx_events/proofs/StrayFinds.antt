@@ -33,7 +33,7 @@ module _ (told : Type 0) (d : Doubted) (line : ScriptLine) (s : ℕ) (fails : Fa
       left.strayed ∙ run_strays taken d (fall_first (d.world.nodes s).state s kept)
 
   -- with a replicated volume group, or of a site that had one
-  finds_plain : RvgFinds told d line s fails said new → is_over_rvg (d.world.nodes s) ≡ false → rvg_noted (note_at (new.world.nodes s)) ≡ None → StraysAs d new
+  pub finds_plain : RvgFinds told d line s fails said new → is_over_rvg (d.world.nodes s) ≡ false → rvg_noted (note_at (new.world.nodes s)) ≡ None → ⊥
   finds_plain (FindsRvg kept taken next mid n k row c units are brings unknown dark is same comes config fits lies says left) off none =
       let noted : (new.world.nodes s).group ≡ Some next = back_group s line taken next d (gone_astray (found_linked mid s k row)) new left in
       absurd
@@ -41,8 +41,7 @@ module _ (told : Type 0) (d : Doubted) (line : ScriptLine) (s : ℕ) (fails : Fa
       sym (ap (λ (o : Option GroupNode). rvg_noted (unwrap_or o no_note)) noted ∙ ap config_rvg config ∙ fits.rvg) ∙ none in
       cc)
   finds_plain (FindsPlain kept taken next mid has are brings unknown dark is plain says left) off none = absurd (let e : true ≡ false = sym has ∙ off in cc)
-  finds_plain (FindsNoRvg kept taken lost next why has are brings unknown device notes says left) off none =
-      left.strayed ∙ run_strays taken d (fall_first (d.world.nodes s).state s kept)
+  finds_plain (FindsNoRvg kept taken lost next why has are brings unknown device notes says left) off none = absurd (let e : true ≡ false = sym has ∙ off in cc)
 
 module _ (told : Type 0) (files : Bool) (d : Doubted) (line : ScriptLine) (fails : Fails) (said : Said) (new : Doubted) (step : StepFull told files d line fails said new) where
   -- nothing strays where no site has a group
@@ -59,4 +58,4 @@ module _ (told : Type 0) (files : Bool) (d : Doubted) (line : ScriptLine) (fails
     where
       by : CalmOrSome told d fails said new line → StraysAs d new
       by (inl same) = same
-      by (inr (s, finds)) = finds_plain told d line s fails said new finds (none s) (plain s)
+      by (inr (s, finds)) = absurd (finds_plain told d line s fails said new finds (none s) (plain s))

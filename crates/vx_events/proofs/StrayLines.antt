@@ -3,11 +3,10 @@
 use Rattle.std.proofs.Common.{◌≡◌, ◌∙◌, ◌⊎◌, inl, inr, ℕ, Bool, true, false, List, [], ◌∷◌, ◌++◌, Option, Some, None, ap, sym}
 use Rattle.vx_model.specs.declared.no.No.{No}
 use Rattle.vx_history.specs.Doubts.{Doubted}
-use Rattle.vx_history.specs.Groups.{GroupNode}
 use Rattle.vx_history.specs.Steps.{worked_on}
 use Rattle.vx_history.specs.World.{Node, World}
 use Rattle.vx_history.specs.declared.event.Event.{Event}
-use Rattle.vx_history.specs.declared.event.Event.TheVariants.{Crash as CrashAt, Fall as FallAt, Fault, Recover as RecoverAt}
+use Rattle.vx_history.specs.declared.event.Event.TheVariants.{Crash as CrashAt, Fault, Recover as RecoverAt}
 use Rattle.vx_script.specs.declared.line.ScriptLine.{ScriptLine}
 use Rattle.vx_script.specs.declared.line.ScriptLine.TheVariants.{Recover, Rvg}
 use Rattle.vx_events.proofs.Straying.{run_strays, runs_strays}
@@ -24,13 +23,13 @@ use Rattle.vx_events.specs.LinkLists.{link_events}
 use Rattle.vx_events.specs.Lists.{Choice, crash_count, events_of}
 use Rattle.vx_events.specs.OpenLines.{is_open}
 use Rattle.vx_events.specs.Parts.{PartLeft, ReadFirst, StopsBetween, StopsDown, StopsInPart, StopsRead, StopsShort}
-use Rattle.vx_events.specs.RvgBack.{FindsNoRvg, FindsPlain, FindsRvg, GetsRvg, GroupCutOff, GroupHeld, GroupUnfound, HadRvg, KeptLost, LogCut, LogFails, LogLacks, RestsWithRvg, RvgBack, RvgFinds, RvgUp, fall_first}
+use Rattle.vx_events.specs.RvgBack.{FindsNoRvg, FindsPlain, FindsRvg, GroupHeld, GroupUnfound, KeptLost, LogFails, LogLacks, RvgBack, RvgFinds, RvgUp, fall_first}
 use Rattle.vx_events.specs.RvgMakes.{MakesRvg, RvgCut, RvgDone, RvgFails, RvgLacks, noting_in, units_at}
 use Rattle.vx_events.specs.RvgNotes.{volume_events}
 use Rattle.vx_events.specs.GroupNotes.{IsKnown, note_at}
 use Rattle.vx_events.specs.RvgOver.{EndsOver, OverRvg}
 use Rattle.vx_events.specs.RvgParts.{RvgShort, ShortFull, ShortGroup, ShortLog, ShortMade, short_place}
-use Rattle.vx_events.specs.RvgSteps.{AsBefore, FoundOne, FullBy, Gained, StepFull, WorksAbove, WorksBeside, WorksFull, is_for_rvg, rvg_place}
+use Rattle.vx_events.specs.RvgSteps.{AsBefore, FoundOne, FullBy, StepFull, WorksAbove, WorksBeside, WorksFull, is_for_rvg, rvg_place}
 use Rattle.vx_events.specs.StepsOver.{WorksOver, group_place, is_for_group, refused_over}
 use Rattle.vx_events.specs.Strays.{told_for}
 use Rattle.vx_events.specs.declared.said.Said.{Said}
@@ -119,25 +118,18 @@ making_strays told d line s fails said new (RvgLacks site srl maps volumes next 
 making_strays told d line s fails said new (RvgFails site srl maps volumes disk next is are has x says left) = left.strayed
 making_strays told d line s fails said new (RvgCut site srl maps volumes next is are fused x says left) = left.strayed ∙ run_strays false d (CrashAt s 0 ∷ [])
 
-rests_strays : (d : Doubted) (line : ScriptLine) (s kept : ℕ) (middle next : GroupNode) (from : Doubted) (events : List Event) → RestsWithRvg d line s kept middle next from events → StraysAs d from
-rests_strays d line s kept middle next from events (HadRvg has same noted is fall) = ap (λ (x : Doubted). x.strayed) is
-rests_strays d line s kept middle next from events (GetsRvg units over has there one noted is all) = ap (λ (x : Doubted). x.strayed) is
-
 pub back_strays : (told : Type 0) (d : Doubted) (line : ScriptLine) (s : ℕ) (fails : Fails) (said : Said) (new : Doubted) → RvgBack told d line s fails said new → StraysAs d new
-back_strays told d line s fails said new (RvgUp kept taken middle found next from rest are brings back rests works says left) =
-    left.strayed ∙ run_strays taken from (rest ++ RecoverAt s None ∷ []) ∙ rests_strays d line s kept middle found from rest rests
-back_strays told d line s fails said new (LogFails kept taken disk middle found next from rest begun are has brings back rests is begins says left) =
-    left.strayed ∙ run_strays taken from (rest ++ begun) ∙ rests_strays d line s kept middle found from rest rests
-back_strays told d line s fails said new (LogLacks kept taken middle found next from rest are brings back rests is lacks says left) =
-    left.strayed ∙ run_strays taken from rest ∙ rests_strays d line s kept middle found from rest rests
-back_strays told d line s fails said new (KeptLost kept taken disk middle found next from rest site is are has back rests notes says left) =
-    left.strayed ∙ run_strays taken from (rest ++ RecoverAt s None ∷ CrashAt s 0 ∷ []) ∙ rests_strays d line s kept middle found from rest rests
-back_strays told d line s fails said new (LogCut middle found next from rest begun site is are fused back rests notes begins says left) =
-    left.strayed ∙ run_strays false from (rest ++ (begun ++ FallAt s ∷ [])) ∙ rests_strays d line s 0 middle found from rest rests
-back_strays told d line s fails said new (GroupCutOff next site is has are fused notes says left) = left.strayed ∙ run_strays false d (FallAt s ∷ [])
-back_strays told d line s fails said new (GroupUnfound kept taken lost why next has are brings not leaves says left) =
+back_strays told d line s fails said new (RvgUp site kept taken middle next shown has is are back keeps works says shows left) =
+    left.strayed ∙ run_strays taken d (fall_first (d.world.nodes s).state s kept ++ RecoverAt s None ∷ [])
+back_strays told d line s fails said new (LogFails site kept taken disk middle next begun has is are failed back keeps works begins says left) =
+    left.strayed ∙ run_strays taken d (fall_first (d.world.nodes s).state s kept ++ begun)
+back_strays told d line s fails said new (LogLacks site kept taken middle next has is are back keeps works lacks says left) =
     left.strayed ∙ run_strays taken d (fall_first (d.world.nodes s).state s kept)
-back_strays told d line s fails said new (GroupHeld kept taken lost disk next has are failed brings notes says left) =
+back_strays told d line s fails said new (KeptLost site kept taken disk middle next has is are failed back keeps works says left) =
+    left.strayed ∙ run_strays taken d (fall_first (d.world.nodes s).state s kept ++ RecoverAt s None ∷ CrashAt s 0 ∷ [])
+back_strays told d line s fails said new (GroupUnfound site kept taken lost why next has is are not leaves says left) =
+    left.strayed ∙ run_strays taken d (fall_first (d.world.nodes s).state s kept)
+back_strays told d line s fails said new (GroupHeld site kept taken lost disk next has is are failed notes says left) =
     left.strayed ∙ run_strays taken d (fall_first (d.world.nodes s).state s kept)
 
 pub ends_over_strays : (told : Type 0) (d : Doubted) (line : ScriptLine) (s : ℕ) (fails : Fails) (said : Said) (new : Doubted) → EndsOver told d line s fails said new → StraysAs d new
@@ -161,7 +153,6 @@ module _ (told : Type 0) (d : Doubted) (fails : Fails) (said : Said) (new : Doub
 
   beside_found : (line : ScriptLine) → WorksBeside told d line fails said new → CalmOrFinds (group_place d.world line) line
   beside_found line (AsBefore works found) = inl (over_strays (is_for_group d.world line) (told_for told d line) d line fails said new works)
-  beside_found line (Gained back) = inl (back_strays told d line (group_place d.world line) fails said new back)
   beside_found line (FoundOne finds) = inr finds
 
   -- at the site that it names
@@ -234,9 +225,9 @@ short_strays told d line new (StopsRead read) = read_strays d line new read
 short_strays told d line new (StopsBetween untold p s middle is moves left) = left.strayed ∙ moves.strayed
 
 rvg_short_strays : (told : Type 0) (d : Doubted) (line : ScriptLine) (s : ℕ) (new : Doubted) → RvgShort told d line s new → StraysAs d new
-rvg_short_strays told d line s new (ShortGroup kept taken lost next over brings notes left) = left.strayed ∙ run_strays taken d (fall_first (d.world.nodes s).state s kept)
-rvg_short_strays told d line s new (ShortLog kept taken fails middle found next from rest are brings back rests is left) =
-    left.strayed ∙ run_strays taken from rest ∙ rests_strays d line s kept middle found from rest rests
+rvg_short_strays told d line s new (ShortGroup site kept taken lost next has is notes left) = left.strayed ∙ run_strays taken d (fall_first (d.world.nodes s).state s kept)
+rvg_short_strays told d line s new (ShortLog site kept taken fails middle next has is are back keeps cut left) =
+    left.strayed ∙ run_strays taken d (fall_first (d.world.nodes s).state s kept)
 rvg_short_strays told d line s new (ShortMade site srl maps volumes fails next is are notes left) = left.strayed
 
 pub full_short_strays : (told : Type 0) (d : Doubted) (line : ScriptLine) (new : Doubted) → ShortFull told d line new → StraysAs d new

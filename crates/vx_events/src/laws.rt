@@ -16,7 +16,7 @@ ghost use Rattle.vx_order.specs.Order.{line_refusal};
 ghost use Rattle.vx_script.specs.declared.line.ScriptLine.{ScriptLine};
 ghost use Rattle.vx_script.specs.declared.line.ScriptLine.TheVariants.{Site, Raw, Crash, Rvg, Write as WriteLine, Put, Read, Show, Apply};
 ghost use Rattle.vx_events.specs.Facts.{facts_of, site_number, volume_number};
-ghost use Rattle.vx_events.specs.GroupEnds.{BringsUp, GroupEnds, GroupStops};
+ghost use Rattle.vx_events.specs.GroupEnds.{GroupEnds, GroupStops};
 ghost use Rattle.vx_events.specs.GroupNotes.{IsKnown, NotesBack, note_at};
 ghost use Rattle.vx_events.specs.Known.{MayDarken};
 ghost use Rattle.vx_config.specs.declared.config.Config.{Config};
@@ -184,13 +184,13 @@ pub fn worlds_stray_by_what_is_found()
     ensures short { (tells : Bool) (d : Doubted) (line : ScriptLine) (new : Doubted) → ShortFull (IsTrue tells) d line new → new.strayed ≡ d.strayed }
 {}
 
-/// In a world in which no site is over a group of disks with a replicated volume group, a line that makes none does what it does there. Only one that brings a group
-/// up may find one, which another line had begun to make; and one of links is told contents only where the world has not strayed.
+/// In a world in which no site is over a group of disks with a replicated volume group, a line that makes none, and finds none as it brings a group up, does what it does
+/// there; and so it did, where the world had not strayed.
 pub fn steps_over_rvgs()
     ensures full { (tells files : Bool) (d : Doubted) (line : ScriptLine) (fails : Fails) (said : Said) (new : Doubted) → HasNoRvgs d.world → MakesNoRvg line
         → FoundPlain line (group_place d.world line) new → StepOver (IsTrue tells) files d line fails said new → StepFull (IsTrue tells) files d line fails said new }
     ensures over { (tells files : Bool) (d : Doubted) (line : ScriptLine) (fails : Fails) (said : Said) (new : Doubted) → d.strayed ≡ false → HasNoRvgs d.world → MakesNoRvg line
-        → (BringsUp line → ⊥) → StepFull (IsTrue tells) files d line fails said new → StepOver (IsTrue tells) files d line fails said new }
+        → FoundPlain line (group_place d.world line) new → StepFull (IsTrue tells) files d line fails said new → StepOver (IsTrue tells) files d line fails said new }
 {}
 
 /// Only of the line's own site may a call fail in a line that is done, and only where it is over a group: at a raw set no call failed in it.
