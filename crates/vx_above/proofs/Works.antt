@@ -93,7 +93,7 @@ module _ {R : Type 0} {g : Ghosts R} where
       next = leads.next;
       fails = leads.fails;
       works = beside_full (IsTold new) d line leads.fails said leads.next none closed off
-          (AsBefore (works_told (λ (t : told_for (IsTold new) d.world line). told_less (IsTold new) d.world (is_of_links line) t) (is_for_group d.world line) d line leads.fails said leads.next
+          (AsBefore (works_told (λ (t : told_for (IsTold new) d line). told_less (IsTold new) d (is_of_links line) t) (is_for_group d.world line) d line leads.fails said leads.next
           (subst (λ (b : Bool). WorksOver b (IsTold new) d line leads.fails said leads.next) (sym plain) leads.done)) (found_plain line (group_place d.world line) leads.next new leads.stands));
       stands = leads.stands;
       carries = leads.carries;
