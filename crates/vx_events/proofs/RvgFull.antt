@@ -14,7 +14,7 @@ use Rattle.vx_events.proofs.StrayFinds.{finds_plain}
 use Rattle.vx_events.proofs.Tolds.{told_less, told_now, works_told}
 use Rattle.vx_events.specs.RvgSteps.{AsBefore, FoundOne, FoundPlain, FullBy, HasNoRvgs, MakesNoRvg, StepFull, WorksAbove, WorksBeside, WorksFull, is_for_rvg}
 use Rattle.vx_events.specs.StepsOver.{OverBy, StepOver, WorksOver, group_place, is_for_group, refused_over}
-use Rattle.vx_events.specs.Strays.{told_for}
+use Rattle.vx_events.specs.Strays.{NotesNoRvgs, told_for}
 use Rattle.vx_events.specs.declared.said.Said.{Said}
 
 -- what finds a replicated volume group brings a group up
@@ -46,7 +46,7 @@ module _ (told : Type 0) (files : Bool) (d : Doubted) (none : HasNoRvgs d.world)
   over_by line makes found None step =
       beside_full line makes (AsBefore (works_told (λ (t : told_for told d line). told_less told d (is_of_links line) t) (is_for_group d.world line) d line fails said new step) found)
 
-  plain_by : (line : ScriptLine) → d.strayed ≡ false → MakesNoRvg line → FoundPlain line (group_place d.world line) new → (o : Option No) → FullBy o told d line fails said new
+  plain_by : (line : ScriptLine) → d.strayed ≡ false → MakesNoRvg line → NotesNoRvgs new.world → (o : Option No) → FullBy o told d line fails said new
       → OverBy o (is_for_group d.world line) told d line fails said new
   plain_by line calm makes plain (Some why) step = step
   plain_by line calm makes plain None step = before (full_beside line makes step)
@@ -55,12 +55,12 @@ module _ (told : Type 0) (files : Bool) (d : Doubted) (none : HasNoRvgs d.world)
       before (AsBefore works found) = works_told (λ (t : told). told_now told t d calm (is_of_links line)) (is_for_group d.world line) d line fails said new works
       before (FoundOne finds) =
           let s : ℕ = group_place d.world line in
-          absurd (finds_plain told d line s fails said new finds (none s) (plain (brings_found told d line s fails said new finds)))
+          absurd (finds_plain told d line s fails said new finds (none s) (plain s))
 
   pub full_over : (line : ScriptLine) → MakesNoRvg line → FoundPlain line (group_place d.world line) new → StepOver told files d line fails said new
       → StepFull told files d line fails said new
   full_over line makes found step = over_by line makes found (refused_over d.world files line) step
 
-  pub over_full : (line : ScriptLine) → d.strayed ≡ false → MakesNoRvg line → FoundPlain line (group_place d.world line) new → StepFull told files d line fails said new
+  pub over_full : (line : ScriptLine) → d.strayed ≡ false → MakesNoRvg line → NotesNoRvgs new.world → StepFull told files d line fails said new
       → StepOver told files d line fails said new
   over_full line calm makes plain step = plain_by line calm makes plain (refused_over d.world files line) step

@@ -190,7 +190,7 @@ pub fn steps_over_rvgs()
     ensures full { (tells files : Bool) (d : Doubted) (line : ScriptLine) (fails : Fails) (said : Said) (new : Doubted) → HasNoRvgs d.world → MakesNoRvg line
         → FoundPlain line (group_place d.world line) new → StepOver (IsTrue tells) files d line fails said new → StepFull (IsTrue tells) files d line fails said new }
     ensures over { (tells files : Bool) (d : Doubted) (line : ScriptLine) (fails : Fails) (said : Said) (new : Doubted) → d.strayed ≡ false → HasNoRvgs d.world → MakesNoRvg line
-        → FoundPlain line (group_place d.world line) new → StepFull (IsTrue tells) files d line fails said new → StepOver (IsTrue tells) files d line fails said new }
+        → NotesNoRvgs new.world → StepFull (IsTrue tells) files d line fails said new → StepOver (IsTrue tells) files d line fails said new }
 {}
 
 /// Only of the line's own site may a call fail in a line that is done, and only where it is over a group: at a raw set no call failed in it.
