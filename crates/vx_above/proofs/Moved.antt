@@ -1,6 +1,6 @@
 -- What calls on the replicated volume group of a site that is up make of the note of the group below.
 use Rattle.std.proofs.Common.{◌≡◌, ◌∙◌, ◌⊎◌, ◌+◌, ◌<◌, ◌≤◌, ◌++◌, ℕ, true, [], ◌∷◌, map, length, ap, sym, subst, refl, arith, inl, inr}
-use Rattle.std.specs.Prelude.{Option, Some, IsTrue}
+use Rattle.std.specs.Prelude.{List, Option, Some, IsTrue, unwrap_or}
 use Rattle.vx_disk.specs.Counts.{Rose}
 use Rattle.vx_disk.specs.Shelf.{Meaning}
 use Rattle.vx_disk.specs.declared.shelf.Shelf.{Ghosts}
@@ -11,12 +11,14 @@ use Rattle.vx_history.specs.Doubts.{Doubted}
 use Rattle.vx_history.specs.Groups.{GroupNode}
 use Rattle.vx_history.specs.Steps.{crashed}
 use Rattle.vx_history.specs.Stops.{IsFused}
+use Rattle.vx_history.specs.Volumes.{as_volume}
 use Rattle.vx_history.specs.World.{Node}
+use Rattle.vx_history.specs.declared.volumes.DataVolume.{DataVolume}
 use Rattle.vx_grouped.specs.ConfigMoves.{StateMoves, none_again}
 use Rattle.vx_grouped.specs.GroupSites.{site_disks, with_note}
 use Rattle.vx_diskset.specs.Aboves.{below_site, site_in}
 use Rattle.vx_diskset.specs.Holds.{KeptBeside, beside_of}
-use Rattle.vx_diskset.specs.Noted.{AgreesStill, NotedOn, NotesMoved, NotesOn, SiteNoted, below_rvg}
+use Rattle.vx_diskset.specs.Noted.{AgreesStill, IsNamed, NotedOn, NotesMoved, NotesOn, SiteNoted, below_rvg}
 use Rattle.vx_diskset.specs.Stands.{OverStands, SiteStands}
 use Rattle.vx_diskset.specs.declared.disk_set.DiskSet.TheVariants.{Over}
 use Rattle.vx_diskset.specs.declared.over_set.OverSet.{OverSet}
@@ -27,8 +29,9 @@ use Rattle.vx_diskset.proofs.OverNoted.{units_same}
 use Rattle.vx_diskset.specs.Layouts.{config_units}
 use Rattle.vx_events.specs.Fails.{Fails}
 use Rattle.vx_events.specs.GroupEnds.{AreOf}
-use Rattle.vx_events.specs.GroupNotes.{note_at}
-use Rattle.vx_events.specs.GroupViews.{config_of, plain_fact}
+use Rattle.vx_events.proofs.Places.{some_same}
+use Rattle.vx_events.specs.GroupNotes.{no_note, note_at}
+use Rattle.vx_events.specs.GroupViews.{config_of, plain_fact, volumes_of}
 use Rattle.vx_events.specs.RvgFits.{config_rvg, entries_noted, rvg_noted}
 use Rattle.vx_events.specs.RvgViews.{is_over_rvg, over_table}
 use Rattle.vx_events.specs.RvgWorks.{NotesWork}
@@ -44,7 +47,7 @@ use Rattle.vx_above.proofs.Losing.{Names, facts_move}
 use Rattle.vx_above.proofs.OverSites.{down_not_up, site_noted, up_not_down}
 use Rattle.vx_above.proofs.Quiet.{quiet_by, rose_disk, works_note}
 use Rattle.vx_above.proofs.SiteCalls.{all_later, calls, count_new, count_old, names_below, rose_below}
-use Rattle.vx_above.proofs.Tables.{table_like}
+use Rattle.vx_above.proofs.Tables.{data_again, table_like}
 
 module _ {R : Type 0} {g : Ghosts R} where
   -- a call on the replicated volume group of a site that is up
@@ -105,6 +108,20 @@ module _ {R : Type 0} {g : Ghosts R} where
 
     pub call_table : (m : Node) → m.volumes ≡ n.volumes → over_table m call_note ≡ over_table n note
     call_table m volumes = table_like n m note call_note volumes rvg_same seen_same
+
+    -- its data volumes are named as they were
+    pub call_named : IsNamed n → (m : Node) → m.volumes ≡ n.volumes → m.group ≡ Some call_note → IsNamed m
+    call_named it m volumes group =
+        let first : it.0 ≡ at_serial 0 moved.2.was = some_same (sym it.2 ∙ was_config) in
+        (
+          at_serial 0 moved.2.now,
+          it.1,
+          ap (λ (o : Option GroupNode). config_of (unwrap_or o no_note).config) group ∙ now_config,
+          moved.2.change.parts.rvg ∙ ap (λ (c : Config). c.rvg) (sym first) ∙ it.3,
+          volumes ∙ it.4 ∙ ap (λ (xs : List DataVolume). map as_volume xs)
+              (data_again it.0.volumes moved.2.now.volumes it.1.vols
+              (ap (λ (o : Option Config). map plain_fact (volumes_of o)) (sym it.2) ∙ sym seen_same ∙ ap (λ (o : Option Config). map plain_fact (volumes_of o)) now_config)),
+        )
 
     pub call_units : config_units (config_of call_note.config) ≡ config_units (config_of note.config)
     call_units = units_same note call_note moved.2.was moved.2.now moved.2.noted moved.2.noted_now moved.2.change.parts.rvg

@@ -37,9 +37,9 @@ use Rattle.vx_yard.proofs.Reaching.{Reaches}
 use Rattle.vx_yard.specs.Standing.{IsSameSite}
 use Rattle.vx_yard.specs.declared.yard.Yard.{Yard}
 use Rattle.vx_above.proofs.FuseGoing.{fused_goes}
-use Rattle.vx_above.proofs.Moved.{OverCall, call_note, call_off, call_running, call_units, call_up}
+use Rattle.vx_above.proofs.Moved.{OverCall, call_named, call_note, call_off, call_running, call_units, call_up}
 use Rattle.vx_above.proofs.OverSeen.{noted_node}
-use Rattle.vx_above.proofs.OverSites.{note_is}
+use Rattle.vx_above.proofs.OverSites.{note_is, site_named}
 use Rattle.vx_model.specs.Sites.{is_origin}
 
 -- ---- fuses
@@ -147,8 +147,12 @@ module _ {R : Type 0} {g : Ghosts R} (d : Doubted) (old new : Yard R g) (s : ℕ
               subst (λ (x : Node). IsSameSite x a.node) here (record { name = w.name; disks = w.disks; blocks = w.blocks; volumes = w.volumes });
         }
 
-    noted_with : (base k : Node) → NotesAs base k → base.group ≡ Some next → SiteNoted base next (Over p) → NotedAt k (Over p)
-    noted_with base k like group noted = noted_as base k like p (λ note is. subst (λ (x : GroupNode). SiteNoted base x (Over p)) (some_same (sym group ∙ is)) noted)
+    noted_with : (base k : Node) → NotesAs base k → base.group ≡ Some next → base.volumes ≡ n.volumes → SiteNoted base next (Over p) → NotedAt k (Over p)
+    noted_with base k like group volumes noted =
+        noted_as base k like p (
+          (λ note is. subst (λ (x : GroupNode). SiteNoted base x (Over p)) (some_same (sym group ∙ is)) noted),
+          call_named d old new s o p call (site_named d old s o call.stands call.below call.changed.there) base volumes group,
+        )
 
     -- ---- the site is up still
 
@@ -162,7 +166,7 @@ module _ {R : Type 0} {g : Ghosts R} (d : Doubted) (old new : Yard R g) (s : ℕ
       pub noted_up : NotedAt ((with_one e s node_up).world.nodes s) (Over p)
       noted_up =
           subst (λ (x : Node). NotedAt x (Over p)) (sym (at_place e.world.nodes s node_up))
-          (noted_with (with_note next n) node_up (record { name = stays.name; disks = stays.disks; blocks = stays.blocks; volumes = stays.volumes; group = refl; state = up ∙ sym call.up; fuse = refl }) refl
+          (noted_with (with_note next n) node_up (record { name = stays.name; disks = stays.disks; blocks = stays.blocks; volumes = stays.volumes; group = refl; state = up ∙ sym call.up; fuse = refl }) refl refl
           (call_up d old new s o p call (beside_of e s) m reach.stands up).0)
 
     -- ---- its fuse ran out
@@ -177,5 +181,5 @@ module _ {R : Type 0} {g : Ghosts R} (d : Doubted) (old new : Yard R g) (s : ℕ
       pub noted_off : NotedAt ((with_one e s node_off).world.nodes s) (Over p)
       noted_off =
           subst (λ (x : Node). NotedAt x (Over p)) (sym (at_place e.world.nodes s node_off))
-          (noted_with (crashed (with_note next n) 0) node_off (record { name = stays.name; disks = stays.disks; blocks = stays.blocks; volumes = stays.volumes; group = refl; state = down; fuse = refl }) refl
+          (noted_with (crashed (with_note next n) 0) node_off (record { name = stays.name; disks = stays.disks; blocks = stays.blocks; volumes = stays.volumes; group = refl; state = down; fuse = refl }) refl refl
           (call_off d old new s o p call (beside_of e s) m reach.stands down).0)

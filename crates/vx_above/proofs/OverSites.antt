@@ -9,7 +9,7 @@ use Rattle.vx_model.specs.declared.site.SiteState.TheVariants.{Bare as IsBare, U
 use Rattle.vx_disk.specs.declared.shelf.Shelf.{Ghosts}
 use Rattle.vx_diskset.specs.Aboves.{below_site}
 use Rattle.vx_diskset.specs.Holds.{KeptBeside}
-use Rattle.vx_diskset.specs.Noted.{NotedOn, SiteNoted, below_rvg}
+use Rattle.vx_diskset.specs.Noted.{IsNamed, NotedOn, SiteNoted, below_rvg}
 use Rattle.vx_diskset.specs.Stands.{IsGroupSet, OverStands, SiteStands, bare_with}
 use Rattle.vx_diskset.specs.declared.disk_set.DiskSet.{DiskSet}
 use Rattle.vx_diskset.specs.declared.disk_set.DiskSet.TheVariants.{Bare, Spoiled, Up, Receives, Down, OfGroup, Over, Gone}
@@ -63,7 +63,11 @@ module _ {R : Type 0} {g : Ghosts R} where
   -- what is noted of them
   pub site_noted : (d : Doubted) (y : Yard R g) (s : ℕ) (o : OverSet R g) → StandsFor d y → s < d.world.sites → slice_get y.disk_sets.items s ≡ Some (Over o) → is_over_rvg (d.world.nodes s) ≡ true
       → SiteNoted (d.world.nodes s) (note_at (d.world.nodes s)) (Over o)
-  site_noted d y s o stands below there over = stands.noted s (Over o) below there (note_at (d.world.nodes s)) (note_is (d.world.nodes s) over)
+  site_noted d y s o stands below there over = (stands.noted s (Over o) below there).0 (note_at (d.world.nodes s)) (note_is (d.world.nodes s) over)
+
+  -- and how its data volumes are named
+  pub site_named : (d : Doubted) (y : Yard R g) (s : ℕ) (o : OverSet R g) → StandsFor d y → s < d.world.sites → slice_get y.disk_sets.items s ≡ Some (Over o) → IsNamed (d.world.nodes s)
+  site_named d y s o stands below there = (stands.noted s (Over o) below there).1
 
   -- a note that a site is up holds only where its group is up, and one that it is down only where it is not
   up_on : (n k : Node) (note : GroupNode) (beside : KeptBeside) (s : OverSite R g) → OverStands beside n s → n.state ≡ IsUp → NotedOn k note (below_site s) → k.state ≡ IsUp

@@ -3,14 +3,16 @@ use Rattle.std.proofs.Common.{◌≡◌, ◌∙◌, ◌+◌, ◌++◌, ℕ, List
 use Rattle.std.specs.Prelude.{Option, Some, None, option_map, slice_get}
 use Rattle.std.proofs.lemmas.Option.{slice_get-map}
 use Rattle.vx_model.specs.declared.units.Units.{Units}
+use Rattle.vx_config.specs.Checks.{blocks_or_none}
 use Rattle.vx_config.specs.declared.config.Config.{Config}
 use Rattle.vx_config.specs.declared.entry.VolumeEntry.{VolumeEntry}
 use Rattle.vx_history.specs.Groups.{GroupNode}
 use Rattle.vx_history.specs.World.{Node, Volume}
+use Rattle.vx_history.specs.declared.volumes.DataVolume.{DataVolume}
 use Rattle.vx_order.specs.declared.facts.VolumeFacts.{VolumeFacts}
 use Rattle.vx_events.specs.Facts.{volume_fact}
 use Rattle.vx_events.specs.GroupViews.{config_of, plain_fact, volumes_of}
-use Rattle.vx_events.specs.RvgFits.{config_rvg, entries_noted, rvg_noted}
+use Rattle.vx_events.specs.RvgFits.{config_rvg, data_at, entries_noted, entry_name, rvg_noted}
 use Rattle.vx_events.specs.RvgViews.{data_facts, data_units, is_data_unit, kind_at, kinded, others_by, others_from, others_of, over_table, plexes_in, unless_data}
 
 -- ---- the volumes that are no data volumes, by what the tests see of them in another kind
@@ -76,3 +78,37 @@ table_like n m note next volumes rvg same =
 -- of a site with the same volumes
 pub table_again : (n m : Node) (note : GroupNode) → m.volumes ≡ n.volumes → over_table m note ≡ over_table n note
 table_again n m note volumes = ap (λ (xs : List Volume). data_facts (entries_noted note) (data_units (rvg_noted note)) xs ++ others_of (config_of note.config)) volumes
+
+-- ---- the data volumes by their places
+
+abbrev name_seen : Option VolumeFacts → List ℕ
+name_seen None = []
+name_seen (Some f) = f.name
+
+abbrev blocks_seen : Option VolumeFacts → ℕ
+blocks_seen None = 0
+blocks_seen (Some f) = f.blocks
+
+name_as : (o : Option VolumeEntry) → entry_name o ≡ name_seen (option_map plain_fact o)
+name_as None = refl
+name_as (Some v) = refl
+
+blocks_as : (o : Option VolumeEntry) → blocks_or_none o ≡ blocks_seen (option_map plain_fact o)
+blocks_as None = refl
+blocks_as (Some v) = refl
+
+abbrev data_seen : List VolumeFacts → (place : ℕ) → DataVolume
+data_seen fs place = record { place = place; name = name_seen (slice_get fs place); blocks = blocks_seen (slice_get fs place) }
+
+-- a data volume is seen with its name and its blocks
+data_as : (vs : List VolumeEntry) (p : ℕ) → data_at vs p ≡ data_seen (map plain_fact vs) p
+data_as vs p =
+    ap (λ (name : List ℕ). (let x : DataVolume = record { place = p; name = name; blocks = blocks_or_none (slice_get vs p) } in x)) (name_as (slice_get vs p) ∙ ap name_seen (sym (slice_get-map plain_fact vs p)))
+    ∙ ap (λ (k : ℕ). (let x : DataVolume = record { place = p; name = name_seen (slice_get (map plain_fact vs) p); blocks = k } in x)) (blocks_as (slice_get vs p) ∙ ap blocks_seen (sym (slice_get-map plain_fact vs p)))
+
+-- those of volumes that look the same are the same
+pub data_again : (us vs : List VolumeEntry) (places : List ℕ) → map plain_fact us ≡ map plain_fact vs → map (data_at us) places ≡ map (data_at vs) places
+data_again us vs [] same = refl
+data_again us vs (p ∷ places) same =
+    ap (λ (x : DataVolume). x ∷ map (data_at us) places) (data_as us p ∙ ap (λ (fs : List VolumeFacts). data_seen fs p) same ∙ sym (data_as vs p))
+    ∙ ap (λ (xs : List DataVolume). data_at vs p ∷ xs) (data_again us vs places same)

@@ -24,7 +24,7 @@ use Rattle.vx_diskset.specs.Asked.{FailsAs, FusedAs, SameFailing}
 use Rattle.vx_diskset.specs.GroupCalls.{CalledOn}
 use Rattle.vx_diskset.specs.Holds.{beside_of, doubt_of}
 use Rattle.vx_diskset.specs.Makings.{StandsUnlinked, rvg_made}
-use Rattle.vx_diskset.specs.Noted.{NotedAt, SiteNoted}
+use Rattle.vx_diskset.specs.Noted.{IsNamed, NotedAt, SiteNoted}
 use Rattle.vx_diskset.specs.Stands.{RoleIs, SiteStands}
 use Rattle.vx_diskset.specs.declared.disk_set.DiskSet.{DiskSet}
 use Rattle.vx_diskset.specs.declared.disk_set.DiskSet.TheVariants.{OfGroup}
@@ -59,15 +59,15 @@ no_after w s (Some a) is = absurd (never_some (sym is))
 
 module _ {R : Type 0} {g : Ghosts R} where
   -- what stands by one note of a site stands by that which the site notes
-  noted_at : (k : Node) (note : GroupNode) (e : DiskSet R g) → k.group ≡ Some note → SiteNoted k note e → NotedAt k e
-  noted_at k note (Bare rack) is it = tt
-  noted_at k note (Spoiled rack) is it = tt
-  noted_at k note (Up rvg) is it = tt
-  noted_at k note (Receives site) is it = tt
-  noted_at k note (Down rack) is it = tt
-  noted_at k note (OfGroup site) is it = tt
-  noted_at k note (Over site) is it = λ other there. subst (λ (x : GroupNode). SiteNoted k x (Over site)) (some_same (sym is ∙ there)) it
-  noted_at k note Gone is it = tt
+  noted_at : (k : Node) (note : GroupNode) (e : DiskSet R g) → k.group ≡ Some note → IsNamed k → SiteNoted k note e → NotedAt k e
+  noted_at k note (Bare rack) is named it = tt
+  noted_at k note (Spoiled rack) is named it = tt
+  noted_at k note (Up rvg) is named it = tt
+  noted_at k note (Receives site) is named it = tt
+  noted_at k note (Down rack) is named it = tt
+  noted_at k note (OfGroup site) is named it = tt
+  noted_at k note (Over site) is named it = (λ other there. subst (λ (x : GroupNode). SiteNoted k x (Over site)) (some_same (sym is ∙ there)) it, named)
+  noted_at k note Gone is named it = tt
 
 module _ {R : Type 0} {g : Ghosts R} (d : Doubted) (old new : Yard R g) (name srl maps : List ℕ) (volumes : List (List ℕ)) (s : ℕ) (before after : DiskSet R g) (stands : StandsFor d old)
     (at : RvgAt d old name srl maps volumes s before) (changed : Changed old new s before after) (failing : SameFailing before after) (since : CalledOn before after) where
@@ -162,9 +162,12 @@ module _ {R : Type 0} {g : Ghosts R} (d : Doubted) (old new : Yard R g) (name sr
       fits_here : FitsSome k (at_serial 0 sits.config)
       fits_here = subst (λ (x : Node). FitsSome x (at_serial 0 sits.config)) arrives.node (fits (at_serial 0 sits.config) (notes_config gained sits.config sits.noted))
 
+      here_named : IsNamed k
+      here_named = (at_serial 0 sits.config, fits_here.0, notes_config gained sits.config sits.noted, fits_here.1.rvg, fits_here.1.volumes)
+
       -- and it is so noted
       here_noted : NotedAt k after
-      here_noted = noted_at k gained after refl (subst (λ (x : Node). SiteNoted x gained after) same_made noted)
+      here_noted = noted_at k gained after refl here_named (subst (λ (x : Node). SiteNoted x gained after) same_made noted)
 
       pub seen : made_facts sits.core sits.config (fact_of_group (d.world.nodes s) (note_at (d.world.nodes s))) ≡ fact_over rvg_next.world s
       seen = gained_fact rvg_next.world s n k note gained sits.core sits.config fits_here.0 arrives.node refl (notes_config gained sits.config sits.noted) at.up over (many_apart k many) fits_here.1.rvg fits_here.1.volumes arrives.links refl refl refl

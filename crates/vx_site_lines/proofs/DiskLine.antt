@@ -93,7 +93,7 @@ module _ {R : Type 0} {g : Ghosts R} where
   units_at beside n (Receives site) noted h = (raw_in n (g.meaning site.rvg.shelf) h.0.0 h.1.lies).units
   units_at beside n (Down rack) noted h = h.lies.units
   units_at beside n (OfGroup s) noted h = group_units n s.site h.stands
-  units_at beside n (Over s) noted h = let has = note_of n.group h.0.0 in over_units n has.0 (site_in s) (noted has.0 has.1).0
+  units_at beside n (Over s) noted h = let has = note_of n.group h.0.0 in over_units n has.0 (site_in s) (noted.0 has.0 has.1).0
   units_at beside n Gone noted h = absurd h
 
   -- the disk that the line names is one of the site's

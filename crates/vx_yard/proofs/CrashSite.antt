@@ -240,6 +240,7 @@ module _ {R : Type 0} {g : Ghosts R} where
             keeps = keeps;
             said = crash_said d s count false n (d.world.links s) refl (λ j. refl) (λ _. refl) below up least most;
             down = ap (λ (x : Node). x.state) (crash_node d s count false n (d.world.links s) refl (λ j. refl) (λ _. refl) below up least most);
+            disks = ap (λ (x : Node). x.disks) (crash_node d s count false n (d.world.links s) refl (λ j. refl) (λ _. refl) below up least most);
             blocks = ap (λ (x : Node). x.blocks) (crash_node d s count false n (d.world.links s) refl (λ j. refl) (λ _. refl) below up least most);
             sites = (crash_changes d s count false n (d.world.links s) refl (λ j. refl) (λ _. refl) below up least most).sites;
             plain = λ over. (omega (arith, most, ap (λ (xs : List Write). length xs) (no_rvg over).log), refl);
@@ -275,6 +276,7 @@ module _ {R : Type 0} {g : Ghosts R} where
             keeps = keeps;
             said = crash_said d s count true a.node a.row node_is row_is (λ e. absurd (never e)) below fits.up_too least most;
             down = ap (λ (x : Node). x.state) (crash_node d s count true a.node a.row node_is row_is (λ e. absurd (never e)) below fits.up_too least most);
+            disks = ap (λ (x : Node). x.disks) (crash_node d s count true a.node a.row node_is row_is (λ e. absurd (never e)) below fits.up_too least most) ∙ same_site.disks;
             blocks = ap (λ (x : Node). x.blocks) (crash_node d s count true a.node a.row node_is row_is (λ e. absurd (never e)) below fits.up_too least most) ∙ same_site.blocks;
             sites = (crash_changes d s count true a.node a.row node_is row_is (λ e. absurd (never e)) below fits.up_too least most).sites;
             plain = λ over. absurd (doubt_apart (beside_of d s) n before k (stands.disk_sets.sites s before below changed.there) up other (no_rvg over).volumes);

@@ -168,6 +168,7 @@ module _ {R : Type 0} {g : Ghosts R} where
     pub keeps : crash_count (d.world.nodes s) count ≡ count
     pub said : (step (doubt_chosen taken d (CrashAt s count)).world (CrashAt s count)).said ≡ IsDone
     pub down : ((crash_of d s count taken).world.nodes s).state ≡ IsDown
+    pub disks : ((crash_of d s count taken).world.nodes s).disks ≡ (d.world.nodes s).disks
     pub blocks : ((crash_of d s count taken).world.nodes s).blocks ≡ (d.world.nodes s).blocks
     pub volumes : ((crash_of d s count taken).world.nodes s).volumes ≡ (d.world.nodes s).volumes
     pub group : ((crash_of d s count taken).world.nodes s).group ≡ (d.world.nodes s).group
