@@ -34,7 +34,7 @@ use Rattle.vx_events.proofs.Values.{length-values_from, slice_get-values_from}
 use Rattle.vx_events.specs.Facts.{seat_of, site_number}
 use Rattle.vx_events.specs.GroupNotes.{note_at}
 use Rattle.vx_events.specs.GroupViews.{volumes_of}
-use Rattle.vx_events.specs.RvgFits.{config_rvg, entries_noted, rvg_noted}
+use Rattle.vx_events.specs.RvgFits.{config_rvg, entries_noted}
 use Rattle.vx_events.specs.RvgNotes.{units_named}
 use Rattle.vx_events.specs.StepsOver.{fact_over, facts_over}
 use Rattle.vx_yard.proofs.OverGroup.{bare_apart, both_ways, over_is, set_notes}

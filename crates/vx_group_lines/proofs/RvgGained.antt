@@ -27,7 +27,7 @@ use Rattle.vx_diskset.specs.Makings.{StandsUnlinked, rvg_made}
 use Rattle.vx_diskset.specs.Noted.{IsNamed, NotedAt, SiteNoted}
 use Rattle.vx_diskset.specs.Stands.{RoleIs, SiteStands}
 use Rattle.vx_diskset.specs.declared.disk_set.DiskSet.{DiskSet}
-use Rattle.vx_diskset.specs.declared.disk_set.DiskSet.TheVariants.{OfGroup}
+use Rattle.vx_diskset.specs.declared.disk_set.DiskSet.TheVariants.{Bare, Spoiled, Up, Receives, Down, OfGroup, Over, Gone}
 use Rattle.vx_events.proofs.Places.{never_some, some_same}
 use Rattle.vx_events.specs.GroupLines.{noting}
 use Rattle.vx_events.specs.GroupNotes.{note_at}
@@ -59,15 +59,15 @@ no_after w s (Some a) is = absurd (never_some (sym is))
 
 module _ {R : Type 0} {g : Ghosts R} where
   -- what stands by one note of a site stands by that which the site notes
-  noted_at : (k : Node) (note : GroupNode) (e : DiskSet R g) → k.group ≡ Some note → IsNamed k → SiteNoted k note e → NotedAt k e
-  noted_at k note (Bare rack) is named it = tt
-  noted_at k note (Spoiled rack) is named it = tt
-  noted_at k note (Up rvg) is named it = tt
-  noted_at k note (Receives site) is named it = tt
-  noted_at k note (Down rack) is named it = tt
-  noted_at k note (OfGroup site) is named it = tt
-  noted_at k note (Over site) is named it = (λ other there. subst (λ (x : GroupNode). SiteNoted k x (Over site)) (some_same (sym is ∙ there)) it, named)
-  noted_at k note Gone is named it = tt
+  over_noted : (k : Node) (note : GroupNode) (e : DiskSet R g) → k.group ≡ Some note → IsNamed k → SiteNoted k note e → NotedAt k e
+  over_noted k note (Bare rack) is named it = tt
+  over_noted k note (Spoiled rack) is named it = tt
+  over_noted k note (Up rvg) is named it = tt
+  over_noted k note (Receives site) is named it = tt
+  over_noted k note (Down rack) is named it = tt
+  over_noted k note (OfGroup site) is named it = tt
+  over_noted k note (Over site) is named it = (λ other there. subst (λ (x : GroupNode). SiteNoted k x (Over site)) (some_same (sym is ∙ there)) it, named)
+  over_noted k note Gone is named it = tt
 
 module _ {R : Type 0} {g : Ghosts R} (d : Doubted) (old new : Yard R g) (name srl maps : List ℕ) (volumes : List (List ℕ)) (s : ℕ) (before after : DiskSet R g) (stands : StandsFor d old)
     (at : RvgAt d old name srl maps volumes s before) (changed : Changed old new s before after) (failing : SameFailing before after) (since : CalledOn before after) where
@@ -167,7 +167,7 @@ module _ {R : Type 0} {g : Ghosts R} (d : Doubted) (old new : Yard R g) (name sr
 
       -- and it is so noted
       here_noted : NotedAt k after
-      here_noted = noted_at k gained after refl here_named (subst (λ (x : Node). SiteNoted x gained after) same_made noted)
+      here_noted = over_noted k gained after refl here_named (subst (λ (x : Node). SiteNoted x gained after) same_made noted)
 
       pub seen : made_facts sits.core sits.config (fact_of_group (d.world.nodes s) (note_at (d.world.nodes s))) ≡ fact_over rvg_next.world s
       seen = gained_fact rvg_next.world s n k note gained sits.core sits.config fits_here.0 arrives.node refl (notes_config gained sits.config sits.noted) at.up over (many_apart k many) fits_here.1.rvg fits_here.1.volumes arrives.links refl refl refl

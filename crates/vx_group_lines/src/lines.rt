@@ -1,5 +1,5 @@
 // The lines that go to the group of a site, and their work.
-ghost use Rattle.std.specs.Prelude.{◌≡◌, ℕ, List, IfOk, IsOk, IsSome, Some, slice_get, false, true};
+ghost use Rattle.std.specs.Prelude.{◌≡◌, ℕ, IfOk, IsOk, IsSome, Some, slice_get, false, true};
 ghost use Rattle.vx_history.specs.Doubts.{Doubted};
 ghost use Rattle.vx_order.specs.Calls.{is_data};
 ghost use Rattle.vx_order.specs.declared.facts.SiteFacts.{SiteFacts};
