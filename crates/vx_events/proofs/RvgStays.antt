@@ -19,7 +19,7 @@ use Rattle.vx_events.specs.Fails.{Fails}
 use Rattle.vx_events.specs.GroupConfigs.{ConfigLoses}
 use Rattle.vx_events.specs.GroupEnds.{NotFoundLeaves}
 use Rattle.vx_events.specs.GroupLines.{group_noted, noting}
-use Rattle.vx_events.specs.GroupNotes.{IsKnown, NotesBack, NotesRefused, Reconfigures, no_note, note_at}
+use Rattle.vx_events.specs.GroupNotes.{IsKnown, NotesBack, NotesRefused, NotesUnfound, Reconfigures, no_note, note_at}
 use Rattle.vx_events.specs.GroupViews.{config_of}
 use Rattle.vx_events.specs.RvgBack.{FindsNoRvg, FindsPlain, FindsRvg, GroupHeld, GroupUnfound, IsLeftBack, IsLeftBut, KeptLost, LogFails, LogLacks, RvgBack, RvgFinds, RvgUp}
 use Rattle.vx_events.specs.RvgFits.{KeepsRvg, KeptConfig, NoteKeepsRvg, config_rvg, rvg_noted}
@@ -60,6 +60,10 @@ loses s fails note next x = reconfigured note next (λ c d. loses_keeps (λ _. f
 pub refused_config : (note next : GroupNode) → NotesRefused note next → next.config ≡ note.config
 refused_config note next (inl same) = ap (λ (g : GroupNode). g.config) same
 refused_config note next (inr dark) = ap (λ (g : GroupNode). g.config) dark
+
+pub unmade_config : (note next : GroupNode) → NotesUnfound note next → next.config ≡ note.config
+unmade_config note next (inl refused) = refused_config note next refused
+unmade_config note next (inr loose) = refused_config (record note { loose = true }) next loose
 
 unfound_config : (why : No) (note next : GroupNode) → NotFoundLeaves why note next → next.config ≡ note.config
 unfound_config (Limit Number most) note next leaves = refused_config note next leaves
@@ -137,7 +141,7 @@ module _ (told : Type 0) (d : Doubted) (line : ScriptLine) (s : ℕ) (fails : Fa
   finds_stays tells (FindsPlain kept taken next mid has are brings unknown dark is none says left) known =
       absurd (never (sym known ∙ back_dark s line taken next d _ new left ∙ dark tells))
   finds_stays tells (FindsNoRvg kept taken lost next why has are brings unknown device notes says left) known =
-      but_keeps lost taken next d _ left (same_config here next (refused_config here next notes))
+      but_keeps lost taken next d _ left (same_config here next (unmade_config here next notes))
 
   -- ---- other lines
 

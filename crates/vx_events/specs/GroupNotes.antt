@@ -153,6 +153,10 @@ pub record NotesUnread (told : Type 0) (s : ℕ) (n : Node) (fails : Fails) (not
 abbrev pub NotesRefused : (note new : GroupNode) → Type 0
 NotesRefused note new = (new ≡ note) ⊎ (new ≡ note_dark note)
 
+-- what was found on disks of which nothing is known was refused: imports of them may disagree besides
+abbrev pub NotesUnfound : (note new : GroupNode) → Type 0
+NotesUnfound note new = NotesRefused note new ⊎ NotesRefused (record note { loose = true }) new
+
 -- memory ran out in one, before it wrote: only of disks that may not agree it is not known any more what they hold
 abbrev pub NotesShort : (note new : GroupNode) → Type 0
 NotesShort note new = (new ≡ note) ⊎ ((note.loose ≡ true) × (new ≡ note_dark note))

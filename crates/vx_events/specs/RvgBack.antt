@@ -25,7 +25,7 @@ use Rattle.vx_events.specs.Fails.{Fails}
 use Rattle.vx_events.specs.Found.{ComesUpAs}
 use Rattle.vx_events.specs.GroupEnds.{AreOf, BringsUp, KnowsNothing, NotFound, NotFoundLeaves, SaysFound}
 use Rattle.vx_events.specs.GroupLines.{fuse_lost, group_noted, noting}
-use Rattle.vx_events.specs.GroupNotes.{NotesBack, NotesRefused, note_at}
+use Rattle.vx_events.specs.GroupNotes.{NotesBack, NotesRefused, NotesUnfound, note_at}
 use Rattle.vx_events.specs.GroupReplies.{ShowsKept}
 use Rattle.vx_events.specs.GroupViews.{config_of}
 use Rattle.vx_events.specs.LinkViews.{linked_view}
@@ -115,6 +115,11 @@ SaysFoundUp (Recover site) s next v said = (kept : Option Kept) × (said ≡ rvg
 SaysFoundUp (GroupImport site) s next v said = said ≡ Done
 SaysFoundUp other s next v said = ⊥
 
+-- why it is refused: a disk failed, or there is nothing that stands by itself
+abbrev pub FailsOrNone : Fails → (s : ℕ) → No → Type 0
+FailsOrNone fails s (Device disk) = Contains fails (s, disk)
+FailsOrNone fails s other = IsNoDevice other
+
 -- What stood on disks of which nothing is known came up with the links that the header of its log keeps, and the world has strayed; or it was refused.
 pub data RvgFinds (told : Type 0) (d : Doubted) (line : ScriptLine) (s : ℕ) (fails : Fails) (said : Said) (new : Doubted) : Type 0 where
   FindsRvg : (kept : ℕ) (taken : Bool) (next : GroupNode) (mid : Doubted) (n k : Node) (row : ℕ → Link) (c : Config) (units : Units) → AreOf s fails → BringsUp line
@@ -129,5 +134,5 @@ pub data RvgFinds (told : Type 0) (d : Doubted) (line : ScriptLine) (s : ℕ) (f
       → IsLeftBack s line taken next d (gone_astray (found_linked mid s (group_set s (mid.world.nodes s)) (λ k. no_link))) new → RvgFinds told d line s fails said new
   FindsNoRvg : (kept : ℕ) (taken lost : Bool) (next : GroupNode) (why : No) → is_over_rvg (d.world.nodes s) ≡ true → AreOf s fails → BringsUp line
       → KnowsNothing told (note_at (d.world.nodes s))
-      → IsNoDevice why → NotesRefused (note_at (d.world.nodes s)) next → said ≡ Refused why
+      → FailsOrNone fails s why → NotesUnfound (note_at (d.world.nodes s)) next → said ≡ Refused why
       → IsLeftBut lost s line taken next d (run_as taken d (fall_first (d.world.nodes s).state s kept)) new → RvgFinds told d line s fails said new

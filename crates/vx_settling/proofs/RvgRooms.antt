@@ -17,7 +17,7 @@ use Rattle.vx_world.proofs.Rooms.{room_then}
 use Rattle.vx_world.specs.Lines.{DoubtsAlike, GoodDoubted, HasData, RoomStays, SameRoom}
 use Rattle.vx_events.proofs.RvgAgain.{fits_again, fits_found}
 use Rattle.vx_events.proofs.RvgEnding.{back_like, fall_stops, stops_or_finds}
-use Rattle.vx_events.proofs.RvgStays.{back_group, but_keeps, refused_config, same_config, stays_or_finds}
+use Rattle.vx_events.proofs.RvgStays.{back_group, but_keeps, same_config, stays_or_finds, unmade_config}
 use Rattle.vx_events.specs.Ends.{found_linked}
 use Rattle.vx_events.specs.Fails.{Fails}
 use Rattle.vx_events.specs.GroupNotes.{note_at}
@@ -105,7 +105,7 @@ module _ (told : Type 0) (d : Doubted) (good : GoodDoubted d) (alike : DoubtsAli
   finds_fits s made over fits still (FindsNoRvg kept taken lost next why has are brings unknown device notes says left) =
       stopped_fits s made over (fall_stops d s line kept taken lost next new left)
       (but_keeps told d line s fails said new over lost taken next d _ left
-      (same_config (note_at (d.world.nodes s)) next (refused_config (note_at (d.world.nodes s)) next notes))) fits
+      (same_config (note_at (d.world.nodes s)) next (unmade_config (note_at (d.world.nodes s)) next notes))) fits
 
   pub over_fits : (s : ℕ) → IsMade (d.world.nodes s) → is_over_rvg (d.world.nodes s) ≡ true → OpensFor d.world line
       → OverRvg told d line s fails said new → FitsNoted (d.world.nodes s) → is_over_rvg (new.world.nodes s) ≡ true → FitsNoted (new.world.nodes s)
