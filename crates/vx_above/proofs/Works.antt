@@ -67,6 +67,11 @@ module _ {R : Type 0} {g : Ghosts R} where
       let there = get_there new.disk_sets.items s (omega (arith, below, stands.disk_sets.few, stands.disk_sets.eight)) in
       over_plain (beside_of next s) (next.world.nodes s) there.0 (stands.disk_sets.sites s there.0 below there.1) over
 
+  -- a line for which memory was short before it began
+  pub works_short : (d : Doubted) (line : ScriptLine) (old new : Yard R g) (r : Result Said OutOfMemory) (e : OutOfMemory) → r ≡ Err e → LeadsIs d line old new r → WorksIs d line old new r
+  works_short d line old new (Ok said) e is leads = absurd (cc)
+  works_short d line old new (Err x) e is stays = stops_full d line old new (stays_short d line old new stays)
+
   -- ---- a line at sites without one
 
   module _ (d : Doubted) (line : ScriptLine) (old new : Yard R g) (none : MakesNoRvg line) (closed : is_open d.world line ≡ false) (off : is_for_rvg d.world line ≡ false) where

@@ -29,6 +29,19 @@ open_links w (Show site volume start count) closed = refl
 open_links w (Apply site to) closed = refl
 open_links w other closed = closed
 
+pub open_beside : (w : World) (line : ScriptLine) → is_for_rvg w line ≡ false → links_rvg w line ≡ false → is_open w line ≡ false
+open_beside w (GroupDeport site) off links = off
+open_beside w (GroupImport site) off links = off
+open_beside w (Volume site volume blocks mirrors layout log map policy) off links = off
+open_beside w (PlexDetach site volume plex) off links = off
+open_beside w (PlexAttach site volume plex) off links = off
+open_beside w (Write site volume start count fill) off links = ap (λ (b : Bool). b && not (is_data (kind_named (w.nodes (site_number w site)) volume))) off
+open_beside w (Put site volume start bytes) off links = ap (λ (b : Bool). b && not (is_data (kind_named (w.nodes (site_number w site)) volume))) off
+open_beside w (Read site volume start count) off links = ap (λ (b : Bool). b && not (is_data (kind_named (w.nodes (site_number w site)) volume))) off
+open_beside w (Show site volume start count) off links = ap (λ (b : Bool). b && not (is_data (kind_named (w.nodes (site_number w site)) volume))) off
+open_beside w (Apply site to) off links = off
+open_beside w other off links = links
+
 data_by : (over : Bool) (kind : VolumeKind) → over ≡ true → (over && not (is_data kind)) ≡ false → kind ≡ Data
 data_by true Data is closed = refl
 data_by true Srl is closed = absurd (cc)

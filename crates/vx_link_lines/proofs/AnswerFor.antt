@@ -10,7 +10,7 @@ use Rattle.vx_order.specs.Packets.{packet_unknown}
 use Rattle.vx_order.specs.declared.facts.SiteFacts.{SiteFacts}
 use Rattle.vx_script.specs.declared.line.ScriptLine.{ScriptLine}
 use Rattle.vx_script.specs.declared.line.ScriptLine.TheVariants.{Deliver, Settle}
-use Rattle.vx_events.specs.RvgSteps.{FullBy}
+use Rattle.vx_events.specs.RvgSteps.{FullBy, is_for_rvg}
 use Rattle.vx_events.specs.StepsOver.{refused_over}
 use Rattle.vx_events.specs.Sent.{sent_between}
 use Rattle.vx_events.specs.declared.said.Said.{Said}
@@ -18,12 +18,13 @@ use Rattle.vx_events.specs.declared.said.Said.TheVariants.{Refused}
 use Rattle.vx_yard.specs.Carries.{Carries}
 use Rattle.vx_yard.specs.OfSites.{AsSettled, HasCalled}
 use Rattle.vx_yard.specs.Replies.{text_of}
-use Rattle.vx_yard.specs.Standing.{AnswersFor, StandsFor, StepsFor}
+use Rattle.vx_yard.specs.Standing.{AnswersFor, StandsFor, StaysFor, StepsFor}
 use Rattle.vx_yard.specs.Working.{IsFree, refused_in, takes_memory}
 use Rattle.vx_yard.specs.Yards.{IsTold, count_of, in_files}
 use Rattle.vx_yard.specs.declared.yard.Yard.{Yard}
 use Rattle.vx_yard.proofs.Carrying.{sent_count}
 use Rattle.vx_yard.proofs.ChangeSite.{rose_none}
+use Rattle.vx_yard.proofs.OfSites.{all_still}
 
 -- the packets that a line sent, by how many there were before and are behind it
 sent_as : (w new : World) (before count : ℕ) → before ≡ length w.packets → count ≡ length new.packets → (if nat_lt before count then Some (before + 1, count) else None) ≡ sent_between w new
@@ -58,6 +59,14 @@ module _ {R : Type 0} {g : Ghosts R} where
   other_settled (Settle p s) old new not = absurd (not p s refl)
   other_settled other old new not = tt
 
+  pub settled_still : (line : ScriptLine) (y : Yard R g) → AsSettled line y y
+  settled_still (Settle p s) y = all_still y y refl
+  settled_still other y = tt
+
+  -- nothing of a line was done
+  pub stays_still : (d : Doubted) (y : Yard R g) → StandsFor d y → StaysFor d y y
+  stays_still d y stands = record { stands = stands; carries = λ was. was; rose = rose_none (count_of y) (count_of y) (λ s u. omega arith) }
+
   -- one that is refused changes nothing
   pub refusal_answer : (d : Doubted) (line : ScriptLine) (y : Yard R g) (why : No) → StandsFor d y → Carries d y → refused_in y line ≡ Some why → AnswersFor d line (Refused why) y y
   refusal_answer d line y why stands carries is =
@@ -73,7 +82,7 @@ module _ {R : Type 0} {g : Ghosts R} where
 
   -- what it prints, with the numbers of the packets that it sent
   pub answer_steps : (d : Doubted) (line : ScriptLine) (old new : Yard R g) (said : Said) (before count : ℕ) (sent : Option (ℕ × ℕ)) → Carries d old → before ≡ old.flight.count → count ≡ new.flight.count
-      → sent ≡ (if nat_lt before count then Some (before + 1, count) else None) → AnswersFor d line said old new → (IsFree old line → HasCalled d.world line said old new) → StepsFor d line old new (text_of said sent)
+      → sent ≡ (if nat_lt before count then Some (before + 1, count) else None) → AnswersFor d line said old new → (IsFree old line → is_for_rvg d.world line ≡ false → HasCalled d.world line said old new) → StepsFor d line old new (text_of said sent)
   answer_steps d line old new said before count sent was first last is a called = record {
     next = a.next;
     fails = a.fails;
@@ -85,5 +94,5 @@ module _ {R : Type 0} {g : Ghosts R} where
     stands = a.stands;
     carries = a.carries;
     rose = a.rose;
-    called = λ free. called free;
+    called = λ free off. called free off;
   }

@@ -1,9 +1,8 @@
--- Lines of links work at no site of one, bring no group up, and make no replicated volume group.
+-- Lines of links work at no site of a group, and make no replicated volume group.
 use Rattle.std.proofs.Common.{◌≡◌, false, true, refl}
 use Rattle.vx_history.specs.World.{World}
 use Rattle.vx_script.specs.declared.line.ScriptLine.{ScriptLine}
 use Rattle.vx_script.specs.declared.line.ScriptLine.TheVariants.{Connect, Cut, Link, Pause, Pump, Resume, Set, Tick, Wait}
-use Rattle.vx_events.specs.GroupEnds.{BringsUp}
 use Rattle.vx_events.specs.RvgSteps.{MakesNoRvg, is_for_rvg}
 use Rattle.vx_events.specs.StepsOver.{is_for_group}
 use Rattle.vx_yard.specs.LinkLines.{is_on_links}
@@ -43,15 +42,3 @@ links_no_group w (Pump p s) on = refl
 links_no_group w (Tick p s) on = refl
 links_no_group w (Wait p number) on = refl
 links_no_group w other on = absurd (cc)
-
-pub links_bring_none : (line : ScriptLine) → is_on_links line ≡ true → BringsUp line → ⊥
-links_bring_none (Link p s sync prot) on brings = brings
-links_bring_none (Set p s sync prot) on brings = brings
-links_bring_none (Connect p s) on brings = brings
-links_bring_none (Cut p s) on brings = brings
-links_bring_none (Pause p s) on brings = brings
-links_bring_none (Resume p s) on brings = brings
-links_bring_none (Pump p s) on brings = brings
-links_bring_none (Tick p s) on brings = brings
-links_bring_none (Wait p number) on brings = brings
-links_bring_none other on brings = absurd (cc)

@@ -1,6 +1,7 @@
 // What a line is answered.
 ghost use Rattle.std.specs.Prelude.{◌≡◌, IfOk, IsOk, IsSome, false, true};
 ghost use Rattle.vx_history.specs.Doubts.{Doubted};
+ghost use Rattle.vx_events.specs.OpenLines.{is_open};
 ghost use Rattle.vx_events.specs.Parts.{goes_in_parts};
 ghost use Rattle.vx_events.specs.StepsOver.{is_for_group};
 ghost use Rattle.vx_events.specs.RvgLinks.{links_rvg};
@@ -35,7 +36,7 @@ use vx_yard::Yard;
 fn recover<R: Rack>(yard: &mut Yard<R>, alloc: Global, site: &Name) -> Result<Said, OutOfMemory>
     requires kept { IsYardKept yard.old }
     requires free { IsFree yard.old (Recover site.now) }
-    ensures leads { (d : Doubted) → StandsFor d yard.old → is_for_group d.world (Recover site.now) ≡ false → WorksIs d (Recover site.now) yard.old yard.new result }
+    ensures leads { (d : Doubted) → StandsFor d yard.old → goes_to_group d.world (Recover site.now) ≡ false → WorksIs d (Recover site.now) yard.old yard.new result }
     ensures asked { (d : Doubted) → StandsFor d yard.old → is_for_group d.world (Recover site.now) ≡ false → AsAsked d.world (Recover site.now) yard.old yard.new }
     ensures told { IsTold yard.new → IsTold yard.old }
     ensures files { in_files yard.new ≡ in_files yard.old }
@@ -47,14 +48,14 @@ fn recover<R: Rack>(yard: &mut Yard<R>, alloc: Global, site: &Name) -> Result<Sa
     }
 }
 
-// Does a line that no test refuses, whole or not at all.
+// Does a line that no test refuses and that is not open, whole or not at all.
 fn work<R: Rack>(yard: &mut Yard<R>, alloc: Global, words: &ScriptLine) -> Result<Said, OutOfMemory>
     requires built { is_built words.now ≡ true }
     requires whole { goes_in_parts words.now ≡ false }
     requires other { is_group_line words.now ≡ false }
     requires kept { IsYardKept yard.old }
     requires free { IsFree yard.old words.now }
-    ensures leads { (d : Doubted) → StandsFor d yard.old → goes_to_group d.world words.now ≡ false → Carries d yard.old → GoodFor d yard.old → WorksIs d words.now yard.old yard.new result }
+    ensures leads { (d : Doubted) → StandsFor d yard.old → goes_to_group d.world words.now ≡ false → is_open d.world words.now ≡ false → Carries d yard.old → GoodFor d yard.old → WorksIs d words.now yard.old yard.new result }
     ensures asked { (d : Doubted) → StandsFor d yard.old → goes_to_group d.world words.now ≡ false → is_for_rvg d.world words.now ≡ false → links_rvg d.world words.now ≡ false → AsAsked d.world words.now yard.old yard.new }
     ensures called { (d : Doubted) → StandsFor d yard.old → goes_to_group d.world words.now ≡ false → is_for_rvg d.world words.now ≡ false → links_rvg d.world words.now ≡ false → Carries d yard.old → GoodFor d yard.old → IfOk result (λ said. HasCalled d.world words.now said yard.old yard.new) }
     // Memory is short for no line that takes none.
@@ -124,7 +125,7 @@ fn work<R: Rack>(yard: &mut Yard<R>, alloc: Global, words: &ScriptLine) -> Resul
     }
 }
 
-// Does a line that no test refuses. One that goes in parts may be done in part.
+// Does a line that no test refuses and that is not open. One that goes in parts may be done in part.
 fn perform<R: Rack>(
     yard: &mut Yard<R>,
     alloc: Global,
@@ -133,9 +134,9 @@ fn perform<R: Rack>(
     requires built { is_built words.now ≡ true }
     requires kept { IsYardKept yard.old }
     requires free { IsFree yard.old words.now }
-    ensures leads { (d : Doubted) → StandsFor d yard.old → Carries d yard.old → GoodFor d yard.old → WorksIs d words.now yard.old yard.new result }
+    ensures leads { (d : Doubted) → StandsFor d yard.old → is_open d.world words.now ≡ false → Carries d yard.old → GoodFor d yard.old → WorksIs d words.now yard.old yard.new result }
     ensures asked { (d : Doubted) → StandsFor d yard.old → is_for_rvg d.world words.now ≡ false → links_rvg d.world words.now ≡ false → AsAsked d.world words.now yard.old yard.new }
-    ensures settled { (d : Doubted) → StandsFor d yard.old → Carries d yard.old → GoodFor d yard.old → AsSettled words.now yard.old yard.new }
+    ensures settled { (d : Doubted) → StandsFor d yard.old → links_rvg d.world words.now ≡ false → Carries d yard.old → GoodFor d yard.old → AsSettled words.now yard.old yard.new }
     ensures called { (d : Doubted) → StandsFor d yard.old → is_for_rvg d.world words.now ≡ false → links_rvg d.world words.now ≡ false → Carries d yard.old → GoodFor d yard.old → IfOk result (λ said. HasCalled d.world words.now said yard.old yard.new) }
     // Memory is short for no line that takes none.
     ensures whole { takes_memory words.now ≡ false → IsOk result }
@@ -175,9 +176,9 @@ pub(crate) fn answer<R: Rack>(
 ) -> Result<Said, OutOfMemory>
     requires built { is_built words.now ≡ true }
     requires kept { IsYardKept yard.old }
-    ensures leads { (d : Doubted) → StandsFor d yard.old → Carries d yard.old → GoodFor d yard.old → AnswersIs d words.now yard.old yard.new result }
+    ensures leads { (d : Doubted) → StandsFor d yard.old → (IsFree yard.old words.now → is_open d.world words.now ≡ false) → Carries d yard.old → GoodFor d yard.old → AnswersIs d words.now yard.old yard.new result }
     ensures asked { (d : Doubted) → StandsFor d yard.old → IsFree yard.old words.now → is_for_rvg d.world words.now ≡ false → links_rvg d.world words.now ≡ false → AsAsked d.world words.now yard.old yard.new }
-    ensures settled { (d : Doubted) → StandsFor d yard.old → Carries d yard.old → GoodFor d yard.old → IsFree yard.old words.now → AsSettled words.now yard.old yard.new }
+    ensures settled { (d : Doubted) → StandsFor d yard.old → links_rvg d.world words.now ≡ false → Carries d yard.old → GoodFor d yard.old → IsFree yard.old words.now → AsSettled words.now yard.old yard.new }
     ensures called { (d : Doubted) → StandsFor d yard.old → is_for_rvg d.world words.now ≡ false → links_rvg d.world words.now ≡ false → Carries d yard.old → GoodFor d yard.old → IsFree yard.old words.now → IfOk result (λ said. HasCalled d.world words.now said yard.old yard.new) }
     // A line that is refused leaves all disks as they are.
     ensures still { IsSome (refused_in yard.old words.now) → yard.new.disk_sets ≡ yard.old.disk_sets }

@@ -42,7 +42,7 @@ use Rattle.vx_yard.specs.Stands.{RoseAll}
 use Rattle.vx_yard.specs.Yards.{IsTold, count_of, in_files}
 use Rattle.vx_yard.specs.declared.yard.Yard.{Yard}
 use Rattle.vx_events.specs.RvgParts.{ShortFull}
-use Rattle.vx_events.specs.RvgSteps.{StepFull}
+use Rattle.vx_events.specs.RvgSteps.{StepFull, is_for_rvg}
 
 -- a site that may be another: it has the same name, disks and volumes
 pub record IsSameSite (n k : Node) : Type 0 where
@@ -209,8 +209,8 @@ module _ {R : Type 0} {g : Ghosts R} where
     pub stands : StandsFor next new
     pub carries : Carries d old → Carries next new
     pub rose : RoseAll fails (count_of old) (count_of new)
-    -- where no test refuses the line, the fuse of its site is as its calls leave it
-    pub called : IsFree old line → HasCalled d.world line prints.said old new
+    -- where no test refuses the line, and no replicated volume group is over a group of its site, the fuse of that is as its calls leave it
+    pub called : IsFree old line → is_for_rvg d.world line ≡ false → HasCalled d.world line prints.said old new
 
   -- The whole text was written. Or the sink failed, and a part of it is missing. Or memory ran out, and nothing was written. Or the run ends at the line, and
   -- nothing was done.
