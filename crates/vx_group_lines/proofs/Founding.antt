@@ -52,6 +52,7 @@ use Rattle.vx_yard.proofs.NamedSite.{place_at, unbegun_for}
 use Rattle.vx_yard.proofs.NoteSite.{comes_same}
 use Rattle.vx_yard.proofs.OfSites.{recovers_rest}
 use Rattle.vx_yard.proofs.OneSite.{Changed, role_off, rose_at, stands_still, told_by}
+use Rattle.vx_yard.proofs.OverGroup.{noted_none}
 use Rattle.vx_yard.proofs.RecoverLine.{bare_events, recover_done}
 use Rattle.vx_yard.proofs.SiteEvents.{first_choice}
 use Rattle.vx_yard.specs.GroupFacts.{group_up_facts}
@@ -100,7 +101,8 @@ module _ {R : Type 0} {g : Ghosts R} where
     still : SiteStands (beside_of d s) n after → new.facts.items ≡ old.facts.items → StandsFor d new
     still here facts =
         stands_still d d old new s before after stands site.below changed
-        (comes_same d s after stands.links here (fails_as n refl) (fused_none n after unfused) (role_off (beside_of d s) n n after here (λ up. absurd (never_up (sym site.bare ∙ up))))) (λ was. was) refl facts
+        (comes_same d s after stands.links here (fails_as n refl) (fused_none n after unfused) (role_off (beside_of d s) n n after here (λ up. absurd (never_up (sym site.bare ∙ up))))) (λ was. was)
+        (λ _. noted_none (beside_of d s) n n after here (ap (λ (k : Node). k.group) site.is)) refl facts
 
     -- nothing was done
     pub bare_stays : SiteStands (beside_of d s) n after → new.facts.items ≡ old.facts.items → StaysFor d old new
