@@ -40,7 +40,6 @@ use Rattle.vx_diskset.specs.declared.group_set.GroupSet.{GroupSet}
 use Rattle.vx_diskset.proofs.StaysUp.{never_both, not_true}
 use Rattle.vx_watched.specs.Traces.{TellsLess}
 use Rattle.vx_diskset.specs.Aboves.{site_in}
-use Rattle.vx_diskset.specs.declared.over_set.OverSet.{OverSet}
 
 -- ---- two racks of which something is told
 
@@ -223,15 +222,29 @@ module _ {R : Type 0} {g : Ghosts R} where
   pub on_sites : (P : GroupSite R g → Type 0) (Q : GroupSite R g → GroupSite R g → Type 0) (e : DiskSet R g) (o s : GroupSet R g) → e ≡ OfGroup o → (P o.site → Q o.site s.site) → AtSite P e → OnSites Q e (OfGroup s)
   on_sites P Q e o s is go it = subst (λ (x : DiskSet R g). OnSites Q x (OfGroup s)) (sym is) (at_sites P (Q o.site s.site) e o is go it)
 
-  pub at_none : (P : GroupSite R g → Type 0) (A : Type 0) (e : DiskSet R g) → ((o : GroupSet R g) → e ≡ OfGroup o → ⊥) → ((o : OverSet R g) → e ≡ Over o → ⊥) → AtSite P e → A
-  at_none P A (Bare rack) never other it = absurd it
-  at_none P A (Spoiled rack) never other it = absurd it
-  at_none P A (UpSet rvg) never other it = absurd it
-  at_none P A (Receives s) never other it = absurd it
-  at_none P A (DownSet rack) never other it = absurd it
-  at_none P A (OfGroup s) never other it = absurd (never s refl)
-  at_none P A (Over s) never other it = absurd (other s refl)
-  at_none P A GoneSet never other it = absurd it
+  pub at_plain : (P : GroupSite R g → Type 0) (A : Type 0) (e : DiskSet R g) (o : GroupSet R g) → e ≡ OfGroup o → (P o.site → A) → AtPlain P e → A
+  at_plain P A e o is go it = go (subst (λ (x : DiskSet R g). AtPlain P x) is it)
+
+  -- nothing is called where they are of no group, or have a replicated volume group
+  pub on_rest : (P : GroupSite R g → Type 0) (Q : GroupSite R g → GroupSite R g → Type 0) (e : DiskSet R g) → ((o : GroupSet R g) → e ≡ OfGroup o → ⊥) → AtSite P e → OnSites Q e e
+  on_rest P Q (Bare rack) never it = it
+  on_rest P Q (Spoiled rack) never it = it
+  on_rest P Q (UpSet rvg) never it = it
+  on_rest P Q (Receives s) never it = it
+  on_rest P Q (DownSet rack) never it = it
+  on_rest P Q (OfGroup s) never it = absurd (never s refl)
+  on_rest P Q (Over s) never it = tt
+  on_rest P Q GoneSet never it = it
+
+  pub plain_none : (P : GroupSite R g → Type 0) (A : Type 0) (e : DiskSet R g) → ((o : GroupSet R g) → e ≡ OfGroup o → ⊥) → AtPlain P e → A
+  plain_none P A (Bare rack) never it = absurd it
+  plain_none P A (Spoiled rack) never it = absurd it
+  plain_none P A (UpSet rvg) never it = absurd it
+  plain_none P A (Receives s) never it = absurd it
+  plain_none P A (DownSet rack) never it = absurd it
+  plain_none P A (OfGroup s) never it = absurd (never s refl)
+  plain_none P A (Over s) never it = absurd it
+  plain_none P A GoneSet never it = absurd it
 
   -- a group without a replicated volume group
   pub record IsPlainSet (e : DiskSet R g) (P : GroupSite R g → Type 0) : Type 0 where

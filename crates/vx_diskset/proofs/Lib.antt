@@ -29,7 +29,6 @@ pub mod OverPlain
 pub mod OverReads
 pub mod OverReceivers
 pub mod OverAsked
-pub mod OverAway
 pub mod OverBacks
 pub mod OverSettles
 pub mod OverMaking

@@ -1,22 +1,14 @@
 -- Facts of the group below a replicated volume group hold of its disk set.
-use Rattle.std.proofs.Common.{◌≡◌, ℕ, refl, subst, sym}
-use Rattle.std.specs.Prelude.{Err, Ok, OnOk, Result}
+use Rattle.std.proofs.Common.{◌≡◌, refl, subst, sym}
 use Rattle.vx_disk.specs.declared.shelf.Shelf.{Ghosts}
-use Rattle.vx_model.specs.declared.errors.Stop.{Stop}
-use Rattle.vx_watched.specs.Since.{CalledSince}
-use Rattle.vx_watched.specs.Traces.{TellsLess}
-use Rattle.vx_grouped.specs.GroupSites.{site_below, site_disks}
-use Rattle.vx_grouped.specs.SiteEnds.{is_plex_on}
+use Rattle.vx_grouped.specs.GroupSites.{site_disks}
 use Rattle.vx_grouped.specs.declared.group_site.GroupSite.{GroupSite}
 use Rattle.vx_diskset.specs.Aboves.{site_in}
-use Rattle.vx_diskset.specs.Asked.{FuseGoesOn, SameFailing}
-use Rattle.vx_diskset.specs.DiskSets.{Later}
-use Rattle.vx_diskset.specs.GroupCalls.{AtSite, OnSites}
-use Rattle.vx_diskset.specs.Stands.{IsRackTold}
+use Rattle.vx_diskset.specs.GroupCalls.{AtSite}
 use Rattle.vx_diskset.specs.declared.disk_set.DiskSet.{DiskSet}
 use Rattle.vx_diskset.specs.declared.disk_set.DiskSet.TheVariants.{Over}
 use Rattle.vx_diskset.specs.declared.over_set.OverSet.{OverSet}
-use Rattle.vx_diskset.proofs.GroupCalling.{HasDisks, IsSettled, failing_risen, fuse_risen, later_risen, rises_called}
+use Rattle.vx_diskset.proofs.GroupCalling.{HasDisks}
 
 module _ {R : Type 0} {g : Ghosts R} where
   pub has_over : (e : DiskSet R g) (o : OverSet R g) → e ≡ Over o → HasDisks e (site_disks (site_in o))
@@ -24,23 +16,3 @@ module _ {R : Type 0} {g : Ghosts R} where
 
   pub at_overs : (P : GroupSite R g → Type 0) (A : Type 0) (e : DiskSet R g) (o : OverSet R g) → e ≡ Over o → (P (site_in o) → A) → AtSite P e → A
   at_overs P A e o is go it = go (subst (λ (x : DiskSet R g). AtSite P x) is it)
-
-  pub on_overs : (P : GroupSite R g → Type 0) (Q : GroupSite R g → GroupSite R g → Type 0) (e : DiskSet R g) (o s : OverSet R g) → e ≡ Over o → (P (site_in o) → Q (site_in o) (site_in s)) → AtSite P e → OnSites Q e (Over s)
-  on_overs P Q e o s is go it = subst (λ (x : DiskSet R g). OnSites Q x (Over s)) (sym is) (at_overs P (Q (site_in o) (site_in s)) e o is go it)
-
-  pub others_over : {T : Type 0} (r : Result T Stop) (e : DiskSet R g) (o s : OverSet R g) → e ≡ Over o → (v p : ℕ)
-      → OnOk r ((w q : ℕ) → (w ≡ v → q ≡ p → ⊥) → is_plex_on (site_in s) w q ≡ is_plex_on (site_in o) w q)
-      → OnOk r ((w q : ℕ) → (w ≡ v → q ≡ p → ⊥) → OnSites (λ x y. is_plex_on y w q ≡ is_plex_on x w q) e (Over s))
-  others_over (Ok done) e o s is v p all = λ w q other. subst (λ (x : DiskSet R g). OnSites (λ a b. is_plex_on b w q ≡ is_plex_on a w q) x (Over s)) (sym is) (all w q other)
-  others_over (Err stop) e o s is v p all = tt
-
-  module _ (e : DiskSet R g) (o s : OverSet R g) (is : e ≡ Over o) (since : CalledSince (site_disks (site_in o)) (site_disks (site_in s))) where
-    pub plain_failing : SameFailing e (Over s)
-    plain_failing = failing_risen e (Over s) (site_disks (site_in o)) (site_disks (site_in s)) (has_over e o is) (has_over (Over s) s refl) (rises_called (site_disks (site_in o)) (site_disks (site_in s)) since)
-
-    pub plain_later : TellsLess (site_below (site_in o)) (site_below (site_in s)) → Later e (Over s)
-    plain_later less = later_risen e (Over s) (site_disks (site_in o)) (site_disks (site_in s)) (has_over e o is) (has_over (Over s) s refl) (rises_called (site_disks (site_in o)) (site_disks (site_in s)) since)
-        (λ told. subst (λ (x : DiskSet R g). IsRackTold x) (sym is) (less told))
-
-    pub plain_fuse : IsSettled (site_in s) → FuseGoesOn e (Over s)
-    plain_fuse it = fuse_risen e (Over s) (site_disks (site_in o)) (site_disks (site_in s)) (has_over e o is) (has_over (Over s) s refl) (rises_called (site_disks (site_in o)) (site_disks (site_in s)) since) it.rack it.at

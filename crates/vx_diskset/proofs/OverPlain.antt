@@ -1,13 +1,7 @@
 -- Calls on the group below a replicated volume group.
 use Rattle.std.proofs.Common.{◌≡◌, subst, sym}
-use Rattle.std.specs.Prelude.{Err, Ok, OnOk, Result}
 use Rattle.vx_disk.specs.declared.shelf.Shelf.{Ghosts}
 use Rattle.vx_grouped.specs.declared.group_site.GroupSite.{GroupSite}
-
--- where it is done
-pub ok_carried : {T E : Type 0} {P Q : Type 0} (r : Result T E) → (P → Q) → OnOk r P → OnOk r Q
-ok_carried (Ok x) f p = f p
-ok_carried (Err e) f p = p
 
 module _ {R : Type 0} {g : Ghosts R} where
   -- between the groups below two sites

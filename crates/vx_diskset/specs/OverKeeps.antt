@@ -1,19 +1,17 @@
 -- What calls on the group below a replicated volume group make of that.
-use Rattle.std.specs.Prelude.{◌≡◌, ℕ, IsFalse, None}
+use Rattle.std.specs.Prelude.{◌≡◌, IsFalse, None}
 use Rattle.vx_disk.specs.declared.shelf.Shelf.{Ghosts}
 use Rattle.vx_grouped.specs.declared.group_site.GroupSite.{GroupSite}
 use Rattle.vx_grouped.specs.GroupSites.{laid_disks}
-use Rattle.vx_grouped.specs.declared.group_site.GroupSite.TheVariants.{Up, Deported, Down}
-use Rattle.vx_grouped.specs.declared.idle.Idle.{Idle}
-use Rattle.vx_history.specs.Steps.{burned, crashed, deported_site, worked}
+use Rattle.vx_grouped.specs.declared.group_site.GroupSite.TheVariants.{Up, Down}
+use Rattle.vx_history.specs.Steps.{worked}
 use Rattle.vx_history.specs.World.{Node}
 use Rattle.vx_model.specs.declared.site.SiteState.TheVariants.{Up as IsUp}
-use Rattle.vx_diskset.specs.Aboves.{IsOutside, above_in, site_in}
+use Rattle.vx_diskset.specs.Aboves.{above_in, site_in}
 use Rattle.vx_diskset.specs.DiskSets.{CrashedAt}
 use Rattle.vx_diskset.specs.Holds.{KeptBeside}
 use Rattle.vx_diskset.specs.Stands.{RoleBy, SiteStands}
 use Rattle.vx_diskset.specs.declared.above.Above.{Above}
-use Rattle.vx_diskset.specs.declared.disk_set.DiskSet.{DiskSet}
 use Rattle.vx_diskset.specs.declared.disk_set.DiskSet.TheVariants.{Over}
 use Rattle.vx_diskset.specs.declared.over_set.OverSet.{OverSet}
 
@@ -39,25 +37,3 @@ module _ {R : Type 0} {g : Ghosts R} where
   pub record KeepsOver (old new : OverSet R g) : Type 0 where
     pub each : (beside : KeptBeside) (n : Node) → SiteStands beside n (Over old) → n.state ≡ IsUp → n.halted ≡ None → StaysHere (site_in new) → KeptBy beside n new (site_in new)
     pub above : (n : Node) → RoleBy n (above_in old) → RoleBy n (above_in new)
-
-  -- So a deport leaves it, where it gave the disks up: the site has the writes that are durable.
-  pub record DeportsOver (old new : OverSet R g) : Type 0 where
-    pub each : (beside : KeptBeside) (n : Node) (idle : Idle R g) → SiteStands beside n (Over old) → n.state ≡ IsUp → n.halted ≡ None → site_in new ≡ Deported idle → SiteStands beside (deported_site (burned n.fuse) (crashed n n.safe)) (Over new)
-
-  -- So it is of the disks of a site. Those that have no replicated volume group are not looked at.
-  abbrev pub OversKept : DiskSet R g → DiskSet R g → Type 0
-  OversKept (Over old) (Over new) = KeepsOver old new
-  OversKept (Over old) other = ⊥
-  OversKept old new = Unit {0}
-
-  -- of a deport
-  abbrev pub OversDeported : DiskSet R g → DiskSet R g → Type 0
-  OversDeported (Over old) (Over new) = DeportsOver old new
-  OversDeported (Over old) other = ⊥
-  OversDeported old new = Unit {0}
-
-  -- and of a write to this volume, where it is none of the replicated volume group
-  abbrev pub OversWrote : ℕ → DiskSet R g → DiskSet R g → Type 0
-  OversWrote volume (Over old) (Over new) = IsOutside volume (above_in old) → KeepsOver old new
-  OversWrote volume (Over old) other = ⊥
-  OversWrote volume old new = Unit {0}

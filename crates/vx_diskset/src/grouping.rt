@@ -12,14 +12,11 @@ ghost use Rattle.vx_history.specs.World.{Node};
 ghost use Rattle.vx_model.specs.declared.errors.Stop.TheVariants.{No as Refused};
 ghost use Rattle.vx_model.specs.declared.limits.TheConstants.{MOST_CALL_BYTES};
 ghost use Rattle.vx_model.specs.declared.no.No.{No as NoValue};
-ghost use Rattle.vx_disk.specs.Shelf.{Covers};
-ghost use Rattle.vx_grouped.specs.Volumes.{SiteGoes};
 ghost use Rattle.vx_watched.specs.Since.{CalledSince};
 ghost use Rattle.vx_diskset.specs.Asked.{FuseGoesOn, SameFailing};
 ghost use Rattle.vx_diskset.specs.DiskSets.{Later};
-ghost use Rattle.vx_diskset.specs.GroupCalls.{AtSite, CalledOn, OnSites, config_in, cut_in};
+ghost use Rattle.vx_diskset.specs.GroupCalls.{AtPlain, AtSite, CalledOn, OnSites, config_in, cut_in};
 ghost use Rattle.vx_diskset.specs.GroupSets.{cut_behind, cut_value};
-ghost use Rattle.vx_diskset.specs.OverKeeps.{OversDeported, OversKept, OversWrote};
 ghost use Rattle.vx_watched.specs.Traces.{TellsLess};
 
 use crate::DiskSet;
@@ -34,7 +31,7 @@ use vx_model::limits::BLOCK;
 use vx_model::{Blocks, Name, No, Stop};
 
 // Writes to a volume of a group. The write in which the fuse runs out is cut.
-pub(crate) fn write_set<R: Rack>(
+fn write_set<R: Rack>(
     group: &mut GroupSet<R>,
     volume: u32,
     block: u64,
@@ -46,7 +43,6 @@ pub(crate) fn write_set<R: Rack>(
     ensures wrote { (n : Node) (note : GroupNode) → UpNoted n note group.old.site → FitsPlain note volume block (length bytes.now) → PlainWrote n note (plain_write volume block bytes.now) group.old.site group.new.site result }
     ensures maps { (n : Node) (note : GroupNode) → UpNoted n note group.old.site → FitsPlain note volume block (length bytes.now) → WroteMapped (plain_write volume block bytes.now) group.old.site group.new.site result }
     ensures cut { cut_value group.new.cut ≡ cut_behind result (plain_write volume block bytes.now) (cut_value group.old.cut) }
-    ensures volumes { SiteGoes (Covers volume block bytes.now) group.old.site group.new.site }
     ensures since { CalledSince (site_disks group.old.site) (site_disks group.new.site) }
     ensures told { TellsLess (site_below group.old.site) (site_below group.new.site) }
 {
@@ -110,12 +106,9 @@ impl<R: Rack> DiskSet<R> {
         ensures failing { SameFailing self.old self.new }
         ensures later { Later self.old self.new }
         ensures since { CalledOn self.old self.new }
-        ensures kept { OversKept self.old self.new }
-        ensures away { OversDeported self.old self.new }
     {
         match self {
             DiskSet::OfGroup(group) => deport_site(&mut group.site),
-            DiskSet::Over(over) => over.deport(),
             _ => Err(Stop::No(No::Role)),
         }
     }
@@ -125,18 +118,16 @@ impl<R: Rack> DiskSet<R> {
         requires prefer { IfSome want.now.prefer (λ p. p < want.now.mirrors) }
         ensures made { (n : Node) (note : GroupNode) → AtSite (UpNoted n note) self.old → OnSites (λ o e. SiteAdded n note name.now want.now o e result) self.old self.new }
         ensures maps { (n : Node) (note : GroupNode) → AtSite (UpNoted n note) self.old → OnSites (λ o e. AddedMapped o e result) self.old self.new }
-        ensures refused { (n : Node) (note : GroupNode) (no : NoValue) → AtSite (UpNoted n note) self.old → AtSite (λ o. refuses_volume o name.now want.now ≡ Some no) self.old → result ≡ Err (Refused no) }
+        ensures refused { (n : Node) (note : GroupNode) (no : NoValue) → AtSite (UpNoted n note) self.old → AtPlain (λ o. refuses_volume o name.now want.now ≡ Some no) self.old → result ≡ Err (Refused no) }
         ensures volume { (n : Node) (note : GroupNode) → AtSite (UpNoted n note) self.old → IfOk result (λ vol. OnSites (VolumeIn name.now want.now vol) self.old self.new) }
         ensures cut { cut_in self.new ≡ cut_in self.old }
         ensures fuse { (n : Node) (note : GroupNode) → AtSite (UpNoted n note) self.old → FuseGoesOn self.old self.new }
         ensures failing { SameFailing self.old self.new }
         ensures later { Later self.old self.new }
         ensures since { CalledOn self.old self.new }
-        ensures kept { OversKept self.old self.new }
     {
         match self {
             DiskSet::OfGroup(group) => group.site.make_volume(alloc, name, want),
-            DiskSet::Over(over) => over.make_volume(alloc, name, want),
             _ => Err(Stop::No(No::Role)),
         }
     }
@@ -145,7 +136,7 @@ impl<R: Rack> DiskSet<R> {
     pub fn detach_plex(&mut self, volume: u32, plex: u32) -> Result<(), Stop>
         ensures called { (n : Node) (note : GroupNode) → AtSite (UpNoted n note) self.old → OnSites (λ o e. DetCalled n note volume plex o e result) self.old self.new }
         ensures maps { (n : Node) (note : GroupNode) → AtSite (UpNoted n note) self.old → OnSites (λ o e. DetMapped volume plex o e result) self.old self.new }
-        ensures refused { (n : Node) (note : GroupNode) (no : NoValue) → AtSite (UpNoted n note) self.old → AtSite (λ o. refuses_det o volume plex ≡ Some no) self.old → result ≡ Err (Refused no) }
+        ensures refused { (n : Node) (note : GroupNode) (no : NoValue) → AtSite (UpNoted n note) self.old → AtPlain (λ o. refuses_det o volume plex ≡ Some no) self.old → result ≡ Err (Refused no) }
         ensures off { OnOk result (AtSite (λ e. is_plex_on e volume plex ≡ false) self.new) }
         ensures others { OnOk result ((w p : ℕ) → (w ≡ volume → p ≡ plex → ⊥) → OnSites (λ o e. is_plex_on e w p ≡ is_plex_on o w p) self.old self.new) }
         ensures cut { cut_in self.new ≡ cut_in self.old }
@@ -153,11 +144,9 @@ impl<R: Rack> DiskSet<R> {
         ensures failing { SameFailing self.old self.new }
         ensures later { Later self.old self.new }
         ensures since { CalledOn self.old self.new }
-        ensures kept { OversKept self.old self.new }
     {
         match self {
             DiskSet::OfGroup(group) => group.site.det(volume, plex),
-            DiskSet::Over(over) => over.det(volume, plex),
             _ => Err(Stop::No(No::Role)),
         }
     }
@@ -166,8 +155,8 @@ impl<R: Rack> DiskSet<R> {
     pub fn attach_plex(&mut self, volume: u32, plex: u32) -> Result<u64, Stop>
         ensures called { (n : Node) (note : GroupNode) → AtSite (UpNoted n note) self.old → OnSites (λ o e. AttCalled n note volume plex o e result) self.old self.new }
         ensures maps { (n : Node) (note : GroupNode) → AtSite (UpNoted n note) self.old → OnSites (λ o e. AttMapped volume plex o e result) self.old self.new }
-        ensures refused { (n : Node) (note : GroupNode) (no : NoValue) → AtSite (UpNoted n note) self.old → AtSite (λ o. refuses_att o volume plex ≡ Some no) self.old → result ≡ Err (Refused no) }
-        ensures already { (n : Node) (note : GroupNode) → AtSite (UpNoted n note) self.old → AtSite (λ o. refuses_att o volume plex ≡ None) self.old → AtSite (λ o. IsTrue (is_plex_on o volume plex)) self.old → result ≡ Ok 0 }
+        ensures refused { (n : Node) (note : GroupNode) (no : NoValue) → AtSite (UpNoted n note) self.old → AtPlain (λ o. refuses_att o volume plex ≡ Some no) self.old → result ≡ Err (Refused no) }
+        ensures already { (n : Node) (note : GroupNode) → AtSite (UpNoted n note) self.old → AtPlain (λ o. refuses_att o volume plex ≡ None) self.old → AtSite (λ o. IsTrue (is_plex_on o volume plex)) self.old → result ≡ Ok 0 }
         ensures count { AtSite (λ o. is_plex_on o volume plex ≡ false) self.old → IfOk result (λ k. AtSite (λ o. RegionsOf o volume k) self.old) }
         ensures on { AtSite (λ o. is_plex_on o volume plex ≡ false) self.old → OnOk result (AtSite (λ e. IsTrue (is_plex_on e volume plex)) self.new) }
         ensures others { OnOk result ((w p : ℕ) → (w ≡ volume → p ≡ plex → ⊥) → OnSites (λ o e. is_plex_on e w p ≡ is_plex_on o w p) self.old self.new) }
@@ -176,11 +165,9 @@ impl<R: Rack> DiskSet<R> {
         ensures failing { SameFailing self.old self.new }
         ensures later { Later self.old self.new }
         ensures since { CalledOn self.old self.new }
-        ensures kept { OversKept self.old self.new }
     {
         match self {
             DiskSet::OfGroup(group) => group.site.att(volume, plex),
-            DiskSet::Over(over) => over.att(volume, plex),
             _ => Err(Stop::No(No::Role)),
         }
     }
@@ -197,11 +184,9 @@ impl<R: Rack> DiskSet<R> {
         ensures failing { SameFailing self.old self.new }
         ensures later { Later self.old self.new }
         ensures since { CalledOn self.old self.new }
-        ensures kept { OversWrote volume self.old self.new }
     {
         match self {
             DiskSet::OfGroup(group) => write_set(group, volume, start, bytes),
-            DiskSet::Over(over) => over.write_plain(volume, start, bytes),
             _ => Err(No::Role),
         }
     }
@@ -215,11 +200,9 @@ impl<R: Rack> DiskSet<R> {
         ensures failing { SameFailing self.old self.new }
         ensures later { Later self.old self.new }
         ensures since { CalledOn self.old self.new }
-        ensures kept { OversKept self.old self.new }
     {
         match self {
             DiskSet::OfGroup(group) => group.site.read(volume, start, into),
-            DiskSet::Over(over) => over.read_plain(volume, start, into),
             _ => Err(No::Role),
         }
     }

@@ -8,12 +8,10 @@ ghost use Rattle.vx_diskset.specs.Aboves.{AboveStays, above_in, site_in};
 ghost use Rattle.vx_diskset.specs.Asked.{FuseGoesOn, SameFailing};
 ghost use Rattle.vx_diskset.specs.DiskSets.{CrashedAt, Later};
 ghost use Rattle.vx_diskset.specs.Holds.{KeptBeside};
-ghost use Rattle.vx_diskset.specs.OverKeeps.{DeportsOver, KeepsOver};
 ghost use Rattle.vx_diskset.specs.Stands.{CutAt, RoleBy, SiteStands};
 ghost use Rattle.vx_diskset.specs.declared.disk_set.DiskSet.TheVariants.{OfGroup as PlainSites, Over as OverSites};
 ghost use Rattle.vx_grouped.specs.GroupSites.{CutNoted, DownNoted, UpNoted, laid_below, laid_disks, site_below, site_disks};
-ghost use Rattle.vx_grouped.specs.SiteEnds.{MayCrashSite, SiteDeported};
-ghost use Rattle.vx_grouped.specs.SiteMaps.{DeportMapped};
+ghost use Rattle.vx_grouped.specs.SiteEnds.{MayCrashSite};
 ghost use Rattle.vx_history.specs.Steps.{crashed};
 ghost use Rattle.vx_watched.specs.Since.{CalledSince};
 ghost use Rattle.vx_watched.specs.Traces.{TellsLess};
@@ -35,7 +33,6 @@ ghost use Rattle.vx_model.specs.declared.site.SiteState.TheVariants.{Up as UpSta
 use crate::over_work::{Makes, Rewrites};
 use crate::{Above, DiskSet, GroupSet, OverSet, OverSite};
 use std::alloc::Global;
-use std::mem;
 use vx_disk::{Rack, ShelfError, refusal};
 use vx_ground::{can_name, name_over, work_over};
 use vx_grouped::{GroupSite, Laid};
@@ -244,22 +241,6 @@ impl<R: Rack> OverSet<R> {
                 OverSet { site, cut }
             }
         }
-    }
-
-    /// Deports the group below. What stood over it is gone then; a refusal leaves it, and a site whose fuse runs out crashes.
-    pub(crate) fn deport(&mut self) -> Result<(), Stop>
-        ensures deported { (n : Node) (note : GroupNode) → UpNoted n note (site_in self.old) → SiteDeported n note (site_in self.old) (site_in self.new) result }
-        ensures maps { (n : Node) (note : GroupNode) → UpNoted n note (site_in self.old) → DeportMapped (site_in self.old) (site_in self.new) result }
-        ensures cut { self.new.cut ≡ self.old.cut }
-        ensures kept { KeepsOver self.old self.new }
-        ensures away { DeportsOver self.old self.new }
-        ensures since { CalledSince (site_disks (site_in self.old)) (site_disks (site_in self.new)) }
-        ensures told { TellsLess (site_below (site_in self.old)) (site_below (site_in self.new)) }
-    {
-        let (site, above, cut) = mem::replace(self, OverSet::gone()).parts();
-        let (site, answer) = site.deport();
-        *self = OverSet::of(site, above, cut);
-        answer
     }
 }
 

@@ -27,7 +27,7 @@ use Rattle.vx_grouped.specs.GroupSites.{UpNoted, site_config}
 use Rattle.vx_grouped.specs.SiteEnds.{AttCalled, RegionsOf, is_plex_on, refuses_att}
 use Rattle.vx_grouped.specs.declared.group_site.GroupSite.{GroupSite}
 use Rattle.vx_grouped.specs.declared.group_site.GroupSite.TheVariants.{Up as SiteUp, Deported as SiteAway, Down as SiteDown, Marked, Gone as SiteGone}
-use Rattle.vx_diskset.specs.GroupCalls.{AtSite, OnSites}
+use Rattle.vx_diskset.specs.GroupCalls.{AtPlain, AtSite, OnSites}
 use Rattle.vx_diskset.specs.declared.disk_set.DiskSet.{DiskSet}
 use Rattle.vx_diskset.specs.declared.disk_set.DiskSet.TheVariants.{OfGroup}
 use Rattle.vx_diskset.specs.declared.group_set.GroupSet.{GroupSet}
@@ -123,21 +123,21 @@ module _ {R : Type 0} {g : Ghosts R} where
   zero_by site v p count None is refused already on = let e = already is on in cc
   zero_by site v p count (Some why) is refused already on = absurd (let e = refused why is in cc)
 
-  pub att_zero : (before : DiskSet R g) (set : GroupSet R g) {v w p q : ℕ} (count : ℕ) → before ≡ OfGroup set → v ≡ w → p ≡ q → ((no : No) → AtSite (λ o. refuses_att o v p ≡ Some no) before → (let r : Result ℕ Stop = Ok count in r) ≡ Err (StopsBy no))
-      → (AtSite (λ o. refuses_att o v p ≡ None) before → AtSite (λ o. IsTrue (is_plex_on o v p)) before → (let r : Result ℕ Stop = Ok count in r) ≡ Ok 0) → IsTrue (is_plex_on set.site w q) → count ≡ 0
+  pub att_zero : (before : DiskSet R g) (set : GroupSet R g) {v w p q : ℕ} (count : ℕ) → before ≡ OfGroup set → v ≡ w → p ≡ q → ((no : No) → AtPlain (λ o. refuses_att o v p ≡ Some no) before → (let r : Result ℕ Stop = Ok count in r) ≡ Err (StopsBy no))
+      → (AtPlain (λ o. refuses_att o v p ≡ None) before → AtSite (λ o. IsTrue (is_plex_on o v p)) before → (let r : Result ℕ Stop = Ok count in r) ≡ Ok 0) → IsTrue (is_plex_on set.site w q) → count ≡ 0
   att_zero before set {v} {w} {p} {q} count is number plex refused already =
       subst (λ (k : ℕ). IsTrue (is_plex_on set.site k q) → count ≡ 0) number
       (subst (λ (k : ℕ). IsTrue (is_plex_on set.site v k) → count ≡ 0) plex
       (λ on. zero_by set.site v p count (refuses_att set.site v p) refl
-      (λ no at. refused no (subst (λ (x : DiskSet R g). AtSite (λ (o : GroupSite R g). refuses_att o v p ≡ Some no) x) (sym is) at))
-      (λ at on. already (subst (λ (x : DiskSet R g). AtSite (λ (o : GroupSite R g). refuses_att o v p ≡ None) x) (sym is) at) (subst (λ (x : DiskSet R g). AtSite (λ (o : GroupSite R g). IsTrue (is_plex_on o v p)) x) (sym is) on)) on))
+      (λ no at. refused no (subst (λ (x : DiskSet R g). AtPlain (λ (o : GroupSite R g). refuses_att o v p ≡ Some no) x) (sym is) at))
+      (λ at on. already (subst (λ (x : DiskSet R g). AtPlain (λ (o : GroupSite R g). refuses_att o v p ≡ None) x) (sym is) at) (subst (λ (x : DiskSet R g). AtSite (λ (o : GroupSite R g). IsTrue (is_plex_on o v p)) x) (sym is) on)) on))
 
   -- no test refused one that is done
-  pub att_never : (before : DiskSet R g) (set : GroupSet R g) {v w p q : ℕ} (count : ℕ) → before ≡ OfGroup set → v ≡ w → p ≡ q → ((no : No) → AtSite (λ o. refuses_att o v p ≡ Some no) before → (let r : Result ℕ Stop = Ok count in r) ≡ Err (StopsBy no))
+  pub att_never : (before : DiskSet R g) (set : GroupSet R g) {v w p q : ℕ} (count : ℕ) → before ≡ OfGroup set → v ≡ w → p ≡ q → ((no : No) → AtPlain (λ o. refuses_att o v p ≡ Some no) before → (let r : Result ℕ Stop = Ok count in r) ≡ Err (StopsBy no))
       → (no : No) → refuses_att set.site w q ≡ Some no → ⊥
   att_never before set {v} {w} {p} {q} count is number plex refused why at =
       let clash =
-      refused why (subst (λ (x : DiskSet R g). AtSite (λ (o : GroupSite R g). refuses_att o v p ≡ Some why) x) (sym is)
+      refused why (subst (λ (x : DiskSet R g). AtPlain (λ (o : GroupSite R g). refuses_att o v p ≡ Some why) x) (sym is)
       (subst (λ (k : ℕ). refuses_att set.site k p ≡ Some why) (sym number) (subst (λ (k : ℕ). refuses_att set.site w k ≡ Some why) (sym plex) at))) in
       absurd (cc)
 

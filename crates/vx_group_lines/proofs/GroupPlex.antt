@@ -35,7 +35,7 @@ use Rattle.vx_grouped.specs.GroupSites.{UpNoted}
 use Rattle.vx_grouped.specs.SiteEnds.{DetCalled, refuses_att, refuses_det}
 use Rattle.vx_grouped.specs.declared.group_site.GroupSite.{GroupSite}
 use Rattle.vx_grouped.specs.declared.group_site.GroupSite.TheVariants.{Up as SiteUp, Deported as SiteAway, Down as SiteDown, Marked, Gone as SiteGone}
-use Rattle.vx_diskset.specs.GroupCalls.{AtSite, OnSites}
+use Rattle.vx_diskset.specs.GroupCalls.{AtPlain, AtSite, OnSites}
 use Rattle.vx_diskset.specs.declared.disk_set.DiskSet.{DiskSet}
 use Rattle.vx_diskset.specs.declared.disk_set.DiskSet.TheVariants.{OfGroup}
 use Rattle.vx_diskset.specs.declared.group_set.GroupSet.{GroupSet}
@@ -274,10 +274,10 @@ module _ {R : Type 0} {g : Ghosts R} where
   not_last n note SiteGone v p f it at below refused last = it
 
   -- by the numbers that the call got
-  pub det_refuses : (before : DiskSet R g) (set : GroupSet R g) {v w p q : ℕ} → before ≡ OfGroup set → v ≡ w → p ≡ q → ((no : No) → AtSite (λ o. refuses_det o v p ≡ Some no) before → (let r : Result (Unit {0}) Stop = Ok (tt {0}) in r) ≡ Err (StopsBy no))
+  pub det_refuses : (before : DiskSet R g) (set : GroupSet R g) {v w p q : ℕ} → before ≡ OfGroup set → v ≡ w → p ≡ q → ((no : No) → AtPlain (λ o. refuses_det o v p ≡ Some no) before → (let r : Result (Unit {0}) Stop = Ok (tt {0}) in r) ≡ Err (StopsBy no))
       → (no : No) → refuses_det set.site w q ≡ Some no → (let r : Result (Unit {0}) Stop = Ok (tt {0}) in r) ≡ Err (StopsBy no)
   det_refuses before set {v} {w} {p} {q} is number plex refused why at =
-      refused why (subst (λ (x : DiskSet R g). AtSite (λ (o : GroupSite R g). refuses_det o v p ≡ Some why) x) (sym is)
+      refused why (subst (λ (x : DiskSet R g). AtPlain (λ (o : GroupSite R g). refuses_det o v p ≡ Some why) x) (sym is)
       (subst (λ (k : ℕ). refuses_det set.site k p ≡ Some why) (sym number) (subst (λ (k : ℕ). refuses_det set.site w k ≡ Some why) (sym plex) at)))
 
   pub det_at : (n : Node) (note : GroupNode) {v w p q : ℕ} → v ≡ w → p ≡ q → (r : Result (Unit {0}) Stop) (before after : DiskSet R g) → OnSites (λ o e. DetCalled n note v p o e r) before after

@@ -39,6 +39,4 @@ pub returns-in-Over-clause-later : goal.returns-in-Over-clause-later
 returns-in-Over-clause-later g c = over_later c.args.self c.stand_over.result.0 c.in-Over.over c.in-Over.is c.stand_over.ensures.since c.stand_over.ensures.told
 
 pub returns-in-Over-clause-maps : goal.returns-in-Over-clause-maps
-returns-in-Over-clause-maps g c = λ n note up.
-    subst (λ x. OnSites (λ o e. StaysMapped o e) x c.stand_over.result.0) (sym c.in-Over.is)
-    (c.stand_over.ensures.maps n note (at_overs (UpNoted n note) (UpNoted n note (site_in c.in-Over.over)) c.args.self c.in-Over.over c.in-Over.is (λ it. it) up))
+returns-in-Over-clause-maps g c = λ n note up. subst (λ x. OnSites (λ o e. StaysMapped o e) x c.stand_over.result.0) (sym c.in-Over.is) tt

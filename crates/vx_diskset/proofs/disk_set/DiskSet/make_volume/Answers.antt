@@ -1,13 +1,12 @@
 -- `make_volume`: what it leaves of the disks of the site.
-use Rattle.std.proofs.Common.{◌≡◌, ◌∙◌, subst, sym, ap}
+use Rattle.std.proofs.Common.{◌≡◌, subst, sym, ap}
 use Rattle.vx_grouped.specs.GroupSites.{UpNoted}
-use Rattle.vx_diskset.specs.Aboves.{site_in}
 use Rattle.vx_diskset.specs.Asked.{FuseGoesOn}
 use Rattle.vx_diskset.specs.GroupCalls.{CalledOn, OnSites, cut_in}
-use Rattle.vx_diskset.specs.declared.disk_set.DiskSet.TheVariants.{OfGroup, Over}
-use Rattle.vx_diskset.specs.GroupSets.{cut_value}
-use Rattle.vx_diskset.proofs.OverCalling.{at_overs, on_overs, plain_failing, plain_fuse, plain_later}
-use Rattle.vx_diskset.proofs.GroupCalling.{at_none, at_sites, called_rest, group_failing, group_fuse, group_later, on_sites, added_settled}
+use Rattle.vx_diskset.specs.declared.disk_set.DiskSet.TheVariants.{OfGroup}
+use Rattle.vx_model.specs.declared.no.No.TheVariants.{Role}
+use Rattle.vx_diskset.proofs.OverMaking.{fuse_rest}
+use Rattle.vx_diskset.proofs.GroupCalling.{at_plain, at_sites, called_rest, group_failing, group_fuse, group_later, on_sites, added_settled, on_rest, plain_none}
 use Rattle.vx_grouped.specs.SiteAdds.{SiteAdded, VolumeIn, refuses_volume}
 use Rattle.std.specs.Prelude.{Err, Some, IfOk}
 use Rattle.vx_model.specs.declared.errors.Stop.TheVariants.{No as Refused}
@@ -18,7 +17,7 @@ pub returns-in-OfGroup-clause-made : goal.returns-in-OfGroup-clause-made
 returns-in-OfGroup-clause-made g c = λ n note. on_sites (UpNoted n note) (λ o e. SiteAdded n note c.args.name.now c.args.want.now o e c.make_volume.result) c.args.self.now c.in-OfGroup.group (record c.in-OfGroup.group { site = c.make_volume.new.self }) c.in-OfGroup.is (c.make_volume.ensures.made n note)
 
 pub returns-in_default-clause-made : goal.returns-in_default-clause-made
-returns-in_default-clause-made g c = λ n note. at_none (UpNoted n note) _ c.args.self.now c.in_default.not-OfGroup c.in_default.not-Over
+returns-in_default-clause-made g c = λ n note. on_rest (UpNoted n note) (λ o e. SiteAdded n note c.args.name.now c.args.want.now o e (Err (Refused Role))) c.args.self.now c.in_default.not-OfGroup
 
 pub returns-in-OfGroup-clause-fuse : goal.returns-in-OfGroup-clause-fuse
 returns-in-OfGroup-clause-fuse g c = λ n note.
@@ -26,7 +25,7 @@ returns-in-OfGroup-clause-fuse g c = λ n note.
     at_sites (UpNoted n note) (FuseGoesOn c.args.self.now (OfGroup (record c.in-OfGroup.group { site = c.make_volume.new.self }))) c.args.self.now c.in-OfGroup.group c.in-OfGroup.is (λ it. group_fuse c.args.self.now c.in-OfGroup.group (record c.in-OfGroup.group { site = c.make_volume.new.self }) c.in-OfGroup.is c.make_volume.ensures.since (added_settled is_rack n note c.args.name.now c.args.want.now c.in-OfGroup.group.site c.make_volume.new.self c.make_volume.result (c.make_volume.ensures.made n note it)))
 
 pub returns-in_default-clause-fuse : goal.returns-in_default-clause-fuse
-returns-in_default-clause-fuse g c = λ n note. at_none (UpNoted n note) (FuseGoesOn c.args.self.now c.args.self.now) c.args.self.now c.in_default.not-OfGroup c.in_default.not-Over
+returns-in_default-clause-fuse g c = λ n note up. fuse_rest c.args.self.now
 
 pub returns-in-OfGroup-clause-failing : goal.returns-in-OfGroup-clause-failing
 returns-in-OfGroup-clause-failing g c = group_failing c.args.self.now c.in-OfGroup.group (record c.in-OfGroup.group { site = c.make_volume.new.self }) c.in-OfGroup.is c.make_volume.ensures.since
@@ -43,10 +42,10 @@ returns-in_default-clause-since g c = called_rest c.args.self.now
 pub returns-in-OfGroup-clause-refused : goal.returns-in-OfGroup-clause-refused
 returns-in-OfGroup-clause-refused g c = λ n note no up is.
     at_sites (UpNoted n note) (c.make_volume.result ≡ Err (Refused no)) c.args.self.now c.in-OfGroup.group c.in-OfGroup.is
-    (λ it. at_sites (λ o. refuses_volume o c.args.name.now c.args.want.now ≡ Some no) (c.make_volume.result ≡ Err (Refused no)) c.args.self.now c.in-OfGroup.group c.in-OfGroup.is (λ at. c.make_volume.ensures.refused n note no it at) is) up
+    (λ it. at_plain (λ o. refuses_volume o c.args.name.now c.args.want.now ≡ Some no) (c.make_volume.result ≡ Err (Refused no)) c.args.self.now c.in-OfGroup.group c.in-OfGroup.is (λ at. c.make_volume.ensures.refused n note no it at) is) up
 
 pub returns-in_default-clause-refused : goal.returns-in_default-clause-refused
-returns-in_default-clause-refused g c = λ n note no up is. at_none (UpNoted n note) _ c.args.self.now c.in_default.not-OfGroup c.in_default.not-Over up
+returns-in_default-clause-refused g c = λ n note no up is. plain_none (λ o. refuses_volume o c.args.name.now c.args.want.now ≡ Some no) _ c.args.self.now c.in_default.not-OfGroup is
 
 pub returns-in-OfGroup-clause-cut : goal.returns-in-OfGroup-clause-cut
 returns-in-OfGroup-clause-cut g c = sym (ap (λ x. cut_in x) c.in-OfGroup.is)
@@ -60,37 +59,4 @@ pub returns-in-OfGroup-clause-maps : goal.returns-in-OfGroup-clause-maps
 returns-in-OfGroup-clause-maps g c = λ n note. on_sites (UpNoted n note) (λ o e. AddedMapped o e c.make_volume.result) c.args.self.now c.in-OfGroup.group (record c.in-OfGroup.group { site = c.make_volume.new.self }) c.in-OfGroup.is (c.make_volume.ensures.maps n note)
 
 pub returns-in_default-clause-maps : goal.returns-in_default-clause-maps
-returns-in_default-clause-maps g c = λ n note. at_none (UpNoted n note) _ c.args.self.now c.in_default.not-OfGroup c.in_default.not-Over
-
-pub returns-in-Over-clause-made : goal.returns-in-Over-clause-made
-returns-in-Over-clause-made g c = λ n note. on_overs (UpNoted n note) (λ o e. SiteAdded n note c.args.name.now c.args.want.now o e c.make_volume-in-Over.result) c.args.self.now c.in-Over.over c.make_volume-in-Over.new.self c.in-Over.is (c.make_volume-in-Over.ensures.made n note)
-
-pub returns-in-Over-clause-maps : goal.returns-in-Over-clause-maps
-returns-in-Over-clause-maps g c = λ n note. on_overs (UpNoted n note) (λ o e. AddedMapped o e c.make_volume-in-Over.result) c.args.self.now c.in-Over.over c.make_volume-in-Over.new.self c.in-Over.is (c.make_volume-in-Over.ensures.maps n note)
-
-pub returns-in-Over-clause-fuse : goal.returns-in-Over-clause-fuse
-returns-in-Over-clause-fuse g c = λ n note.
-    let is_rack = (g.met.R.Rack g.world.𝓛 g.world.𝓜 g.world.𝓡 ((λ s x. x), (λ x. x), (λ x. x), λ x. x)).rack in
-    at_overs (UpNoted n note) (FuseGoesOn c.args.self.now (Over c.make_volume-in-Over.new.self)) c.args.self.now c.in-Over.over c.in-Over.is (λ it. plain_fuse c.args.self.now c.in-Over.over c.make_volume-in-Over.new.self c.in-Over.is c.make_volume-in-Over.ensures.since (added_settled is_rack n note c.args.name.now c.args.want.now (site_in c.in-Over.over) (site_in c.make_volume-in-Over.new.self) c.make_volume-in-Over.result (c.make_volume-in-Over.ensures.made n note it)))
-
-pub returns-in-Over-clause-failing : goal.returns-in-Over-clause-failing
-returns-in-Over-clause-failing g c = plain_failing c.args.self.now c.in-Over.over c.make_volume-in-Over.new.self c.in-Over.is c.make_volume-in-Over.ensures.since
-
-pub returns-in-Over-clause-later : goal.returns-in-Over-clause-later
-returns-in-Over-clause-later g c = plain_later c.args.self.now c.in-Over.over c.make_volume-in-Over.new.self c.in-Over.is c.make_volume-in-Over.ensures.since c.make_volume-in-Over.ensures.told
-
-pub returns-in-Over-clause-since : goal.returns-in-Over-clause-since
-returns-in-Over-clause-since g c = subst (λ x. CalledOn x (Over c.make_volume-in-Over.new.self)) (sym c.in-Over.is) c.make_volume-in-Over.ensures.since
-
-pub returns-in-Over-clause-refused : goal.returns-in-Over-clause-refused
-returns-in-Over-clause-refused g c = λ n note no up is.
-    at_overs (UpNoted n note) (c.make_volume-in-Over.result ≡ Err (Refused no)) c.args.self.now c.in-Over.over c.in-Over.is
-    (λ it. at_overs (λ o. refuses_volume o c.args.name.now c.args.want.now ≡ Some no) (c.make_volume-in-Over.result ≡ Err (Refused no)) c.args.self.now c.in-Over.over c.in-Over.is (λ at. c.make_volume-in-Over.ensures.refused n note no it at) is) up
-
-pub returns-in-Over-clause-cut : goal.returns-in-Over-clause-cut
-returns-in-Over-clause-cut g c = ap (λ x. cut_value x) c.make_volume-in-Over.ensures.cut ∙ sym (ap (λ x. cut_in x) c.in-Over.is)
-
-pub returns-in-Over-clause-volume : goal.returns-in-Over-clause-volume
-returns-in-Over-clause-volume g c = λ n note.
-    at_overs (UpNoted n note) (IfOk c.make_volume-in-Over.result (λ vol. OnSites (VolumeIn c.args.name.now c.args.want.now vol) c.args.self.now (Over c.make_volume-in-Over.new.self))) c.args.self.now c.in-Over.over c.in-Over.is
-    (λ it. subst (λ x. IfOk c.make_volume-in-Over.result (λ vol. OnSites (VolumeIn c.args.name.now c.args.want.now vol) x (Over c.make_volume-in-Over.new.self))) (sym c.in-Over.is) (c.make_volume-in-Over.ensures.volume n note it))
+returns-in_default-clause-maps g c = λ n note. on_rest (UpNoted n note) (λ o e. AddedMapped o e (Err (Refused Role))) c.args.self.now c.in_default.not-OfGroup

@@ -1,13 +1,13 @@
 -- `read_plain`: what it reads, and leaves of the disks of the site.
-use Rattle.std.proofs.Common.{◌∙◌, subst, sym, ap}
+use Rattle.std.proofs.Common.{subst, sym, ap}
+use Rattle.std.specs.Prelude.{Err}
 use Rattle.vx_grouped.specs.GroupSites.{UpNoted}
-use Rattle.vx_diskset.specs.Aboves.{site_in}
 use Rattle.vx_diskset.specs.Asked.{FuseGoesOn}
 use Rattle.vx_diskset.specs.GroupCalls.{CalledOn, cut_in}
-use Rattle.vx_diskset.specs.declared.disk_set.DiskSet.TheVariants.{OfGroup, Over}
-use Rattle.vx_diskset.specs.GroupSets.{cut_value}
-use Rattle.vx_diskset.proofs.OverCalling.{at_overs, on_overs, plain_failing, plain_fuse, plain_later}
-use Rattle.vx_diskset.proofs.GroupCalling.{at_none, at_sites, called_rest, group_failing, group_fuse, group_later, on_sites, read_settled}
+use Rattle.vx_diskset.specs.declared.disk_set.DiskSet.TheVariants.{OfGroup}
+use Rattle.vx_model.specs.declared.no.No.TheVariants.{Role}
+use Rattle.vx_diskset.proofs.OverMaking.{fuse_rest}
+use Rattle.vx_diskset.proofs.GroupCalling.{at_sites, called_rest, group_failing, group_fuse, group_later, on_sites, read_settled, on_rest}
 use Rattle.vx_grouped.specs.SiteEnds.{PlainRead}
 use Rattle.vx_grouped.specs.SiteMaps.{StaysMapped}
 use Rattle.vx_diskset.proofs.disk_set.DiskSet.read_plain.Goals as goal
@@ -17,7 +17,7 @@ returns-in-OfGroup-clause-read g c = λ n note up fits.
     on_sites (UpNoted n note) (λ o e. PlainRead n note c.args.volume c.args.start c.read.new.into o e c.read.result) c.args.self.now c.in-OfGroup.group (record c.in-OfGroup.group { site = c.read.new.self }) c.in-OfGroup.is (λ it. c.read.ensures.read n note it fits) up
 
 pub returns-in_default-clause-read : goal.returns-in_default-clause-read
-returns-in_default-clause-read g c = λ n note up fits. at_none (UpNoted n note) _ c.args.self.now c.in_default.not-OfGroup c.in_default.not-Over up
+returns-in_default-clause-read g c = λ n note up fits. on_rest (UpNoted n note) (λ o e. PlainRead n note c.args.volume c.args.start c.args.into.now o e (Err Role)) c.args.self.now c.in_default.not-OfGroup up
 
 pub returns-in-OfGroup-clause-fuse : goal.returns-in-OfGroup-clause-fuse
 returns-in-OfGroup-clause-fuse g c = λ n note up fits.
@@ -25,7 +25,7 @@ returns-in-OfGroup-clause-fuse g c = λ n note up fits.
     at_sites (UpNoted n note) (FuseGoesOn c.args.self.now (OfGroup (record c.in-OfGroup.group { site = c.read.new.self }))) c.args.self.now c.in-OfGroup.group c.in-OfGroup.is (λ it. group_fuse c.args.self.now c.in-OfGroup.group (record c.in-OfGroup.group { site = c.read.new.self }) c.in-OfGroup.is c.read.ensures.since (read_settled is_rack n note c.args.volume c.args.start c.read.new.into c.in-OfGroup.group.site c.read.new.self c.read.result (c.read.ensures.read n note it fits))) up
 
 pub returns-in_default-clause-fuse : goal.returns-in_default-clause-fuse
-returns-in_default-clause-fuse g c = λ n note up fits. at_none (UpNoted n note) (FuseGoesOn c.args.self.now c.args.self.now) c.args.self.now c.in_default.not-OfGroup c.in_default.not-Over up
+returns-in_default-clause-fuse g c = λ n note up fits. fuse_rest c.args.self.now
 
 pub returns-in-OfGroup-clause-failing : goal.returns-in-OfGroup-clause-failing
 returns-in-OfGroup-clause-failing g c = group_failing c.args.self.now c.in-OfGroup.group (record c.in-OfGroup.group { site = c.read.new.self }) c.in-OfGroup.is c.read.ensures.since
@@ -47,29 +47,4 @@ returns-in-OfGroup-clause-maps g c = λ n note up fits.
     on_sites (UpNoted n note) (λ o e. StaysMapped o e) c.args.self.now c.in-OfGroup.group (record c.in-OfGroup.group { site = c.read.new.self }) c.in-OfGroup.is (λ it. c.read.ensures.maps n note it fits) up
 
 pub returns-in_default-clause-maps : goal.returns-in_default-clause-maps
-returns-in_default-clause-maps g c = λ n note up fits. at_none (UpNoted n note) _ c.args.self.now c.in_default.not-OfGroup c.in_default.not-Over up
-
-pub returns-in-Over-clause-read : goal.returns-in-Over-clause-read
-returns-in-Over-clause-read g c = λ n note up fits.
-    on_overs (UpNoted n note) (λ o e. PlainRead n note c.args.volume c.args.start c.read_plain.new.into o e c.read_plain.result) c.args.self.now c.in-Over.over c.read_plain.new.self c.in-Over.is (λ it. c.read_plain.ensures.read n note it fits) up
-
-pub returns-in-Over-clause-maps : goal.returns-in-Over-clause-maps
-returns-in-Over-clause-maps g c = λ n note up fits.
-    on_overs (UpNoted n note) (λ o e. StaysMapped o e) c.args.self.now c.in-Over.over c.read_plain.new.self c.in-Over.is (λ it. c.read_plain.ensures.maps n note it fits) up
-
-pub returns-in-Over-clause-fuse : goal.returns-in-Over-clause-fuse
-returns-in-Over-clause-fuse g c = λ n note up fits.
-    let is_rack = (g.met.R.Rack g.world.𝓛 g.world.𝓜 g.world.𝓡 ((λ s x. x), (λ x. x), (λ x. x), λ x. x)).rack in
-    at_overs (UpNoted n note) (FuseGoesOn c.args.self.now (Over c.read_plain.new.self)) c.args.self.now c.in-Over.over c.in-Over.is (λ it. plain_fuse c.args.self.now c.in-Over.over c.read_plain.new.self c.in-Over.is c.read_plain.ensures.since (read_settled is_rack n note c.args.volume c.args.start c.read_plain.new.into (site_in c.in-Over.over) (site_in c.read_plain.new.self) c.read_plain.result (c.read_plain.ensures.read n note it fits))) up
-
-pub returns-in-Over-clause-failing : goal.returns-in-Over-clause-failing
-returns-in-Over-clause-failing g c = plain_failing c.args.self.now c.in-Over.over c.read_plain.new.self c.in-Over.is c.read_plain.ensures.since
-
-pub returns-in-Over-clause-later : goal.returns-in-Over-clause-later
-returns-in-Over-clause-later g c = plain_later c.args.self.now c.in-Over.over c.read_plain.new.self c.in-Over.is c.read_plain.ensures.since c.read_plain.ensures.told
-
-pub returns-in-Over-clause-since : goal.returns-in-Over-clause-since
-returns-in-Over-clause-since g c = subst (λ x. CalledOn x (Over c.read_plain.new.self)) (sym c.in-Over.is) c.read_plain.ensures.since
-
-pub returns-in-Over-clause-cut : goal.returns-in-Over-clause-cut
-returns-in-Over-clause-cut g c = ap (λ x. cut_value x) c.read_plain.ensures.cut ∙ sym (ap (λ x. cut_in x) c.in-Over.is)
+returns-in_default-clause-maps g c = λ n note up fits. on_rest (UpNoted n note) (λ o e. StaysMapped o e) c.args.self.now c.in_default.not-OfGroup up
