@@ -31,7 +31,7 @@ use Rattle.vx_grouped.proofs.ImageLemmas.{sure_by, sure_free, sure_kept}
 use Rattle.vx_grouped.proofs.SettleLemmas.{fuse_burned}
 use Rattle.vx_grouped.proofs.SiteLemmas.{lies_as, noted_with, up_with}
 use Rattle.vx_grouped.proofs.TraceLemmas.{lit_since}
-use Rattle.vx_diskset.specs.Noted.{AgreesStill}
+use Rattle.vx_diskset.specs.Noted.{AgreesStill, IsNoteTidy}
 
 -- ---- a note under which commits may have been begun: imports may disagree then
 
@@ -55,9 +55,13 @@ note_works core note x = record {
   tight = λ was none firsts. works_tight (is_sure core) x firsts;
 }
 
-sure_of : (sure : Bool) → not sure ≡ false → sure ≡ true
+pub sure_of : (sure : Bool) → not sure ≡ false → sure ≡ true
 sure_of true is = refl
 sure_of false is = absurd (let wrong : true ≡ false = is in cc)
+
+-- nothing is begun while imports agree
+pub ground_tidy : (x : List ℕ) (core : GroupCore) (note : GroupNode) → IsNoteTidy (note_ground x core note)
+ground_tidy x core note = λ tight. ap (λ (b : Bool). if b then [] else x ∷ note.begun) (sure_of (is_sure core) tight)
 
 -- ---- whether a call failed on one of the first disks
 

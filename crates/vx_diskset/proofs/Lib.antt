@@ -5,6 +5,7 @@ pub mod BesideLemmas
 pub mod Blamed
 pub mod RvgMoves
 pub mod OverWorks
+pub mod IdleFalls
 pub mod FoundedWork
 pub mod OverNotes
 pub mod OverIdle

@@ -11,7 +11,7 @@ use Rattle.vx_ground.specs.Accounts.{ground_state}
 use Rattle.vx_ground.specs.Lifted.{laid_volumes}
 use Rattle.vx_ground.proofs.AccountLemmas.{account_loses}
 use Rattle.vx_grouped.specs.ConfigMoves.{LosesSome}
-use Rattle.vx_grouped.specs.GroupNotes.{noted_config}
+use Rattle.vx_grouped.specs.GroupNotes.{is_sure, noted_config}
 use Rattle.vx_grouped.specs.GroupSites.{GroupUp, idle_below, idle_disks, laid_below, laid_disks, site_disks, with_note}
 use Rattle.vx_grouped.specs.SiteEnds.{ConfigGoes, HasNow}
 use Rattle.vx_grouped.specs.SiteMaps.{StandMaps}
@@ -42,7 +42,7 @@ use Rattle.vx_diskset.specs.Makings.{MakesNone, MakesRvgIs, PlainNoted, StaysNon
 use Rattle.vx_diskset.specs.declared.disk_set.DiskSet.TheVariants.{OfGroup}
 use Rattle.vx_diskset.specs.declared.group_set.CutWrite.{CutWrite}
 use Rattle.vx_diskset.proofs.CountMoves.{counts_lose}
-use Rattle.vx_diskset.proofs.GroundNotes.{ground_agrees, ground_lies, ground_lit, ground_up, note_ground, note_works}
+use Rattle.vx_diskset.proofs.GroundNotes.{ground_agrees, ground_lies, ground_lit, ground_up, note_ground, note_works, sure_of}
 use Rattle.vx_diskset.proofs.OverCame.{or_right}
 
 not_both : (b : Bool) → IsTrue b → IsFalse b → ⊥
@@ -144,7 +144,7 @@ module _ {R : Type 0} {g : Ghosts R} (rackful : (s : R) → IsRack (g.meaning s)
           down_with n note next idle.agreed (idle_below idle).tells k.core.inner.config (idle_disks idle) up.noted
               (lit_since next next (laid_below k).tells (idle_below idle).tells (laid_disks k) (idle_disks idle) refl fell.stopped.tells fell.told
               (ground_lit n note begun l.core.inner.config l k up went.ground went.since went.told refl (sizes_then k alone) may))
-              (λ tight. fell.agreed ∙ (ground_lies n note begun l.core.inner.config l k up went.ground went.since went.told refl (sizes_then k alone) may).agreed tight)
+              (λ tight. fell.agreed ∙ sure_of (is_sure k.core) tight)
               (record { down = fell.stopped.down; unarmed = fell.stopped.unarmed }) spells
               (fell.away n next (ground_lies n note begun l.core.inner.config l k up went.ground went.since went.told refl (sizes_then k alone) may)),
           cut,

@@ -6,6 +6,7 @@ use Rattle.vx_config.specs.Table.{config}
 use Rattle.vx_config.specs.declared.config.Config.{Config}
 use Rattle.vx_disk.specs.declared.shelf.Shelf.{Ghosts}
 use Rattle.vx_events.specs.GroupViews.{config_of, read_front}
+use Rattle.vx_events.specs.RvgFits.{config_rvg, rvg_noted}
 use Rattle.vx_history.specs.Groups.{GroupNode}
 use Rattle.vx_history.specs.Steps.{crashed}
 use Rattle.vx_history.specs.Stops.{IsFused}
@@ -27,7 +28,7 @@ use Rattle.vx_diskset.specs.Blames.{IsGroupDisk}
 use Rattle.vx_diskset.specs.GroupSets.{cut_value}
 use Rattle.vx_diskset.specs.Holds.{KeptBeside}
 use Rattle.vx_diskset.specs.Layouts.{config_units, units_by, units_of, units_or}
-use Rattle.vx_diskset.specs.Noted.{AgreesStill, NotedOn, NotesMoved, NotesOn, NotesWorked, OverCalled, OverFalls, OversCalled, OversFall, SiteNoted, below_rvg}
+use Rattle.vx_diskset.specs.Noted.{AgreesStill, NotedOn, NotesMoved, NotesOn, NotesWorked, OverCalled, OverFalls, OversCalled, OversFall, RestsNamed, SiteNoted, TidyNote, below_rvg}
 use Rattle.vx_diskset.specs.Stands.{OverStands, SiteStands}
 use Rattle.vx_diskset.specs.declared.disk_set.DiskSet.{DiskSet}
 use Rattle.vx_diskset.specs.declared.disk_set.DiskSet.TheVariants.{Bare, Spoiled, Up as UpSet, Receives, Down as DownSet, OfGroup, Over, Gone as GoneSet}
@@ -81,6 +82,14 @@ module _ {R : Type 0} {g : Ghosts R} where
   up_noted k note (Down idle) it = absurd it
   up_noted k note (Marked rack) it = absurd it
   up_noted k note Gone it = absurd it
+
+  -- of one that is up nothing is said of imports
+  pub up_named : (k : Node) (note : GroupNode) (units : Units) (e : GroupSite R g) → UpNoted k note e → RestsNamed units e
+  up_named k note units (Up laid) it = tt
+  up_named k note units (Deported idle) it = absurd it
+  up_named k note units (Down idle) it = absurd it
+  up_named k note units (Marked rack) it = absurd it
+  up_named k note units Gone it = absurd it
 
   up_running : (k : Node) (note : GroupNode) (e : GroupSite R g) → UpNoted k note e → IsTrue (site_disks e).down → ⊥
   up_running k note (Up laid) it down = it.at.up down
@@ -148,6 +157,15 @@ module _ {R : Type 0} {g : Ghosts R} (beside : KeptBeside) (n : Node) (note : Gr
   inside_so : InsideOf (units_of after) next
   inside_so = λ u disk. ap (λ (f : ℕ → Bool). f u) moved.1.same.inside ∙ noted.2 u (subst (λ (us : Units). IsGroupDisk us u) same_units disk)
 
+  -- its configuration names the same replicated volume group
+  named_so : rvg_noted next ≡ Some (units_of after)
+  named_so =
+      ap (λ (o : Option Config). config_rvg o) (note_read next moved.2.now moved.2.noted_now) ∙ moved.2.change.parts.rvg
+      ∙ sym (ap (λ (o : Option Config). config_rvg o) (note_read note moved.2.was moved.2.noted)) ∙ noted.3.named ∙ ap (λ (u : Units). Some u) (sym same_units)
+
+  tidy_so : TidyNote (units_of after) next
+  tidy_so = record { tidy = moved.4; named = named_so }
+
   cut_so : (s : OverSet R g) → s.cut ≡ new.cut → cut_value s.cut ≡ next.cut
   cut_so s same = ap (λ (o : Option CutWrite). cut_value o) same ∙ called.cut ∙ noted.1 ∙ sym moved.1.same.cut
 
@@ -156,7 +174,7 @@ module _ {R : Type 0} {g : Ghosts R} (beside : KeptBeside) (n : Node) (note : Gr
     where
       by : (UpNoted (below_rvg after) next (site_in new) × AgreesStill note next (site_disks (site_in old)) (site_disks (site_in new))) ⊎ (CutNoted (below_rvg after) next (site_in new) × IsFused n.fuse)
           → (SiteNoted after next (Over new) × AgreesStill note next (site_disks (site_in old)) (site_disks (site_in new))) ⊎ (SiteNoted (crashed after 0) next (Over new) × IsFused n.fuse)
-      by (inl it) = inl ((up_noted (below_rvg after) next (site_in new) it.0, cut_so new refl, inside_so), it.1)
+      by (inl it) = inl ((up_noted (below_rvg after) next (site_in new) it.0, cut_so new refl, inside_so, tidy_so, up_named (below_rvg after) next (units_of after) (site_in new) it.0), it.1)
       by (inr it) = absurd (let clash : true ≡ false = sym (cut_down (below_rvg after) next (site_in new) it.0) ∙ running in cc)
 
   notes_fallen : (s : OverSet R g) → IsTrue (site_disks (site_in new)).down → OverFalls new s → NotesMoved n note (site_in old) (Over old) (site_in s) (Over s)
@@ -166,7 +184,7 @@ module _ {R : Type 0} {g : Ghosts R} (beside : KeptBeside) (n : Node) (note : Gr
           → NotesMoved n note (site_in old) (Over old) (site_in s) (Over s)
       by (inl it) = absurd (up_running (below_rvg after) next (site_in new) it.0 down)
       by (inr it) =
-          let fell : DownNoted (crashed (below_rvg after) 0) next (site_in s) = falls.fallen (below_rvg after) next it.0 in (
+          let fell : DownNoted (crashed (below_rvg after) 0) next (site_in s) = falls.fallen (below_rvg after) next moved.4 it.0 in (
             next,
             moved.1,
             record {
@@ -178,7 +196,7 @@ module _ {R : Type 0} {g : Ghosts R} (beside : KeptBeside) (n : Node) (note : Gr
               noted_now = moved.2.noted_now;
               change = counts_lose (site_disks (site_in old)) (site_disks (site_in new)) (site_disks (site_in s)) falls.counts moved.2.was moved.2.now moved.2.change;
             },
-            inr ((down_again after next (site_in s) refl fell, cut_so s falls.cut, inside_so), it.1),
+            inr ((down_again after next (site_in s) refl fell, cut_so s falls.cut, inside_so, tidy_so, falls.named (below_rvg after) next (units_of after) (inr it.0) named_so), it.1),
           )
 
 -- ---- calls on the disks of a site

@@ -27,7 +27,7 @@ use Rattle.vx_grouped.proofs.SpellLemmas.{spells_like}
 use Rattle.vx_diskset.specs.Aboves.{InsideOf}
 use Rattle.vx_diskset.specs.Noted.{NotesWorked, below_rvg}
 use Rattle.vx_diskset.specs.Shelves.{OfRvg}
-use Rattle.vx_diskset.proofs.GroundNotes.{ground_agrees, ground_cut, ground_up, note_ground, note_works}
+use Rattle.vx_diskset.proofs.GroundNotes.{ground_agrees, ground_cut, ground_tidy, ground_up, note_ground, note_works}
 
 -- ---- the group of a site, behind calls on the replicated volume group over it
 
@@ -70,6 +70,7 @@ module _ {R : Type 0} {g : Ghosts R} (n : Node) (note : GroupNode) (units : Unit
       ground_up (below_rvg n) note note old.core.inner.config old new up ground since less refl sizes may spells is,
       ground_agrees (below_rvg n) note note old.core.inner.config old new up ground since less refl sizes may is,
     ),
+    ground_tidy (noted_config new.core.inner.config) new.core note,
   )
   by_down true is = (
     next,
@@ -79,6 +80,7 @@ module _ {R : Type 0} {g : Ghosts R} (n : Node) (note : GroupNode) (units : Unit
       ground_cut (below_rvg n) note note old.core.inner.config old new up ground since less refl sizes may spells is,
       fell_fused n.fuse (laid_disks old) (laid_disks new) up.fuse up.at.up since.safe is,
     ),
+    ground_tidy (noted_config new.core.inner.config) new.core note,
   )
 
   -- its note moves so

@@ -10,6 +10,7 @@ use Rattle.vx_grouped.specs.GroupSites.{idle_below, idle_disks, laid_below, laid
 use Rattle.vx_grouped.specs.declared.group_site.GroupSite.{GroupSite}
 use Rattle.vx_grouped.specs.Away.{IsAwayAt}
 use Rattle.vx_grouped.specs.GroupNotes.{GroupLies, is_sure}
+use Rattle.vx_grouped.specs.SiteMaps.{RestsNot}
 use Rattle.vx_grouped.specs.declared.idle.Idle.{Idle}
 use Rattle.vx_grouped.specs.declared.laid.Laid.{Laid}
 use Rattle.vx_history.specs.Groups.{GroupNode}
@@ -69,6 +70,7 @@ module _ {R : Type 0} {g : Ghosts R} where
     pub away : (n : Node) (note : GroupNode) → GroupLies n note old.core (laid_disks old) → IsAwayAt (record n { state = IsDown }) note old.core.inner.config (idle_disks idle)
     pub stopped : Stopped (laid_disks old) (idle_disks idle)
     pub agreed : idle.agreed ≡ is_sure old.core
+    pub rests : RestsNot idle.rested
     pub lacking : (r : Rested) → idle.rested ≡ Some r → LacksCommit old.core.inner → ⊥
     pub disks : OnDisks (laid_disks old).disks (idle_disks idle).disks (Crashed (laid_disks old).size pick)
     pub told : TellsLess (laid_below old) (idle_below idle)

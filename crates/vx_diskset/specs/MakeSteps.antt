@@ -10,7 +10,7 @@ use Rattle.vx_ground.specs.Lifted.{laid_volumes}
 use Rattle.vx_ground.specs.Named.{named_state}
 use Rattle.vx_ground.specs.Rewrites.{OneRests}
 use Rattle.vx_grouped.specs.Away.{IsAwayAt}
-use Rattle.vx_grouped.specs.GroupNotes.{GroupLies}
+use Rattle.vx_grouped.specs.GroupNotes.{GroupLies, is_sure}
 use Rattle.vx_grouped.specs.GroupSites.{idle_below, idle_disks, laid_below, laid_disks}
 use Rattle.vx_grouped.specs.SiteMaps.{RestsNot}
 use Rattle.vx_grouped.specs.declared.group_site.GroupSite.{GroupSite}
@@ -63,7 +63,7 @@ module _ {R : Type 0} {g : Ghosts R} where
     pub down : IsTrue (laid_disks laid).down
     pub stopped : Stopped (laid_disks laid) (idle_disks idle)
     pub away : (n : Node) (note : GroupNode) → GroupLies n note laid.core (laid_disks laid) → IsAwayAt (record n { state = IsDown }) note laid.core.inner.config (idle_disks idle)
-    pub agreed : idle.agreed ≡ laid.core.inner.agreed
+    pub agreed : idle.agreed ≡ is_sure laid.core
     pub told : TellsLess (laid_below laid) (idle_below idle)
     pub rests : RestsNot idle.rested
 

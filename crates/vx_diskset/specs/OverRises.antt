@@ -1,5 +1,5 @@
 -- How a recovery leaves a site that is down, whose group of disks has a replicated volume group, or is found to have one.
-use Rattle.std.specs.Prelude.{◌≡◌, ◌⊎◌, ℕ, ◌+◌, ◌<◌, ◌≤◌, ◌||◌, Bool, false, true, length, Some, None, IsTrue, Result, Ok, Err}
+use Rattle.std.specs.Prelude.{◌≡◌, ◌⊎◌, ℕ, ◌+◌, ◌<◌, ◌≤◌, ◌||◌, Bool, false, true, length, Option, Some, None, IsTrue, Result, Ok, Err}
 use Rattle.vx_config.specs.declared.config.Config.{Config}
 use Rattle.vx_disk.specs.Counts.{Rose}
 use Rattle.vx_disk.specs.declared.shelf.Shelf.{Ghosts}
@@ -8,7 +8,7 @@ use Rattle.vx_events.specs.GroupViews.{config_of}
 use Rattle.vx_events.specs.RvgFits.{FitsRvg, HasUnits}
 use Rattle.vx_grouped.specs.ConfigMoves.{LosesSome}
 use Rattle.vx_grouped.specs.GroupNotes.{note_dimmed}
-use Rattle.vx_grouped.specs.GroupSites.{UpNoted, laid_disks, site_below, site_disks}
+use Rattle.vx_grouped.specs.GroupSites.{UpNoted, laid_disks, site_below, site_disks, with_note}
 use Rattle.vx_grouped.specs.SiteEnds.{ConfigGoes}
 use Rattle.vx_grouped.specs.SiteMaps.{CameMapped}
 use Rattle.vx_grouped.specs.SiteReturns.{ConfigReturns, ImportWhy, KnownAway, NoteReturns, as_imported, is_dimmed, returned_with}
@@ -16,24 +16,28 @@ use Rattle.vx_grouped.specs.declared.group_site.GroupSite.{GroupSite}
 use Rattle.vx_grouped.specs.declared.group_site.GroupSite.TheVariants.{Up}
 use Rattle.vx_grouped.specs.declared.laid.Laid.{Laid}
 use Rattle.vx_history.specs.Groups.{GroupNode, NoteWorks}
-use Rattle.vx_history.specs.Steps.{burned, recovered}
+use Rattle.vx_history.specs.Steps.{burned, crashed, recovered, worked}
 use Rattle.vx_history.specs.World.{Fuse, Node}
 use Rattle.vx_model.specs.Sites.{is_origin}
 use Rattle.vx_model.specs.declared.errors.Stop.{Stop}
 use Rattle.vx_model.specs.declared.errors.Stop.TheVariants.{No as Refused, OutOfMemory}
 use Rattle.vx_model.specs.declared.no.No.TheVariants.{Device, Limit}
 use Rattle.vx_model.specs.declared.site.SPhase.TheVariants.{Quiet}
+use Rattle.vx_model.specs.declared.site.SiteState.TheVariants.{Up as IsUp}
 use Rattle.vx_model.specs.declared.units.Units.{Units}
 use Rattle.vx_srl.specs.Views.{most_number}
 use Rattle.vx_diskset.specs.Aboves.{site_in}
-use Rattle.vx_diskset.specs.DiskSets.{no_number}
+use Rattle.vx_diskset.specs.DiskSets.{CrashedAt, no_number}
 use Rattle.vx_diskset.specs.Holds.{KeptBeside, most_header}
 use Rattle.vx_diskset.specs.Layouts.{units_of}
 use Rattle.vx_diskset.specs.Noted.{AgreesStill, SiteNoted, below_rvg}
+use Rattle.vx_diskset.specs.Recovers.{CutFits, KeptIs, still_cut}
 use Rattle.vx_diskset.specs.Stands.{SiteStands}
 use Rattle.vx_diskset.specs.declared.disk_set.DiskSet.{DiskSet}
 use Rattle.vx_diskset.specs.declared.disk_set.DiskSet.TheVariants.{OfGroup, Over}
+use Rattle.vx_diskset.specs.declared.group_set.CutWrite.{CutWrite}
 use Rattle.vx_diskset.specs.declared.group_set.GroupSet.{GroupSet}
+use Rattle.vx_diskset.specs.declared.group_set.KeptWrite.{KeptWrite}
 use Rattle.vx_diskset.specs.declared.over_set.OverSet.{OverSet}
 
 -- the site in its next session, with this note of its group and this fuse
@@ -166,3 +170,20 @@ module _ {R : Type 0} {g : Ghosts R} where
     RisesPlain : (s : GroupSet R g) → new ≡ OfGroup s → r ≡ Ok tt → PlainAgain n note old s → OverRises beside n note old new r
     RisesLost : (s : OverSet R g) (stop : Stop) → new ≡ Over s → r ≡ Err stop → LostAgain beside n note old s stop → OverRises beside n note old new r
     RisesHeld : (s : OverSet R g) (stop : Stop) → new ≡ Over s → r ≡ Err stop → HeldStill beside n note old s stop → OverRises beside n note old new r
+
+  -- ---- the write that was cut
+
+  -- What is read of it at a site whose replicated volume group came up with its group. Where a disk fails in that the disks crash, and the write is cut still.
+  abbrev pub LookedOver : KeptBeside → Node → GroupNode → Option CutWrite → (old new : OverSet R g) → Result (Option KeptWrite) Stop → Type 0
+  LookedOver beside n note cut old new (Ok kept) = SiteStands beside (worked n) (Over new) × SiteNoted (worked n) note (Over new) × KeptIs note (site_disks (site_in old)) cut kept
+  LookedOver beside n note cut old new (Err (Refused (Device disk))) =
+      CrashedAt beside (worked n) (Over new) × SiteNoted (crashed (with_note (still_cut cut note) n) 0) (still_cut cut note) (Over new) × CutFits note cut
+      × Rose ((site_disks (site_in old)).disk_faults disk) ((site_disks (site_in new)).disk_faults disk)
+  LookedOver beside n note cut old new (Err other) = ⊥
+
+  -- so it is of the disks of a site; of those without one more is said elsewhere
+  abbrev pub LooksOver : Option CutWrite → DiskSet R g → DiskSet R g → Result (Option KeptWrite) Stop → Type 0
+  LooksOver cut (Over old) (Over new) r =
+      (beside : KeptBeside) (n : Node) (note : GroupNode) → SiteStands beside n (Over old) → n.state ≡ IsUp → n.halted ≡ None → SiteNoted n note (Over old) → note.cut ≡ None → LookedOver beside n note cut old new r
+  LooksOver cut (Over old) other r = ⊥
+  LooksOver cut old new r = Unit {0}

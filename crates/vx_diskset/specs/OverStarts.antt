@@ -179,6 +179,11 @@ module _ {R : Type 0} {g : Ghosts R} where
     pub fell : DarkBack (away && not (stops_down stop)) mid s.site
     pub cut_is : s.cut ≡ cut
 
+  -- so it is behind an import that is refused so
+  abbrev pub PlainBack : (away : Bool) → Laid R g → Option CutWrite → Stop → DiskSet R g → Result (Unit {0}) Stop → Type 0
+  PlainBack away mid cut stop (OfGroup s) r = DarkBack (away && not (stops_down stop)) mid s.site × (s.cut ≡ cut) × (r ≡ Err stop)
+  PlainBack away mid cut stop other r = ⊥
+
   abbrev pub PlainStarts : (away : Bool) → Units → Laid R g → Option CutWrite → DiskSet R g → Result (Unit {0}) Stop → Type 0
   PlainStarts away units old cut (Over s) (Ok done) = (is_dark old.shelf ≡ true) × Started units old s
   PlainStarts away units old cut (OfGroup s) (Err stop) = PlainFails away units old cut s stop

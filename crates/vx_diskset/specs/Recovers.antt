@@ -19,12 +19,12 @@ use Rattle.vx_watched.specs.Since.{is_rack}
 use Rattle.vx_grouped.specs.SiteReturns.{SiteRecovers}
 use Rattle.vx_grouped.specs.declared.group_site.GroupSite.{GroupSite}
 use Rattle.vx_diskset.specs.Aboves.{site_in}
-use Rattle.vx_diskset.specs.GroupCalls.{AtFound, AtOver, AtPlain, cut_in}
+use Rattle.vx_diskset.specs.GroupCalls.{AtFound, AtPlain, cut_in}
 use Rattle.vx_diskset.specs.GroupSets.{cut_value}
 use Rattle.vx_diskset.specs.declared.disk_set.DiskSet.{DiskSet}
 use Rattle.vx_diskset.specs.declared.disk_set.DiskSet.TheVariants.{OfGroup, Over}
 use Rattle.vx_diskset.specs.declared.group_set.CutWrite.{CutWrite}
-use Rattle.vx_grouped.specs.SiteMaps.{CameMapped}
+use Rattle.vx_grouped.specs.SiteMaps.{CameMapped, StaysMapped}
 use Rattle.vx_diskset.specs.declared.group_set.KeptWrite.{KeptWrite}
 
 -- the note of a site on which this write is still cut
@@ -91,19 +91,17 @@ module _ {R : Type 0} {g : Ghosts R} where
   RaisesMaps (Over s) new r = RaisesMapsAt (site_in s) new r
   RaisesMaps old new r = ⊥
 
-  -- the same where a group came up with its replicated volume group
-  abbrev pub RisesOver : Node → GroupNode → Option CutWrite → GroupSite R g → DiskSet R g → Result (Option KeptWrite) Stop → Type 0
-  RisesOver n note cut old new (Ok kept) = AtOver (UpNoted (worked n) note) new × (cut_in new ≡ None) × KeptIs note (site_disks old) cut kept
-  RisesOver n note cut old new (Err (Refused (Device disk))) =
-      AtOver (DownNoted (crashed (with_note (still_cut cut note) n) 0) (still_cut cut note)) new × (cut_in new ≡ cut_value cut) × CutFits note cut
-      × AtOver (λ e. Rose ((site_disks old).disk_faults disk) ((site_disks e).disk_faults disk)) new
-  RisesOver n note cut old new (Err other) = ⊥
-
-  -- and what is read then of that write
+  -- and what is read then of that write; of a site with a replicated volume group more is said elsewhere
   abbrev pub LooksAt : Node → GroupNode → Option CutWrite → DiskSet R g → DiskSet R g → Result (Option KeptWrite) Stop → Type 0
   LooksAt n note cut (OfGroup s) new r = RisesWith n note cut s.site new r
-  LooksAt n note cut (Over s) new r = RisesOver n note cut (site_in s) new r
+  LooksAt n note cut (Over s) new r = Unit {0}
   LooksAt n note cut old new r = ⊥
+
+  -- what is noted of the maps stays
+  abbrev pub LooksMaps : DiskSet R g → DiskSet R g → Type 0
+  LooksMaps (OfGroup s) new = AtPlain (StaysMapped s.site) new
+  LooksMaps (Over s) new = Unit {0}
+  LooksMaps old new = ⊥
 
   -- the write that is cut behind an import: none, where it came up
   abbrev pub cut_past : {T : Type 0} → Result T Stop → DiskSet R g → Option Write

@@ -14,16 +14,17 @@ ghost use Rattle.vx_watched.specs.Since.{CalledSince};
 ghost use Rattle.vx_diskset.specs.Asked.{FuseGoesOn, SameFailing};
 ghost use Rattle.vx_diskset.specs.DiskSets.{Later};
 ghost use Rattle.vx_diskset.specs.Aboves.{site_in};
-ghost use Rattle.vx_diskset.specs.OverStarts.{HandsOut, ImportsBy, ImportsIn, RaisesBy, RaisesIn};
-ghost use Rattle.vx_diskset.specs.GroupCalls.{AtFound, AtOver, AtPlain, AtSite, ImportsOn, InitIs, OnSites, cut_in};
+ghost use Rattle.vx_diskset.specs.OverRises.{LooksOver};
+ghost use Rattle.vx_diskset.specs.OverStarts.{HandsOut, ImportsBy, ImportsIn, RaisesBy, RaisesIn, RaisesOver};
+ghost use Rattle.vx_diskset.specs.GroupCalls.{AtFound, AtPlain, AtSite, ImportsOn, InitIs, cut_in};
 ghost use Rattle.vx_diskset.specs.Holds.{KeptBeside};
-ghost use Rattle.vx_diskset.specs.Recovers.{LooksAt, LooksKept, RaisesGroup, RisesOver, RisesSince, RisesWith, cut_past, RaisesMaps};
+ghost use Rattle.vx_diskset.specs.Recovers.{LooksAt, LooksKept, LooksMaps, RaisesGroup, RaisesMaps, RisesSince, RisesWith, cut_past};
 ghost use Rattle.vx_diskset.specs.Stands.{SiteStands};
 ghost use Rattle.vx_watched.specs.Traces.{TellsLess};
 
 use crate::group_set::{CutWrite, KeptWrite};
-use crate::over_starts::with_rvg;
-use crate::{Above, DiskSet, GroupSet, OverSet};
+use crate::over_starts::{with_plain, with_rvg};
+use crate::{DiskSet, GroupSet, OverSet};
 use std::alloc::Global;
 use vx_disk::Rack;
 use vx_grouped::{GroupSite, begin_group};
@@ -132,7 +133,7 @@ fn stand_up<R: Rack>(
 fn import_in<R: Rack>(group: GroupSet<R>, alloc: Global) -> (DiskSet<R>, Result<(), Stop>)
     ensures imported { (n : Node) (note : GroupNode) → AwayNoted n note group.site → AtFound (λ e. SiteImports n note group.site e result.1) result.0 }
     ensures maps { (n : Node) (note : GroupNode) → AwayNoted n note group.site → AtFound (λ e. CameMapped group.site e result.1) result.0 }
-    ensures brought { ImportsBy group.site group.cut result.0 result.1 }
+    ensures brought { ImportsBy true group.site group.cut result.0 result.1 }
     ensures cut { cut_in result.0 ≡ cut_past result.1 (DiskSet.OfGroup group) }
     ensures since { AtSite (λ e. RisesSince (site_disks group.site) (site_disks e)) result.0 }
     ensures told { AtSite (λ e. TellsLess (site_below group.site) (site_below e)) result.0 }
@@ -140,7 +141,7 @@ fn import_in<R: Rack>(group: GroupSet<R>, alloc: Global) -> (DiskSet<R>, Result<
     let cut = group.cut;
     let (site, answer) = group.site.import(alloc);
     match answer {
-        Ok(()) => with_rvg(alloc, site, cut, true),
+        Ok(()) => with_plain(alloc, site, cut, true),
         Err(stop) => (DiskSet::OfGroup(GroupSet { site, cut }), Err(stop)),
     }
 }
@@ -171,7 +172,7 @@ fn raise_in<R: Rack>(
     let (site, answer) = group.site.import(alloc);
     match answer {
         Ok(()) => {
-            let (disk_set, started) = with_rvg(alloc, site, cut, false);
+            let (disk_set, started) = with_plain(alloc, site, cut, false);
             (disk_set, hands_out(started, kept))
         }
         Err(stop) => (DiskSet::OfGroup(GroupSet { site, cut }), Err(stop)),
@@ -179,29 +180,18 @@ fn raise_in<R: Rack>(
 }
 
 // The same of a site with a replicated volume group. One that is up is refused, and stays so.
-fn import_over<R: Rack>(over: OverSet<R>, alloc: Global) -> (DiskSet<R>, Result<(), Stop>)
-    ensures brought { ImportsBy (site_in over) over.cut result.0 result.1 }
-{
-    let (site, above, cut) = over.parts();
-    let (site, answer) = site.import(alloc);
-    match answer {
-        Ok(()) => with_rvg(alloc, site, cut, true),
-        Err(stop) => (DiskSet::Over(OverSet::of(site, above, cut)), Err(stop)),
-    }
-}
-
 fn raise_over<R: Rack>(
     over: OverSet<R>,
     alloc: Global,
 ) -> (DiskSet<R>, Result<Option<CutWrite>, Stop>)
-    ensures brought { RaisesBy (site_in over) over.cut result.0 result.1 }
+    ensures brought { RaisesOver (site_in over) over.cut result.0 result.1 }
 {
     let (site, above, cut) = over.parts();
     let kept = cut;
     let (site, answer) = site.import(alloc);
     match answer {
         Ok(()) => {
-            let (disk_set, started) = with_rvg(alloc, site, cut, false);
+            let (disk_set, started) = with_rvg(alloc, site, cut);
             (disk_set, hands_out(started, kept))
         }
         Err(stop) => (DiskSet::Over(OverSet::of(site, above, cut)), Err(stop)),
@@ -212,8 +202,7 @@ fn stand_over<R: Rack>(
     over: OverSet<R>,
     cut: Option<CutWrite>,
 ) -> (DiskSet<R>, Result<Option<KeptWrite>, Stop>)
-    ensures rises { (n : Node) (note : GroupNode) → UpNoted n note (site_in over) → RisesOver n note cut (site_in over) result.0 result.1 }
-    ensures maps { (n : Node) (note : GroupNode) → UpNoted n note (site_in over) → AtOver (StaysMapped (site_in over)) result.0 }
+    ensures stands { LooksOver cut (DiskSet.Over over) result.0 result.1 }
     ensures since { AtSite (λ e. RisesSince (site_disks (site_in over)) (site_disks e)) result.0 }
     ensures told { AtSite (λ e. TellsLess (site_below (site_in over)) (site_below e)) result.0 }
 {
@@ -222,7 +211,7 @@ fn stand_over<R: Rack>(
     match look_kept(&mut site, &cut) {
         Ok(kept) => (DiskSet::Over(OverSet::of(site, above, None)), Ok(kept)),
         Err(no) => (
-            DiskSet::Over(OverSet::of(site.crash(u64::MAX), Above::Nothing, cut)),
+            DiskSet::Over(OverSet::of(site, above, cut).crash(u64::MAX)),
             Err(Stop::No(no)),
         ),
     }
@@ -257,7 +246,7 @@ impl<R: Rack> DiskSet<R> {
     {
         match self {
             DiskSet::OfGroup(group) => import_in(group, alloc),
-            DiskSet::Over(over) => import_over(over, alloc),
+            DiskSet::Over(over) => (DiskSet::Over(over), Err(Stop::No(No::Role))),
             other => (other, Err(Stop::No(No::Role))),
         }
     }
@@ -280,7 +269,8 @@ impl<R: Rack> DiskSet<R> {
     /// Says what is kept of a write that was cut, of a group that came up. Where a disk fails in that, the site is down again, and the write is cut still.
     pub fn look_at_cut(self, cut: Option<CutWrite>) -> (DiskSet<R>, Result<Option<KeptWrite>, Stop>)
         ensures looks { (n : Node) (note : GroupNode) → AtSite (UpNoted n note) self → LooksAt n note cut self result.0 result.1 }
-        ensures maps { (n : Node) (note : GroupNode) → AtSite (UpNoted n note) self → OnSites StaysMapped self result.0 }
+        ensures maps { (n : Node) (note : GroupNode) → AtSite (UpNoted n note) self → LooksMaps self result.0 }
+        ensures stands { LooksOver cut self result.0 result.1 }
         ensures failing { SameFailing self result.0 }
         ensures later { Later self result.0 }
     {

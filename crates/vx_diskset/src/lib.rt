@@ -9,6 +9,7 @@ mod group_finds;
 mod group_set;
 mod group_starts;
 mod grouping;
+mod idles;
 mod keeping;
 mod labels;
 mod over_asked;

@@ -25,11 +25,14 @@ ghost use Rattle.vx_ground.specs.Lifted.{laid_volumes};
 ghost use Rattle.vx_model.specs.States.{first_state};
 ghost use Rattle.vx_model.specs.declared.limits.TheConstants.{LEAST_BLOCKS};
 ghost use Rattle.vx_rvg.specs.Views.{IsSound, UnitsPlaced};
-ghost use Rattle.vx_diskset.specs.Noted.{SiteNoted};
+ghost use Rattle.vx_diskset.specs.Noted.{IsNoteTidy, RestsNamed, SiteNoted};
+ghost use Rattle.vx_events.specs.RvgFits.{rvg_noted};
+ghost use Rattle.vx_model.specs.declared.units.Units.{Units as UnitsValue};
 ghost use Rattle.vx_history.specs.Groups.{GroupNode};
 ghost use Rattle.vx_history.specs.World.{Node};
 ghost use Rattle.vx_model.specs.declared.site.SiteState.TheVariants.{Up as UpState};
 
+use crate::idles::fell_idle;
 use crate::over_work::{Makes, Rewrites};
 use crate::{Above, DiskSet, GroupSet, OverSet, OverSite};
 use std::alloc::Global;
@@ -47,7 +50,8 @@ fn stays<R: Rack>(laid: Laid<R>, why: Stop) -> (GroupSite<R>, Stop)
     ensures stays { StaysWith laid why result.0 result.1 }
 {
     if laid.is_down() {
-        return (GroupSite::Down(laid.crash(u64::MAX)), Stop::No(No::Down));
+        let idle = fell_idle(laid, u64::MAX);
+        return (GroupSite::Down(idle), Stop::No(No::Down));
     }
     (GroupSite::Up(laid), why)
 }
@@ -206,8 +210,9 @@ impl<R: Rack> OverSet<R> {
     pub(crate) fn crash(self, pick: u64) -> OverSet<R>
         ensures crashed { (beside : KeptBeside) (n : Node) → SiteStands beside n (OverSites self) → n.state ≡ UpState → CrashedAt beside n (OverSites result) }
         ensures held { (beside : KeptBeside) (n : Node) → CutAt beside n (OverSites self) → CrashedAt beside n (OverSites result) }
-        ensures noted { (n : Node) (note : GroupNode) → UpNoted n note (site_in self) → DownNoted (crashed n 0) note (site_in result) }
-        ensures fallen { (n : Node) (note : GroupNode) → CutNoted n note (site_in self) → DownNoted (crashed n 0) note (site_in result) }
+        ensures noted { (n : Node) (note : GroupNode) → IsNoteTidy note → UpNoted n note (site_in self) → DownNoted (crashed n 0) note (site_in result) }
+        ensures fallen { (n : Node) (note : GroupNode) → IsNoteTidy note → CutNoted n note (site_in self) → DownNoted (crashed n 0) note (site_in result) }
+        ensures named { (n : Node) (note : GroupNode) (units : UnitsValue) → UpNoted n note (site_in self) ⊎ CutNoted n note (site_in self) → rvg_noted note ≡ Some units → RestsNamed units (site_in result) }
         ensures cut { result.cut ≡ self.cut }
         ensures asked { (beside : KeptBeside) (n : Node) → SiteStands beside n (OverSites self) → n.state ≡ UpState → OnDisks (site_disks (site_in self)).disks (site_disks (site_in result)).disks (Crashed (site_disks (site_in self)).size pick) }
         ensures stopped { MayCrashSite pick (site_in self) (site_in result) }
@@ -218,13 +223,13 @@ impl<R: Rack> OverSet<R> {
         match site {
             OverSite::Origin(founded) => {
                 let (laid, _core) = founded.apart();
-                let idle = laid.crash(pick);
+                let idle = fell_idle(laid, pick);
                 let site = OverSite::Down(idle);
                 OverSet { site, cut }
             }
             OverSite::Receiver(founded) => {
                 let (laid, _core, _waiting) = founded.apart();
-                let idle = laid.crash(pick);
+                let idle = fell_idle(laid, pick);
                 let site = OverSite::Down(idle);
                 OverSet { site, cut }
             }

@@ -1,13 +1,17 @@
 // How the replicated volume group of a group of disks that came up is started.
-ghost use Rattle.std.specs.Prelude.{◌≡◌, ◌*◌, ◌<◌, ◌≤◌, ℕ, [], Err, IfOk, length, slice_index};
+ghost use Rattle.std.specs.Prelude.{◌≡◌, ◌*◌, ◌<◌, ◌≤◌, ℕ, Err, IfOk, length, slice_index};
 ghost use Rattle.vx_disk.specs.Maps.{maps_of};
-ghost use Rattle.vx_diskset.specs.OverStarts.{BackOver, FellBack, StartsOver, WithRvg, WithUnits, above_by};
+ghost use Rattle.vx_diskset.specs.OverStarts.{PlainStarts, PlainUnits, StartsIn, StartsOver, WithPlain, WithRvg, WithUnits, has_no_links, is_alone, is_idle_phase};
 ghost use Rattle.vx_ground.specs.Lifted.{laid_volumes};
 ghost use Rattle.vx_model.specs.Sizes.{ring_of};
-ghost use Rattle.vx_model.specs.declared.limits.TheConstants.{LINK_PLACES, MOST_DATA_VOLUMES};
+ghost use Rattle.vx_model.specs.declared.errors.Stop.TheVariants.{No as RefusedStop};
+ghost use Rattle.vx_model.specs.declared.limits.TheConstants.{LINK_PLACES, MOST_DATA_VOLUMES, MOST_NUMBER as GREATEST};
+ghost use Rattle.vx_model.specs.declared.no.Counted.TheVariants.{Number as Numbers};
+ghost use Rattle.vx_model.specs.declared.no.No.TheVariants.{Limit as LimitNo};
 ghost use Rattle.vx_rvg.specs.Views.{UnitsPlaced};
 
 use crate::group_set::CutWrite;
+use crate::idles::{dark_back, fell_back, is_dark};
 use crate::over_work::Starts;
 use crate::{Above, DiskSet, GroupSet, OverSet};
 use std::alloc::Global;
@@ -15,20 +19,33 @@ use vx_config::Config;
 use vx_disk::Rack;
 use vx_ground::work_over;
 use vx_grouped::{GroupSite, Laid, is_off};
-use vx_model::limits::{LEAST_BLOCKS, LINK_PLACES};
-use vx_model::{No, OutOfMemory, Stop, Units, is_origin, map_blocks};
+use vx_model::limits::{LEAST_BLOCKS, LINK_PLACES, MOST_NUMBER};
+use vx_model::{Counted, KeptLink, No, OutOfMemory, SPhase, State, Stop, Units, is_origin, map_blocks};
 use vx_rvg::{RvgCore, StartRoom};
-use vx_secondary::Waiting;
 
-// What stands over a group, by the role of its site.
-fn by_role(core: RvgCore, waiting: Waiting) -> Above
-    ensures { waiting ≡ [] → result ≡ above_by core }
+fn is_idle(phase: SPhase) -> bool
+    ensures { result ≡ is_idle_phase phase }
 {
-    if is_origin(&core.state().role) {
-        Above::Origin(core)
-    } else {
-        Above::Receiver { core, waiting }
+    match phase {
+        SPhase::Quiet => true,
+        SPhase::Regions | SPhase::Log | SPhase::ForkKept => false,
     }
+}
+
+fn is_unlinked(links: &[KeptLink]) -> bool
+    ensures { result ≡ has_no_links links.now }
+{
+    match links {
+        [] => true,
+        [_, ..] => false,
+    }
+}
+
+// Whether a site with this log stands by itself: an origin without links, in no replay.
+fn stands_alone(state: &State) -> bool
+    ensures { result ≡ is_alone state.now }
+{
+    is_origin(&state.role) && (is_unlinked(state.links.as_slice()) && is_idle(state.phase))
 }
 
 // How many blocks the change maps of these data volumes of a group take.
@@ -47,75 +64,110 @@ fn maps_over<R: Rack>(laid: &Laid<R>, vols: &[u32]) -> u64
 }
 
 // Memory for a start, whose log and change maps have so many blocks.
-fn start_room(alloc: Global, blocks: u64, maps: u64) -> Result<(StartRoom, Waiting), OutOfMemory>
+fn start_room(alloc: Global, blocks: u64, maps: u64) -> Result<StartRoom, OutOfMemory>
     requires { LEAST_BLOCKS ≤ blocks }
-    ensures { IfOk result (λ rooms. (rooms.0.ring ≡ ring_of blocks) × (rooms.0.maps ≡ maps) × (rooms.1 ≡ [])) }
+    ensures { IfOk result (λ room. (room.ring ≡ ring_of blocks) × (room.maps ≡ maps)) }
 {
-    let room = StartRoom::new(alloc, blocks, maps)?;
-    let waiting = Waiting::new(alloc)?;
-    Ok((room, waiting))
+    StartRoom::new(alloc, blocks, maps)
 }
 
-// The disks of a group that came up, and crash again; those of a site that was deported are by themselves then.
-fn fell_back<R: Rack>(laid: Laid<R>, away: bool) -> GroupSite<R>
-    ensures { FellBack laid result }
+// Starts the replicated volume group over the volumes of a group, with memory taken before. One that does not stand by itself is refused.
+fn start_with<R: Rack>(
+    laid: Laid<R>,
+    units: &Units,
+    room: StartRoom,
+) -> (Laid<R>, Result<RvgCore, Stop>)
+    requires there { UnitsPlaced units.now (laid_volumes laid) }
+    requires large { LEAST_BLOCKS ≤ (laid_volumes laid).size units.now.srl }
+    requires room { room.ring ≡ ring_of ((laid_volumes laid).size units.now.srl) }
+    requires maps { LINK_PLACES * maps_of units.now.vols (laid_volumes laid) ≤ room.maps }
+    ensures starts { StartsIn units.now laid result.0 result.1 }
 {
-    let idle = laid.crash(u64::MAX);
-    if away {
-        GroupSite::Deported(idle.revive())
-    } else {
-        GroupSite::Down(idle)
+    let (laid, started) = work_over(laid, Starts { room, units });
+    match started {
+        Ok(core) => {
+            if stands_alone(core.state()) {
+                (laid, Ok(core))
+            } else {
+                (laid, Err(Stop::No(No::NoConfig)))
+            }
+        }
+        Err(no) => (laid, Err(Stop::No(no))),
     }
 }
 
-// The disks of a group that came up whose replicated volume group did not.
-fn back_over<R: Rack>(
+fn start_in<R: Rack>(
+    alloc: Global,
+    laid: Laid<R>,
+    units: &Units,
+) -> (Laid<R>, Result<RvgCore, Stop>)
+    requires there { UnitsPlaced units.now (laid_volumes laid) }
+    requires large { LEAST_BLOCKS ≤ (laid_volumes laid).size units.now.srl }
+    ensures starts { StartsIn units.now laid result.0 result.1 }
+{
+    let blocks = laid.size(units.srl);
+    let vols = units.vols.as_slice();
+    let maps = maps_over(&laid, vols);
+    match start_room(alloc, blocks, maps) {
+        Ok(room) => start_with(laid, units, room),
+        Err(_) => (laid, Err(Stop::OutOfMemory)),
+    }
+}
+
+// The same of the disks of a site. Where it is refused, the disks crash, and the write is cut still.
+fn start_over<R: Rack>(
+    alloc: Global,
+    laid: Laid<R>,
+    cut: Option<CutWrite>,
+    units: &Units,
+) -> (DiskSet<R>, Result<(), Stop>)
+    requires there { UnitsPlaced units.now (laid_volumes laid) }
+    requires large { LEAST_BLOCKS ≤ (laid_volumes laid).size units.now.srl }
+    ensures starts { StartsOver units.now laid cut result.0 result.1 }
+{
+    let (laid, started) = start_in(alloc, laid, units);
+    match started {
+        Ok(core) => (
+            DiskSet::Over(OverSet::of(GroupSite::Up(laid), Above::Origin(core), None)),
+            Ok(()),
+        ),
+        Err(stop) => {
+            let site = GroupSite::Down(fell_back(laid));
+            (
+                DiskSet::Over(OverSet::of(site, Above::Nothing, cut)),
+                Err(stop),
+            )
+        }
+    }
+}
+
+// Whether it says that the fuse ran out.
+fn is_off_stop(stop: &Stop) -> bool
+    ensures { result ≡ stops_down stop.now }
+{
+    match stop {
+        Stop::No(no) => is_off(no),
+        Stop::OutOfMemory => false,
+    }
+}
+
+// The disks of a site that had no replicated volume group, behind an import that is refused.
+fn plain_back<R: Rack>(
     laid: Laid<R>,
     cut: Option<CutWrite>,
     away: bool,
     stop: Stop,
 ) -> (DiskSet<R>, Result<(), Stop>)
-    ensures fell { BackOver laid cut result.0 }
-    ensures is { result.1 ≡ Err stop }
+    ensures { PlainBack away laid cut stop result.0 result.1 }
 {
-    let site = fell_back(laid, away);
-    (
-        DiskSet::Over(OverSet::of(site, Above::Nothing, cut)),
-        Err(stop),
-    )
+    let off = is_off_stop(&stop);
+    let site = dark_back(laid, away && !off);
+    (DiskSet::OfGroup(GroupSet { site, cut }), Err(stop))
 }
 
-// Starts the replicated volume group of a group that came up, with memory taken before. Where it is refused, the disks crash; those of a site that
-// was deported are by themselves again, unless its fuse ran out.
-fn start_with<R: Rack>(
-    laid: Laid<R>,
-    cut: Option<CutWrite>,
-    units: &Units,
-    away: bool,
-    rooms: (StartRoom, Waiting),
-) -> (DiskSet<R>, Result<(), Stop>)
-    requires there { UnitsPlaced units.now (laid_volumes laid) }
-    requires large { LEAST_BLOCKS ≤ (laid_volumes laid).size units.now.srl }
-    requires room { rooms.0.ring ≡ ring_of ((laid_volumes laid).size units.now.srl) }
-    requires maps { LINK_PLACES * maps_of units.now.vols (laid_volumes laid) ≤ rooms.0.maps }
-    requires none { rooms.1 ≡ [] }
-    ensures starts { StartsOver units.now laid cut result.0 result.1 }
-{
-    let (room, waiting) = rooms;
-    let (laid, started) = work_over(laid, Starts { room, units });
-    match started {
-        Ok(core) => (
-            DiskSet::Over(OverSet::of(GroupSite::Up(laid), by_role(core, waiting), None)),
-            Ok(()),
-        ),
-        Err(no) => {
-            let off = is_off(&no);
-            back_over(laid, cut, away && !off, Stop::No(no))
-        }
-    }
-}
-
-fn start_over<R: Rack>(
+// The replicated volume group that was found over a group of a site that had none. It is taken up only of disks that tell nothing; else the import is
+// refused, as one for which no serial is left.
+fn start_found<R: Rack>(
     alloc: Global,
     laid: Laid<R>,
     cut: Option<CutWrite>,
@@ -124,14 +176,22 @@ fn start_over<R: Rack>(
 ) -> (DiskSet<R>, Result<(), Stop>)
     requires there { UnitsPlaced units.now (laid_volumes laid) }
     requires large { LEAST_BLOCKS ≤ (laid_volumes laid).size units.now.srl }
-    ensures starts { StartsOver units.now laid cut result.0 result.1 }
+    ensures starts { PlainStarts away units.now laid cut result.0 result.1 }
 {
-    let blocks = laid.size(units.srl);
-    let vols = units.vols.as_slice();
-    let maps = maps_over(&laid, vols);
-    match start_room(alloc, blocks, maps) {
-        Ok(rooms) => start_with(laid, cut, units, away, rooms),
-        Err(_) => back_over(laid, cut, away, Stop::OutOfMemory),
+    if !is_dark(&laid.shelf) {
+        let stop = Stop::No(No::Limit {
+            what: Counted::Number,
+            most: MOST_NUMBER,
+        });
+        return plain_back(laid, cut, away, stop);
+    }
+    let (laid, started) = start_in(alloc, laid, units);
+    match started {
+        Ok(core) => (
+            DiskSet::Over(OverSet::of(GroupSite::Up(laid), Above::Origin(core), None)),
+            Ok(()),
+        ),
+        Err(stop) => plain_back(laid, cut, away, stop),
     }
 }
 
@@ -150,12 +210,32 @@ fn with_units<R: Rack>(
     alloc: Global,
     laid: Laid<R>,
     cut: Option<CutWrite>,
-    away: bool,
 ) -> (DiskSet<R>, Result<(), Stop>)
     ensures over { WithUnits laid.core.inner.config.rvg laid cut result.0 result.1 }
 {
     match units_in(laid.config()) {
-        Some(units) => start_over(alloc, laid, cut, &units, away),
+        Some(units) => start_over(alloc, laid, cut, &units),
+        None => (
+            DiskSet::OfGroup(GroupSet {
+                site: GroupSite::Up(laid),
+                cut: None,
+            }),
+            Ok(()),
+        ),
+    }
+}
+
+// The same of a site that had none.
+fn plain_units<R: Rack>(
+    alloc: Global,
+    laid: Laid<R>,
+    cut: Option<CutWrite>,
+    away: bool,
+) -> (DiskSet<R>, Result<(), Stop>)
+    ensures over { PlainUnits away laid.core.inner.config.rvg laid cut result.0 result.1 }
+{
+    match units_in(laid.config()) {
+        Some(units) => start_found(alloc, laid, cut, &units, away),
         None => (
             DiskSet::OfGroup(GroupSet {
                 site: GroupSite::Up(laid),
@@ -171,12 +251,29 @@ pub(crate) fn with_rvg<R: Rack>(
     alloc: Global,
     site: GroupSite<R>,
     cut: Option<CutWrite>,
-    away: bool,
 ) -> (DiskSet<R>, Result<(), Stop>)
     ensures over { WithRvg site cut result.0 result.1 }
 {
     match site {
-        GroupSite::Up(laid) => with_units(alloc, laid, cut, away),
+        GroupSite::Up(laid) => with_units(alloc, laid, cut),
+        site => (
+            DiskSet::OfGroup(GroupSet { site, cut }),
+            Err(Stop::No(No::Role)),
+        ),
+    }
+}
+
+/// The same of a site that had none.
+pub(crate) fn with_plain<R: Rack>(
+    alloc: Global,
+    site: GroupSite<R>,
+    cut: Option<CutWrite>,
+    away: bool,
+) -> (DiskSet<R>, Result<(), Stop>)
+    ensures over { WithPlain away site cut result.0 result.1 }
+{
+    match site {
+        GroupSite::Up(laid) => plain_units(alloc, laid, cut, away),
         site => (
             DiskSet::OfGroup(GroupSet { site, cut }),
             Err(Stop::No(No::Role)),

@@ -7,23 +7,23 @@ use Rattle.vx_diskset.proofs.over_group.stays.Goals as goal
 
 pub returns-then-is_down-clause-since : goal.returns-then-is_down-clause-since
 returns-then-is_down-clause-since g c =
-    since_stop (laid_disks c.args.laid) (laid_disks c.args.laid) (idle_disks c.crash.result) (Crashed (laid_disks c.args.laid).size 0xffff_ffff_ffff_ffff) (since_none (laid_disks c.args.laid)) (sym c.is_down.ensures ∙ c.if-is_down.true) c.crash.ensures.stopped c.crash.ensures.disks
+    since_stop (laid_disks c.args.laid) (laid_disks c.args.laid) (idle_disks c.fell_idle-idle.result) (Crashed (laid_disks c.args.laid).size 0xffff_ffff_ffff_ffff) (since_none (laid_disks c.args.laid)) (sym c.is_down.ensures ∙ c.if-is_down.true) c.fell_idle-idle.ensures.stopped c.fell_idle-idle.ensures.disks
 
 pub returns-then-is_down-clause-told : goal.returns-then-is_down-clause-told
-returns-then-is_down-clause-told g c = c.crash.ensures.told
+returns-then-is_down-clause-told g c = c.fell_idle-idle.ensures.told
 
 pub returns-then-is_down-clause-calm : goal.returns-then-is_down-clause-calm
-returns-then-is_down-clause-calm g c = c.crash.ensures.stopped.unarmed
+returns-then-is_down-clause-calm g c = c.fell_idle-idle.ensures.stopped.unarmed
 
 pub returns-then-is_down-clause-stays : goal.returns-then-is_down-clause-stays
 returns-then-is_down-clause-stays g c = (
   record {
     down = sym c.is_down.ensures ∙ c.if-is_down.true;
-    stopped = c.crash.ensures.stopped;
-    away = c.crash.ensures.away;
-    agreed = c.crash.ensures.agreed;
-    told = c.crash.ensures.told;
-    rests = c.crash.ensures.rests;
+    stopped = c.fell_idle-idle.ensures.stopped;
+    away = c.fell_idle-idle.ensures.away;
+    agreed = c.fell_idle-idle.ensures.agreed;
+    told = c.fell_idle-idle.ensures.told;
+    rests = c.fell_idle-idle.ensures.rests;
   },
   refl,
 )

@@ -139,7 +139,7 @@ pub returns-in-OfGroup-clause-fallen : goal.returns-in-OfGroup-clause-fallen
 returns-in-OfGroup-clause-fallen g c = falls_as c.args.self _ (subst (λ e. IsRawSet e) (sym c.in-OfGroup.is) tt) tt
 
 pub returns-in-Over-clause-fallen : goal.returns-in-Over-clause-fallen
-returns-in-Over-clause-fallen g c = fell_notes c.args.pick c.args.self c.in-Over.over c.crash-in-Over.result c.in-Over.is c.crash-in-Over.ensures.stopped c.crash-in-Over.ensures.fallen c.crash-in-Over.ensures.noted c.crash-in-Over.ensures.cut
+returns-in-Over-clause-fallen g c = fell_notes c.args.pick c.args.self c.in-Over.over c.crash-in-Over.result c.in-Over.is c.crash-in-Over.ensures.stopped c.crash-in-Over.ensures.fallen c.crash-in-Over.ensures.noted c.crash-in-Over.ensures.named c.crash-in-Over.ensures.cut
 
 pub returns-in_default-clause-fallen : goal.returns-in_default-clause-fallen
 returns-in_default-clause-fallen g c = falls_rest c.args.self c.in_default.not-Over

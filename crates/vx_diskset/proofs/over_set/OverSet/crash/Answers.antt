@@ -4,7 +4,7 @@ use Rattle.vx_diskset.specs.Aboves.{below_site}
 use Rattle.vx_diskset.specs.Stands.{CutOver}
 use Rattle.vx_grouped.specs.declared.group_site.GroupSite.TheVariants.{Deported, Down, Gone}
 use Rattle.vx_diskset.proofs.OverDisks.{away_up, fell_up, gone_up}
-use Rattle.vx_diskset.proofs.OverFalls.{crash_asked, crash_fallen, crash_noted, crash_stopped, crash_told, fell_of, still_fallen, still_noted, still_stopped, still_told}
+use Rattle.vx_diskset.proofs.OverFalls.{crash_asked, crash_fallen, crash_named, crash_noted, crash_stopped, crash_told, fell_of, still_fallen, still_named, still_noted, still_stopped, still_told}
 use Rattle.vx_disk.specs.Racks.{Stopped}
 use Rattle.vx_grouped.specs.GroupSites.{idle_disks, laid_disks}
 use Rattle.vx_diskset.proofs.OverDowns.{origin_crashed, origin_held, receiver_crashed, receiver_cut}
@@ -15,34 +15,34 @@ use Rattle.std.specs.Prelude.{Some}
 use Rattle.vx_diskset.proofs.over_set.OverSet.crash.Goals as goal
 
 pub returns-in-Origin-clause-noted : goal.returns-in-Origin-clause-noted
-returns-in-Origin-clause-noted g c = crash_noted c.args.pick c.in-Origin.founded.laid c.crash-idle.result (fell_of c.args.pick c.in-Origin.founded.laid c.apart-laid.result.0 c.crash-idle.result c.apart-laid.ensures.laid (record { away = c.crash-idle.ensures.away; stopped = c.crash-idle.ensures.stopped; agreed = c.crash-idle.ensures.agreed; lacking = c.crash-idle.ensures.lacking; disks = c.crash-idle.ensures.disks; told = c.crash-idle.ensures.told })) (below_site c.args.self.site) (ap (λ s. below_site s) c.in-Origin.is)
+returns-in-Origin-clause-noted g c = crash_noted c.args.pick c.in-Origin.founded.laid c.fell_idle-idle.result (fell_of c.args.pick c.in-Origin.founded.laid c.apart-laid.result.0 c.fell_idle-idle.result c.apart-laid.ensures.laid c.fell_idle-idle.ensures) (below_site c.args.self.site) (ap (λ s. below_site s) c.in-Origin.is)
 
 pub returns-in-Origin-clause-fallen : goal.returns-in-Origin-clause-fallen
-returns-in-Origin-clause-fallen g c = crash_fallen c.args.pick c.in-Origin.founded.laid c.crash-idle.result (fell_of c.args.pick c.in-Origin.founded.laid c.apart-laid.result.0 c.crash-idle.result c.apart-laid.ensures.laid (record { away = c.crash-idle.ensures.away; stopped = c.crash-idle.ensures.stopped; agreed = c.crash-idle.ensures.agreed; lacking = c.crash-idle.ensures.lacking; disks = c.crash-idle.ensures.disks; told = c.crash-idle.ensures.told })) (below_site c.args.self.site) (ap (λ s. below_site s) c.in-Origin.is)
+returns-in-Origin-clause-fallen g c = crash_fallen c.args.pick c.in-Origin.founded.laid c.fell_idle-idle.result (fell_of c.args.pick c.in-Origin.founded.laid c.apart-laid.result.0 c.fell_idle-idle.result c.apart-laid.ensures.laid c.fell_idle-idle.ensures) (below_site c.args.self.site) (ap (λ s. below_site s) c.in-Origin.is)
 
 pub returns-in-Origin-clause-stopped : goal.returns-in-Origin-clause-stopped
-returns-in-Origin-clause-stopped g c = crash_stopped c.args.pick c.in-Origin.founded.laid c.crash-idle.result (fell_of c.args.pick c.in-Origin.founded.laid c.apart-laid.result.0 c.crash-idle.result c.apart-laid.ensures.laid (record { away = c.crash-idle.ensures.away; stopped = c.crash-idle.ensures.stopped; agreed = c.crash-idle.ensures.agreed; lacking = c.crash-idle.ensures.lacking; disks = c.crash-idle.ensures.disks; told = c.crash-idle.ensures.told })) (below_site c.args.self.site) (ap (λ s. below_site s) c.in-Origin.is)
+returns-in-Origin-clause-stopped g c = crash_stopped c.args.pick c.in-Origin.founded.laid c.fell_idle-idle.result (fell_of c.args.pick c.in-Origin.founded.laid c.apart-laid.result.0 c.fell_idle-idle.result c.apart-laid.ensures.laid c.fell_idle-idle.ensures) (below_site c.args.self.site) (ap (λ s. below_site s) c.in-Origin.is)
 
 pub returns-in-Origin-clause-told : goal.returns-in-Origin-clause-told
-returns-in-Origin-clause-told g c = crash_told c.args.pick c.in-Origin.founded.laid c.crash-idle.result (fell_of c.args.pick c.in-Origin.founded.laid c.apart-laid.result.0 c.crash-idle.result c.apart-laid.ensures.laid (record { away = c.crash-idle.ensures.away; stopped = c.crash-idle.ensures.stopped; agreed = c.crash-idle.ensures.agreed; lacking = c.crash-idle.ensures.lacking; disks = c.crash-idle.ensures.disks; told = c.crash-idle.ensures.told })) (below_site c.args.self.site) (ap (λ s. below_site s) c.in-Origin.is)
+returns-in-Origin-clause-told g c = crash_told c.args.pick c.in-Origin.founded.laid c.fell_idle-idle.result (fell_of c.args.pick c.in-Origin.founded.laid c.apart-laid.result.0 c.fell_idle-idle.result c.apart-laid.ensures.laid c.fell_idle-idle.ensures) (below_site c.args.self.site) (ap (λ s. below_site s) c.in-Origin.is)
 
 pub returns-in-Origin-clause-asked : goal.returns-in-Origin-clause-asked
-returns-in-Origin-clause-asked g c = λ beside n stands up. crash_asked c.args.pick c.in-Origin.founded.laid c.crash-idle.result (fell_of c.args.pick c.in-Origin.founded.laid c.apart-laid.result.0 c.crash-idle.result c.apart-laid.ensures.laid (record { away = c.crash-idle.ensures.away; stopped = c.crash-idle.ensures.stopped; agreed = c.crash-idle.ensures.agreed; lacking = c.crash-idle.ensures.lacking; disks = c.crash-idle.ensures.disks; told = c.crash-idle.ensures.told })) (below_site c.args.self.site) (ap (λ s. below_site s) c.in-Origin.is)
+returns-in-Origin-clause-asked g c = λ beside n stands up. crash_asked c.args.pick c.in-Origin.founded.laid c.fell_idle-idle.result (fell_of c.args.pick c.in-Origin.founded.laid c.apart-laid.result.0 c.fell_idle-idle.result c.apart-laid.ensures.laid c.fell_idle-idle.ensures) (below_site c.args.self.site) (ap (λ s. below_site s) c.in-Origin.is)
 
 pub returns-in-Receiver-clause-noted : goal.returns-in-Receiver-clause-noted
-returns-in-Receiver-clause-noted g c = crash_noted c.args.pick c.in-Receiver.founded.laid c.crash-idle-in-Receiver.result (fell_of c.args.pick c.in-Receiver.founded.laid c.apart-laid-in-Receiver.result.0 c.crash-idle-in-Receiver.result c.apart-laid-in-Receiver.ensures.laid (record { away = c.crash-idle-in-Receiver.ensures.away; stopped = c.crash-idle-in-Receiver.ensures.stopped; agreed = c.crash-idle-in-Receiver.ensures.agreed; lacking = c.crash-idle-in-Receiver.ensures.lacking; disks = c.crash-idle-in-Receiver.ensures.disks; told = c.crash-idle-in-Receiver.ensures.told })) (below_site c.args.self.site) (ap (λ s. below_site s) c.in-Receiver.is)
+returns-in-Receiver-clause-noted g c = crash_noted c.args.pick c.in-Receiver.founded.laid c.fell_idle-idle-in-Receiver.result (fell_of c.args.pick c.in-Receiver.founded.laid c.apart-laid-in-Receiver.result.0 c.fell_idle-idle-in-Receiver.result c.apart-laid-in-Receiver.ensures.laid c.fell_idle-idle-in-Receiver.ensures) (below_site c.args.self.site) (ap (λ s. below_site s) c.in-Receiver.is)
 
 pub returns-in-Receiver-clause-fallen : goal.returns-in-Receiver-clause-fallen
-returns-in-Receiver-clause-fallen g c = crash_fallen c.args.pick c.in-Receiver.founded.laid c.crash-idle-in-Receiver.result (fell_of c.args.pick c.in-Receiver.founded.laid c.apart-laid-in-Receiver.result.0 c.crash-idle-in-Receiver.result c.apart-laid-in-Receiver.ensures.laid (record { away = c.crash-idle-in-Receiver.ensures.away; stopped = c.crash-idle-in-Receiver.ensures.stopped; agreed = c.crash-idle-in-Receiver.ensures.agreed; lacking = c.crash-idle-in-Receiver.ensures.lacking; disks = c.crash-idle-in-Receiver.ensures.disks; told = c.crash-idle-in-Receiver.ensures.told })) (below_site c.args.self.site) (ap (λ s. below_site s) c.in-Receiver.is)
+returns-in-Receiver-clause-fallen g c = crash_fallen c.args.pick c.in-Receiver.founded.laid c.fell_idle-idle-in-Receiver.result (fell_of c.args.pick c.in-Receiver.founded.laid c.apart-laid-in-Receiver.result.0 c.fell_idle-idle-in-Receiver.result c.apart-laid-in-Receiver.ensures.laid c.fell_idle-idle-in-Receiver.ensures) (below_site c.args.self.site) (ap (λ s. below_site s) c.in-Receiver.is)
 
 pub returns-in-Receiver-clause-stopped : goal.returns-in-Receiver-clause-stopped
-returns-in-Receiver-clause-stopped g c = crash_stopped c.args.pick c.in-Receiver.founded.laid c.crash-idle-in-Receiver.result (fell_of c.args.pick c.in-Receiver.founded.laid c.apart-laid-in-Receiver.result.0 c.crash-idle-in-Receiver.result c.apart-laid-in-Receiver.ensures.laid (record { away = c.crash-idle-in-Receiver.ensures.away; stopped = c.crash-idle-in-Receiver.ensures.stopped; agreed = c.crash-idle-in-Receiver.ensures.agreed; lacking = c.crash-idle-in-Receiver.ensures.lacking; disks = c.crash-idle-in-Receiver.ensures.disks; told = c.crash-idle-in-Receiver.ensures.told })) (below_site c.args.self.site) (ap (λ s. below_site s) c.in-Receiver.is)
+returns-in-Receiver-clause-stopped g c = crash_stopped c.args.pick c.in-Receiver.founded.laid c.fell_idle-idle-in-Receiver.result (fell_of c.args.pick c.in-Receiver.founded.laid c.apart-laid-in-Receiver.result.0 c.fell_idle-idle-in-Receiver.result c.apart-laid-in-Receiver.ensures.laid c.fell_idle-idle-in-Receiver.ensures) (below_site c.args.self.site) (ap (λ s. below_site s) c.in-Receiver.is)
 
 pub returns-in-Receiver-clause-told : goal.returns-in-Receiver-clause-told
-returns-in-Receiver-clause-told g c = crash_told c.args.pick c.in-Receiver.founded.laid c.crash-idle-in-Receiver.result (fell_of c.args.pick c.in-Receiver.founded.laid c.apart-laid-in-Receiver.result.0 c.crash-idle-in-Receiver.result c.apart-laid-in-Receiver.ensures.laid (record { away = c.crash-idle-in-Receiver.ensures.away; stopped = c.crash-idle-in-Receiver.ensures.stopped; agreed = c.crash-idle-in-Receiver.ensures.agreed; lacking = c.crash-idle-in-Receiver.ensures.lacking; disks = c.crash-idle-in-Receiver.ensures.disks; told = c.crash-idle-in-Receiver.ensures.told })) (below_site c.args.self.site) (ap (λ s. below_site s) c.in-Receiver.is)
+returns-in-Receiver-clause-told g c = crash_told c.args.pick c.in-Receiver.founded.laid c.fell_idle-idle-in-Receiver.result (fell_of c.args.pick c.in-Receiver.founded.laid c.apart-laid-in-Receiver.result.0 c.fell_idle-idle-in-Receiver.result c.apart-laid-in-Receiver.ensures.laid c.fell_idle-idle-in-Receiver.ensures) (below_site c.args.self.site) (ap (λ s. below_site s) c.in-Receiver.is)
 
 pub returns-in-Receiver-clause-asked : goal.returns-in-Receiver-clause-asked
-returns-in-Receiver-clause-asked g c = λ beside n stands up. crash_asked c.args.pick c.in-Receiver.founded.laid c.crash-idle-in-Receiver.result (fell_of c.args.pick c.in-Receiver.founded.laid c.apart-laid-in-Receiver.result.0 c.crash-idle-in-Receiver.result c.apart-laid-in-Receiver.ensures.laid (record { away = c.crash-idle-in-Receiver.ensures.away; stopped = c.crash-idle-in-Receiver.ensures.stopped; agreed = c.crash-idle-in-Receiver.ensures.agreed; lacking = c.crash-idle-in-Receiver.ensures.lacking; disks = c.crash-idle-in-Receiver.ensures.disks; told = c.crash-idle-in-Receiver.ensures.told })) (below_site c.args.self.site) (ap (λ s. below_site s) c.in-Receiver.is)
+returns-in-Receiver-clause-asked g c = λ beside n stands up. crash_asked c.args.pick c.in-Receiver.founded.laid c.fell_idle-idle-in-Receiver.result (fell_of c.args.pick c.in-Receiver.founded.laid c.apart-laid-in-Receiver.result.0 c.fell_idle-idle-in-Receiver.result c.apart-laid-in-Receiver.ensures.laid c.fell_idle-idle-in-Receiver.ensures) (below_site c.args.self.site) (ap (λ s. below_site s) c.in-Receiver.is)
 
 pub returns-in-Deported-clause-noted : goal.returns-in-Deported-clause-noted
 returns-in-Deported-clause-noted g c = still_noted (below_site c.args.self.site) (Deported c.in-Deported.idle) (ap (λ s. below_site s) c.in-Deported.is) (λ n note up. up)
@@ -111,30 +111,45 @@ pub returns-in-Origin-clause-crashed : goal.returns-in-Origin-clause-crashed
 returns-in-Origin-clause-crashed g c = λ beside n stands up.
     let lawful = (g.met.R.Shelf g.world.𝓛 g.world.𝓜 g.world.𝓡 ((λ s x. x), (λ x. x), (λ x. x), λ x. x)).lawful in
     let is_rack = (g.met.R.Rack g.world.𝓛 g.world.𝓜 g.world.𝓡 ((λ s x. x), (λ x. x), (λ x. x), λ x. x)).rack in
-    origin_crashed n c.args.self c.crash-idle.result (shade_lawful g.R.Shelf.meaning lawful c.crash-idle.result.rack) (shade_rack g.R.Shelf.meaning is_rack c.crash-idle.result.rack) c.in-Origin.founded c.in-Origin.is
-    (subst (λ l. Stopped (laid_disks l) (idle_disks c.crash-idle.result)) c.apart-laid.ensures.laid c.crash-idle.ensures.stopped)
-    (subst (λ l. (r : Rested) → c.crash-idle.result.rested ≡ Some r → LacksCommit l.core.inner → ⊥) c.apart-laid.ensures.laid c.crash-idle.ensures.lacking) stands
+    origin_crashed n c.args.self c.fell_idle-idle.result (shade_lawful g.R.Shelf.meaning lawful c.fell_idle-idle.result.rack) (shade_rack g.R.Shelf.meaning is_rack c.fell_idle-idle.result.rack) c.in-Origin.founded c.in-Origin.is
+    (subst (λ l. Stopped (laid_disks l) (idle_disks c.fell_idle-idle.result)) c.apart-laid.ensures.laid c.fell_idle-idle.ensures.stopped)
+    (subst (λ l. (r : Rested) → c.fell_idle-idle.result.rested ≡ Some r → LacksCommit l.core.inner → ⊥) c.apart-laid.ensures.laid c.fell_idle-idle.ensures.lacking) stands
 
 pub returns-in-Origin-clause-held : goal.returns-in-Origin-clause-held
 returns-in-Origin-clause-held g c = λ beside n cut.
     let lawful = (g.met.R.Shelf g.world.𝓛 g.world.𝓜 g.world.𝓡 ((λ s x. x), (λ x. x), (λ x. x), λ x. x)).lawful in
     let is_rack = (g.met.R.Rack g.world.𝓛 g.world.𝓜 g.world.𝓡 ((λ s x. x), (λ x. x), (λ x. x), λ x. x)).rack in
-    origin_held n c.args.self c.crash-idle.result (shade_lawful g.R.Shelf.meaning lawful c.crash-idle.result.rack) (shade_rack g.R.Shelf.meaning is_rack c.crash-idle.result.rack) c.in-Origin.founded c.in-Origin.is
-    (subst (λ l. Stopped (laid_disks l) (idle_disks c.crash-idle.result)) c.apart-laid.ensures.laid c.crash-idle.ensures.stopped)
-    (subst (λ l. (r : Rested) → c.crash-idle.result.rested ≡ Some r → LacksCommit l.core.inner → ⊥) c.apart-laid.ensures.laid c.crash-idle.ensures.lacking) cut
+    origin_held n c.args.self c.fell_idle-idle.result (shade_lawful g.R.Shelf.meaning lawful c.fell_idle-idle.result.rack) (shade_rack g.R.Shelf.meaning is_rack c.fell_idle-idle.result.rack) c.in-Origin.founded c.in-Origin.is
+    (subst (λ l. Stopped (laid_disks l) (idle_disks c.fell_idle-idle.result)) c.apart-laid.ensures.laid c.fell_idle-idle.ensures.stopped)
+    (subst (λ l. (r : Rested) → c.fell_idle-idle.result.rested ≡ Some r → LacksCommit l.core.inner → ⊥) c.apart-laid.ensures.laid c.fell_idle-idle.ensures.lacking) cut
 
 pub returns-in-Receiver-clause-crashed : goal.returns-in-Receiver-clause-crashed
 returns-in-Receiver-clause-crashed g c = λ beside n stands up.
     let lawful = (g.met.R.Shelf g.world.𝓛 g.world.𝓜 g.world.𝓡 ((λ s x. x), (λ x. x), (λ x. x), λ x. x)).lawful in
     let is_rack = (g.met.R.Rack g.world.𝓛 g.world.𝓜 g.world.𝓡 ((λ s x. x), (λ x. x), (λ x. x), λ x. x)).rack in
-    receiver_crashed n c.args.self c.crash-idle-in-Receiver.result (shade_lawful g.R.Shelf.meaning lawful c.crash-idle-in-Receiver.result.rack) (shade_rack g.R.Shelf.meaning is_rack c.crash-idle-in-Receiver.result.rack) c.in-Receiver.founded c.in-Receiver.is
-    (subst (λ l. Stopped (laid_disks l) (idle_disks c.crash-idle-in-Receiver.result)) c.apart-laid-in-Receiver.ensures.laid c.crash-idle-in-Receiver.ensures.stopped)
-    (subst (λ l. (r : Rested) → c.crash-idle-in-Receiver.result.rested ≡ Some r → LacksCommit l.core.inner → ⊥) c.apart-laid-in-Receiver.ensures.laid c.crash-idle-in-Receiver.ensures.lacking) stands
+    receiver_crashed n c.args.self c.fell_idle-idle-in-Receiver.result (shade_lawful g.R.Shelf.meaning lawful c.fell_idle-idle-in-Receiver.result.rack) (shade_rack g.R.Shelf.meaning is_rack c.fell_idle-idle-in-Receiver.result.rack) c.in-Receiver.founded c.in-Receiver.is
+    (subst (λ l. Stopped (laid_disks l) (idle_disks c.fell_idle-idle-in-Receiver.result)) c.apart-laid-in-Receiver.ensures.laid c.fell_idle-idle-in-Receiver.ensures.stopped)
+    (subst (λ l. (r : Rested) → c.fell_idle-idle-in-Receiver.result.rested ≡ Some r → LacksCommit l.core.inner → ⊥) c.apart-laid-in-Receiver.ensures.laid c.fell_idle-idle-in-Receiver.ensures.lacking) stands
 
 pub returns-in-Receiver-clause-held : goal.returns-in-Receiver-clause-held
 returns-in-Receiver-clause-held g c = λ beside n cut.
     let lawful = (g.met.R.Shelf g.world.𝓛 g.world.𝓜 g.world.𝓡 ((λ s x. x), (λ x. x), (λ x. x), λ x. x)).lawful in
     let is_rack = (g.met.R.Rack g.world.𝓛 g.world.𝓜 g.world.𝓡 ((λ s x. x), (λ x. x), (λ x. x), λ x. x)).rack in
-    receiver_cut n c.args.self c.crash-idle-in-Receiver.result (shade_lawful g.R.Shelf.meaning lawful c.crash-idle-in-Receiver.result.rack) (shade_rack g.R.Shelf.meaning is_rack c.crash-idle-in-Receiver.result.rack) c.in-Receiver.founded c.in-Receiver.is
-    (subst (λ l. Stopped (laid_disks l) (idle_disks c.crash-idle-in-Receiver.result)) c.apart-laid-in-Receiver.ensures.laid c.crash-idle-in-Receiver.ensures.stopped)
-    (subst (λ l. (r : Rested) → c.crash-idle-in-Receiver.result.rested ≡ Some r → LacksCommit l.core.inner → ⊥) c.apart-laid-in-Receiver.ensures.laid c.crash-idle-in-Receiver.ensures.lacking) cut
+    receiver_cut n c.args.self c.fell_idle-idle-in-Receiver.result (shade_lawful g.R.Shelf.meaning lawful c.fell_idle-idle-in-Receiver.result.rack) (shade_rack g.R.Shelf.meaning is_rack c.fell_idle-idle-in-Receiver.result.rack) c.in-Receiver.founded c.in-Receiver.is
+    (subst (λ l. Stopped (laid_disks l) (idle_disks c.fell_idle-idle-in-Receiver.result)) c.apart-laid-in-Receiver.ensures.laid c.fell_idle-idle-in-Receiver.ensures.stopped)
+    (subst (λ l. (r : Rested) → c.fell_idle-idle-in-Receiver.result.rested ≡ Some r → LacksCommit l.core.inner → ⊥) c.apart-laid-in-Receiver.ensures.laid c.fell_idle-idle-in-Receiver.ensures.lacking) cut
+
+pub returns-in-Origin-clause-named : goal.returns-in-Origin-clause-named
+returns-in-Origin-clause-named g c = crash_named c.args.pick c.in-Origin.founded.laid c.fell_idle-idle.result (fell_of c.args.pick c.in-Origin.founded.laid c.apart-laid.result.0 c.fell_idle-idle.result c.apart-laid.ensures.laid c.fell_idle-idle.ensures) (below_site c.args.self.site) (ap (λ s. below_site s) c.in-Origin.is)
+
+pub returns-in-Receiver-clause-named : goal.returns-in-Receiver-clause-named
+returns-in-Receiver-clause-named g c = crash_named c.args.pick c.in-Receiver.founded.laid c.fell_idle-idle-in-Receiver.result (fell_of c.args.pick c.in-Receiver.founded.laid c.apart-laid-in-Receiver.result.0 c.fell_idle-idle-in-Receiver.result c.apart-laid-in-Receiver.ensures.laid c.fell_idle-idle-in-Receiver.ensures) (below_site c.args.self.site) (ap (λ s. below_site s) c.in-Receiver.is)
+
+pub returns-in-Deported-clause-named : goal.returns-in-Deported-clause-named
+returns-in-Deported-clause-named g c = still_named (below_site c.args.self.site) (Deported c.in-Deported.idle) (ap (λ s. below_site s) c.in-Deported.is) (λ n note up. up) (λ n note cut. cut)
+
+pub returns-in-Down-clause-named : goal.returns-in-Down-clause-named
+returns-in-Down-clause-named g c = still_named (below_site c.args.self.site) (Down c.in-Down.idle) (ap (λ s. below_site s) c.in-Down.is) (λ n note up. up) (λ n note cut. cut)
+
+pub returns-in-Gone-clause-named : goal.returns-in-Gone-clause-named
+returns-in-Gone-clause-named g c = still_named (below_site c.args.self.site) Gone (ap (λ s. below_site s) c.in-Gone.is) (λ n note up. up) (λ n note cut. cut)
