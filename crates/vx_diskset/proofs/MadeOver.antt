@@ -9,6 +9,7 @@ use Rattle.vx_disk.specs.Racks.{IsRack}
 use Rattle.vx_disk.specs.Shelf.{Lawful, Meaning}
 use Rattle.vx_disk.specs.declared.shelf.Shelf.{Ghosts}
 use Rattle.vx_events.specs.GroupViews.{config_of}
+use Rattle.vx_events.specs.RvgFits.{config_rvg, rvg_noted}
 use Rattle.vx_events.specs.RvgNotes.{as_replicated, inside_of, note_gained}
 use Rattle.vx_group.specs.Holding.{wide}
 use Rattle.vx_group.specs.Laws.{group_lawful}
@@ -53,13 +54,13 @@ use Rattle.vx_diskset.specs.Holds.{KeptBeside}
 use Rattle.vx_diskset.specs.Layouts.{config_units, units_or}
 use Rattle.vx_diskset.specs.MakeSteps.{MadeOn}
 use Rattle.vx_diskset.specs.Makings.{IsFirstSite, MakesRvgIs, rvg_made}
-use Rattle.vx_diskset.specs.Noted.{AgreesStill, NotedOn, below_rvg}
+use Rattle.vx_diskset.specs.Noted.{AgreesStill, NotedOn, RestsNamed, TidyNote, below_rvg}
 use Rattle.vx_diskset.specs.Stands.{IsOverSite, IsUpAt}
 use Rattle.vx_diskset.specs.declared.above.Above.{Above}
 use Rattle.vx_diskset.specs.declared.above.Above.TheVariants.{Origin}
 use Rattle.vx_diskset.specs.declared.disk_set.DiskSet.TheVariants.{Over}
 use Rattle.vx_diskset.specs.declared.over_set.OverSet.{OverSet}
-use Rattle.vx_diskset.proofs.GroundNotes.{ground_agrees, ground_up, note_ground, note_works}
+use Rattle.vx_diskset.proofs.GroundNotes.{ground_agrees, ground_tidy, ground_up, note_ground, note_works}
 use Rattle.vx_diskset.proofs.MakeEnds.{left_may, or_left, sizes_then}
 use Rattle.vx_diskset.proofs.Narrowing.{is_named, narrowed_left, narrows, note_narrowed, one_value}
 use Rattle.vx_diskset.proofs.OverCame.{log_inside, or_right, vol_inside}
@@ -165,6 +166,9 @@ module _ {R : Type 0} {g : Ghosts R} (rackful : (s : R) → IsRack (g.meaning s)
   on : config_units (config_of gained.config) ≡ u
   on = ap (λ (o : Option Config). config_units o) (note_read gained k.core.inner.config (record { is = refl; spells = spells })) ∙ ap (λ (r : Option Units). units_or r) made.went.ground.parts.rvg
 
+  named_rvg : rvg_noted gained ≡ Some u
+  named_rvg = ap (λ (o : Option Config). config_rvg o) (note_read gained k.core.inner.config (record { is = refl; spells = spells })) ∙ made.went.ground.parts.rvg
+
   -- ---- the volumes
 
   off_log : (v : ℕ) → Contains u.vols v → v ≡ u.srl → ⊥
@@ -255,5 +259,7 @@ module _ {R : Type 0} {g : Ghosts R} (rackful : (s : R) → IsRack (g.meaning s)
       subst (λ (e : GroupSite R g). NotedOn (below_rvg after) gained e) (sym is) group_up,
       cut,
       subst (λ (x : Units). InsideOf x gained) (sym on) inside_so,
+      subst (λ (x : Units). TidyNote x gained) (sym on) (record { tidy = ground_tidy (noted_config k.core.inner.config) k.core middle; named = named_rvg }),
+      subst (λ (e : GroupSite R g). RestsNamed (config_units (config_of gained.config)) e) (sym is) tt,
     ),
   )
