@@ -1,5 +1,5 @@
 -- The sites of a line of links that are over no group of disks with a replicated volume group: their disks are those of raw sets.
-use Rattle.std.proofs.Common.{◌≡◌, ◌∙◌, ◌<◌, ℕ, List, Bool, true, false, refl, ap, subst, sym, arith}
+use Rattle.std.proofs.Common.{◌≡◌, ◌∙◌, ◌<◌, ◌≤◌, ℕ, List, Bool, true, false, refl, ap, subst, sym, arith}
 use Rattle.std.proofs.lemmas.Bool.Decides.{nat_tests}
 use Rattle.std.specs.Prelude.{◌||◌, ◌&&◌, ltb, Option, Some, None, slice_get}
 use Rattle.vx_history.specs.Doubts.{Doubted}
@@ -39,6 +39,13 @@ target_is w o p t is to below =
 
 pub target_off : (w : World) (o : Option Packet) (p : Packet) (t : ℕ) → o ≡ Some p → p.target ≡ t → t < w.sites → rvg_target w o ≡ false → is_over_rvg (w.nodes t) ≡ false
 target_off w o p t is to below off = sym (target_is w o p t is to below) ∙ off
+
+is_past : (a b : ℕ) → b ≤ a → ltb a b ≡ false
+is_past a b past = grind (arith, nat_tests)
+
+pub target_past : (w : World) (o : Option Packet) (p : Packet) → o ≡ Some p → w.sites ≤ p.target → rvg_target w o ≡ false
+target_past w o p is past =
+    ap (λ (x : Option Packet). rvg_target w x) is ∙ ap (λ (b : Bool). b && is_over_rvg (w.nodes p.target)) (is_past p.target w.sites past)
 
 module _ {R : Type 0} {g : Ghosts R} where
   pub raw_there : (d : Doubted) (y : Yard R g) (s : ℕ) (e : DiskSet R g) → StandsFor d y → s < d.world.sites → slice_get y.disk_sets.items s ≡ Some e
