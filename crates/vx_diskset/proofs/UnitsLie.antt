@@ -1,6 +1,6 @@
 -- The volumes of a replicated volume group lie on the group whose configuration has it.
 use Rattle.std.proofs.Common.{◌≡◌, ◌∙◌, ◌<◌, ◌≤◌, ℕ, zero, suc, Bool, true, false, List, [], ◌∷◌, ap, arith, length, refl, subst, sym}
-use Rattle.std.specs.Prelude.{Option, Some, ◌&&◌, ◌*◌, get_or, nat_le, nat_lt, not, sum_by}
+use Rattle.std.specs.Prelude.{Contains, Option, Some, ◌&&◌, ◌*◌, get_or, nat_le, nat_lt, not, slice_get, sum_by}
 use Rattle.std.specs.List.{list_all}
 use Rattle.std.proofs.lemmas.Bool.{and_parts, eq-eqb, leb-true, ltb-true}
 use Rattle.vx_config.specs.Checks.{blocks_of, group_or_none, is_group, is_sound, map_blocks_of, other_than, pairwise}
@@ -13,6 +13,7 @@ use Rattle.vx_group.specs.Holding.{wide}
 use Rattle.vx_grouped.specs.GroupSites.{laid_disks}
 use Rattle.vx_grouped.specs.declared.laid.Laid.{Laid}
 use Rattle.vx_kept.proofs.Narrower.{wanted_sound}
+use Rattle.vx_model.proofs.Lists.{all_at, got}
 use Rattle.vx_model.specs.Sizes.{map_blocks}
 use Rattle.vx_model.specs.declared.limits.TheConstants.{LEAST_BLOCKS, LINK_PLACES, MOST_DATA_VOLUMES}
 use Rattle.vx_model.specs.declared.units.Units.{Units}
@@ -73,6 +74,13 @@ module _ (vs : List VolumeEntry) (u : Units) (is : is_group vs u ≡ true) where
 
   pub units_large : LEAST_BLOCKS ≤ blocks_of vs u.srl
   units_large = leb-true LEAST_BLOCKS (blocks_of vs u.srl) log.1
+
+  -- the volume of the log is no data volume
+  pub log_aside : (v : ℕ) → Contains u.vols v → v ≡ u.srl → ⊥
+  log_aside v has same =
+      let others : list_all (other_than u.srl) (u.maps ∷ u.vols) ≡ true = (and_parts (list_all (other_than u.srl) (u.maps ∷ u.vols)) (pairwise other_than (u.maps ∷ u.vols)) apart.1).0 in
+      let there : slice_get u.vols has.0 ≡ Some v = got u.vols has.0 v has.1 ∙ ap (λ (x : ℕ). Some x) has.2 in
+      never_same u.srl v (all_at (other_than u.srl) (u.maps ∷ u.vols) (suc has.0) v others there) (sym same)
 
   module _ (m : Meaning) (many : m.units ≡ length vs) (sizes : m.size ≡ blocks_of vs) where
     exists : (v : ℕ) → v < length (names_of u) → get_or (names_of u) v 0 < m.units

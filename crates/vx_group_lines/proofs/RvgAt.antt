@@ -1,6 +1,6 @@
 -- The site of a line that makes a replicated volume group, which no test refuses: it is up over a group of disks, and has none.
 use Rattle.std.proofs.Common.{◌≡◌, ◌∙◌, ◌+◌, ◌<◌, ℕ, true, List, length, ap, sym, subst, refl, arith}
-use Rattle.std.specs.Prelude.{Option, Some, None, slice_get, unwrap_or}
+use Rattle.std.specs.Prelude.{Contains, Option, Some, None, slice_get, unwrap_or}
 use Rattle.std.specs.Str.{bytes_eq}
 use Rattle.vx_model.specs.Sites.{is_up}
 use Rattle.vx_model.specs.declared.site.SiteState.{SiteState}
@@ -15,6 +15,7 @@ use Rattle.vx_grouped.specs.GroupNotes.{NotesConfig}
 use Rattle.vx_grouped.specs.GroupSites.{UpNoted, site_config}
 use Rattle.vx_grouped.specs.declared.group_site.GroupSite.{GroupSite}
 use Rattle.vx_grouped.specs.declared.group_site.GroupSite.TheVariants.{Up, Deported as Away, Down as Fell, Marked, Gone}
+use Rattle.vx_diskset.proofs.UnitsLie.{log_aside}
 use Rattle.vx_diskset.specs.GroupCalls.{config_in}
 use Rattle.vx_diskset.specs.Holds.{beside_of}
 use Rattle.vx_diskset.specs.Makings.{IsFirstSite}
@@ -143,3 +144,7 @@ module _ {R : Type 0} {g : Ghosts R} where
 
     pub asks_fits : is_group asks_config.config.volumes (units_named (note_at (d.world.nodes s)) srl maps volumes) ≡ true
     asks_fits = subst (λ vs. is_group vs (units_named (note_at (d.world.nodes s)) srl maps volumes) ≡ true) entries_same (units_fit d.world s srl maps volumes at.may)
+
+    -- the volume of the log is no data volume
+    pub asks_aside : (v : ℕ) → Contains (units_named (note_at (d.world.nodes s)) srl maps volumes).vols v → v ≡ (units_named (note_at (d.world.nodes s)) srl maps volumes).srl → ⊥
+    asks_aside v has same = log_aside asks_config.config.volumes (units_named (note_at (d.world.nodes s)) srl maps volumes) asks_fits v has same

@@ -1,11 +1,11 @@
 -- What a line that makes a replicated volume group leaves of the note of its site.
-use Rattle.std.proofs.Common.{◌≡◌, ◌∙◌, ◌≤◌, ℕ, Bool, false, ◌∷◌, length, ap, sym, refl, arith}
+use Rattle.std.proofs.Common.{◌≡◌, ◌∙◌, ◌≤◌, ◌⊎◌, inl, inr, ℕ, Bool, true, false, List, ◌∷◌, length, ap, sym, refl}
 use Rattle.std.specs.Prelude.{◌==◌, ◌||◌, Contains}
-use Rattle.std.proofs.lemmas.Bool.Decides.{nat_tests}
+use Rattle.std.proofs.lemmas.Bool.{eqb-true}
 use Rattle.vx_model.specs.declared.units.Units.{Units}
 use Rattle.vx_disk.specs.Shelf.{Meaning}
 use Rattle.vx_config.specs.declared.config.Config.{Config}
-use Rattle.vx_history.specs.Groups.{GroupNode}
+use Rattle.vx_history.specs.Groups.{BlockMay, GroupNode}
 use Rattle.vx_grouped.proofs.ImageLemmas.{contains_next}
 use Rattle.vx_grouped.specs.ConfigMoves.{LosesSome, none_again}
 use Rattle.vx_grouped.specs.GroupNotes.{NotesConfig}
@@ -21,7 +21,16 @@ use Rattle.vx_above.proofs.Quiet.{works_note}
 -- ---- the volumes, written as they read
 
 not_same : (a b : ℕ) → (a ≡ b → ⊥) → (a == b) ≡ false
-not_same a b apart = grind (arith, nat_tests)
+not_same a b apart = by (a == b) refl
+  where
+    by : (t : Bool) → (a == b) ≡ t → (a == b) ≡ false
+    by true is = absurd (apart (eqb-true a b is))
+    by false is = is
+
+-- where nothing more is noted of the volume of a log, as much is noted of the others
+others_may : (units : Units) (middle : GroupNode) (v b : ℕ) (x : List ℕ) → (v ≡ units.srl → ⊥) → BlockMay (note_begun units middle) v b x → BlockMay middle v b x
+others_may units middle v b x apart (inl inside) = inl (sym (ap (λ (t : Bool). t || middle.inside v) (not_same v units.srl apart)) ∙ inside)
+others_may units middle v b x apart (inr known) = inr known
 
 module _ (told : Type 0) (units : Units) (note middle : GroupNode) (it : NarrowsNote (note.dark ≡ false) units note middle) where
   not_inside : (v : ℕ) → (Contains (units.srl ∷ (units.maps ∷ units.vols)) v → ⊥) → Contains units.vols v → ⊥
@@ -41,10 +50,10 @@ module _ (told : Type 0) (units : Units) (note middle : GroupNode) (it : Narrows
   }
 
   -- and of the volume of the log nothing is noted any more
-  pub narrowed_begun : NotesNarrowed told units note (note_begun units middle)
-  narrowed_begun = record {
+  pub narrowed_begun : ((v : ℕ) → Contains units.vols v → v ≡ units.srl → ⊥) → NotesNarrowed told units note (note_begun units middle)
+  narrowed_begun aside = record {
     size = it.size;
-    may = λ known v b x has within left. it.may known.1 v b x has within left;
+    may = λ known v b x has within left. it.may known.1 v b x has within (others_may units middle v b x (aside v has) left);
     others = λ v b apart. it.others v b (not_inside v apart);
     inside = λ v apart. ap (λ (t : Bool). t || middle.inside v) (not_same v units.srl apart) ∙ ap (λ (f : ℕ → Bool). f v) inside_same;
     same = ap (λ (k : GroupNode). let m : GroupNode = record k { inside = λ v. (v == units.srl) || middle.inside v } in m) it.same;
@@ -57,11 +66,11 @@ module _ (s many : ℕ) (fails : Fails) (o e : Meaning) (names : Names s many fa
       begun_works : (Off : Type 0) → WorksAs Off s fails (note_begun units middle) next → NotesWork Off s fails (note_begun units middle) next
       begun_works Off works = works_note s many fails o e names Off (note_begun units middle) next was now (record { is = noted.is; spells = noted.spells }) noted_now enough change works
 
-      pub notes_none : (Off : Type 0) → WorksAs Off s fails (note_begun units middle) next → NotesNoRvg told Off s fails units note next
-      notes_none Off works = record { middle = note_begun units middle; narrowed = narrowed_begun told units note middle it; moves = begun_works Off works }
+      pub notes_none : ((v : ℕ) → Contains units.vols v → v ≡ units.srl → ⊥) → (Off : Type 0) → WorksAs Off s fails (note_begun units middle) next → NotesNoRvg told Off s fails units note next
+      notes_none aside Off works = record { middle = note_begun units middle; narrowed = narrowed_begun told units note middle it aside; moves = begun_works Off works }
 
-      pub notes_lacking : WorksAs ⊥ s fails (note_begun units middle) next → NotesLacking told s fails units note next
-      notes_lacking works = record { middle = note_begun units middle; narrowed = narrowed_begun told units note middle it; moves = begun_works ⊥ works }
+      pub notes_lacking : ((v : ℕ) → Contains units.vols v → v ≡ units.srl → ⊥) → WorksAs ⊥ s fails (note_begun units middle) next → NotesLacking told s fails units note next
+      notes_lacking aside works = record { middle = note_begun units middle; narrowed = narrowed_begun told units note middle it aside; moves = begun_works ⊥ works }
 
     -- one was
     pub notes_rvg : (settled : GroupNode) → NotesConfig settled now → LosesSome o e (as_replicated units was) now → HasOneValue units middle → WorksAs ⊥ s fails middle settled

@@ -62,7 +62,7 @@ use Rattle.vx_group_lines.proofs.GroupEnding.{world_off}
 use Rattle.vx_group_lines.proofs.GroupLeads.{Follows}
 use Rattle.vx_group_lines.proofs.GroupMarks.{group_noted_at}
 use Rattle.vx_group_lines.proofs.Plains.{rvg_goes}
-use Rattle.vx_group_lines.proofs.RvgAt.{RvgAt}
+use Rattle.vx_group_lines.proofs.RvgAt.{RvgAt, asks_aside}
 use Rattle.vx_group_lines.proofs.RvgCalls.{below_faults}
 use Rattle.vx_group_lines.proofs.RvgGained.{rvg_begins}
 use Rattle.vx_group_lines.proofs.RvgNotes.{notes_none}
@@ -179,7 +179,7 @@ module _ {R : Type 0} {g : Ghosts R} where
       makes : MakesRvg (IsTold new) d (Rvg name srl maps volumes) s fails (Refused IsOff) (world_off d s next)
       makes =
           RvgCut name srl maps volumes next refl (calls_of s (count_of old s) (count_of new s) many) fused
-          (notes_none s many fails o e names (IsTold new) units note middle narrows goes.was goes.now goes.noted (omega arith) next goes.noted_now goes.change (IsFused n.fuse) keeps) refl
+          (notes_none s many fails o e names (IsTold new) units note middle narrows goes.was goes.now goes.noted (omega arith) next goes.noted_now goes.change (asks_aside d old name srl maps volumes s before stands at) (IsFused n.fuse) keeps) refl
           (record { world = refl; after = λ i. refl; strayed = refl })
 
       follows : new.facts.items ≡ slice_set old.facts.items s (down_fact (fact_of_group (d.world.nodes s) (note_at (d.world.nodes s)))) → LetsGo old new s → Follows d (world_off d s next) old new

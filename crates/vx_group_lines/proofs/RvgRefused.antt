@@ -48,7 +48,7 @@ use Rattle.vx_above.proofs.SiteCalls.{calls, names_below, rose_below}
 use Rattle.vx_above.proofs.Changing.{moves_table}
 use Rattle.vx_above.proofs.Fails.{calls_of}
 use Rattle.vx_above.proofs.Losing.{Names}
-use Rattle.vx_group_lines.proofs.RvgAt.{RvgAt}
+use Rattle.vx_group_lines.proofs.RvgAt.{RvgAt, asks_aside}
 use Rattle.vx_group_lines.proofs.RvgCalls.{below_faults}
 use Rattle.vx_group_lines.proofs.Plains.{rvg_goes}
 use Rattle.vx_group_lines.proofs.RvgNotes.{notes_lacking, notes_none}
@@ -136,13 +136,13 @@ module _ {R : Type 0} {g : Ghosts R} where
       pub fails_leads : Rose (o.disk_faults disk) (e.disk_faults disk) → LeadsRvg d name srl maps volumes (Refused (Device disk)) old new
       fails_leads rose = leads_so (Refused (Device disk))
           (RvgFails name srl maps volumes disk next refl (calls_of s (count_of old s) (count_of new s) many) (names.each disk (omega arith) rose)
-          (notes_none s many fails o e names (IsTold new) units note middle narrows goes.was goes.now goes.noted (omega arith) next goes.noted_now goes.change ⊥ keeps) refl (record { world = refl; after = λ i. refl; strayed = refl }))
+          (notes_none s many fails o e names (IsTold new) units note middle narrows goes.was goes.now goes.noted (omega arith) next goes.noted_now goes.change (asks_aside d old name srl maps volumes s before stands at) ⊥ keeps) refl (record { world = refl; after = λ i. refl; strayed = refl }))
 
       -- no serial is left
       pub lacks_leads : LeadsRvg d name srl maps volumes (Refused (Limit Number MOST_NUMBER)) old new
       lacks_leads = leads_so (Refused (Limit Number MOST_NUMBER))
           (RvgLacks name srl maps volumes next refl (calls_of s (count_of old s) (count_of new s) many)
-          (notes_lacking s many fails o e names (IsTold new) units note middle narrows goes.was goes.now goes.noted (omega arith) next goes.noted_now goes.change keeps) refl (record { world = refl; after = λ i. refl; strayed = refl }))
+          (notes_lacking s many fails o e names (IsTold new) units note middle narrows goes.was goes.now goes.noted (omega arith) next goes.noted_now goes.change (asks_aside d old name srl maps volumes s before stands at) keeps) refl (record { world = refl; after = λ i. refl; strayed = refl }))
 
       -- memory is wanted
       pub memory_leads : StopsRvg d name srl maps volumes old new
@@ -150,7 +150,7 @@ module _ {R : Type 0} {g : Ghosts R} where
         next = left;
         part = inr (subst (λ (k : ℕ). RvgShort (IsTold new) d (Rvg name srl maps volumes) k left) (sym at.number)
             (ShortMade name srl maps volumes fails next refl (calls_of s (count_of old s) (count_of new s) many)
-            (notes_none s many fails o e names (IsTold new) units note middle narrows goes.was goes.now goes.noted (omega arith) next goes.noted_now goes.change ⊥ keeps) (record { world = refl; after = λ i. refl; strayed = refl })));
+            (notes_none s many fails o e names (IsTold new) units note middle narrows goes.was goes.now goes.noted (omega arith) next goes.noted_now goes.change (asks_aside d old name srl maps volumes s before stands at) ⊥ keeps) (record { world = refl; after = λ i. refl; strayed = refl })));
         stands = stays_stands d old new name srl maps volumes s before after stands at changed failing since next noted stand_maps same_cut table same_rvg facts;
         none = λ never. stays_none d old new name srl maps volumes s before after stands at changed failing since next noted stand_maps same_cut table never;
         carries = stays_carries d old new name srl maps volumes s before after stands at changed failing since next noted stand_maps same_cut table load;

@@ -39,7 +39,7 @@ use Rattle.vx_yard.specs.declared.yard.Yard.{Yard}
 use Rattle.vx_group_lines.proofs.Arriving.{Arrives, arrives_worked}
 use Rattle.vx_group_lines.proofs.GroupAt.{uncut, up_notes}
 use Rattle.vx_group_lines.proofs.GroupCalls.{fused_since, seen_as, site_up}
-use Rattle.vx_group_lines.proofs.GroupLeads.{feeds_nobody, group_comes, sized_of, up_set}
+use Rattle.vx_group_lines.proofs.GroupLeads.{Sized, feeds_nobody, group_comes, sized_of, up_set}
 use Rattle.vx_group_lines.proofs.GroupMarks.{group_noted_at}
 use Rattle.vx_group_lines.proofs.RvgAt.{RvgAt}
 use Rattle.vx_group_lines.proofs.RvgGained.{rvg_begins}
@@ -123,11 +123,14 @@ module _ {R : Type 0} {g : Ghosts R} where
           ∙ ap (λ (x : Node). fact_of_group x (note_at x)) (sym arrives.node)
           ∙ sym (fact_grouped rvg_left.world s (ap (λ (x : Node). is_over_group x) arrives.node ∙ over))
 
+      large : Sized n
+      large = sized_of (beside_of d s) n at.group.set at.group.stands
+
       pub stays_stands : rvg_noted next ≡ rvg_noted (note_at (d.world.nodes s)) → new.facts.items ≡ old.facts.items → StandsFor rvg_left new
       stays_stands rvg facts =
           stands_at d rvg_left old new s (fact_of_group n note) before (OfGroup plain.set) stands at.group.below to
           (group_comes d rvg_left s m (d.world.gathering s) plain.set arrives
-          (up_set m next plain.set (sized_of (beside_of d s) n at.group.set at.group.stands) plain.noted (maps_stand plain.set plain.is)
+          (up_set m next plain.set (record { few = large.few; some = large.some }) plain.noted (maps_stand plain.set plain.is)
           (rvg ∙ at.group.stands.plain at.group.made note (group_noted_at d old name s before at.group)) (plain.cut ∙ same_cut ∙ rvg_uncut) (same_cut ∙ rvg_uncut)) fails fused)
           (λ was. subst (λ (x : Node). BeginsFirst s x) (sym arrives.node) (arrives.first was)) (λ _. tt) seen
           (facts ∙ sym (set_same old.facts.items s (fact_of_group n note) at.group.fact))
