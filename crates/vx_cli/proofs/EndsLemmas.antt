@@ -3,6 +3,7 @@ use Rattle.std.proofs.Common.{◌≡◌, ◌≤◌, ◌<◌, ℕ, suc, ◌+◌, 
 use Rattle.std.specs.List.{concat}
 use Rattle.std.specs.Io.KnownBytes.{Appends}
 use Rattle.vx_history.specs.Doubts.{Doubted}
+use Rattle.vx_history.specs.World.{World}
 use Rattle.vx_script.specs.Lines.{split_lines}
 use Rattle.vx_script.specs.declared.line.ScriptLine.{ScriptLine}
 use Rattle.vx_stream.proofs.SendLemmas.{appends_then}
@@ -17,7 +18,7 @@ use Rattle.vx_cli.specs.declared.status.Status.TheVariants.{Done, Usage, BadLine
 use Rattle.vx_cli.specs.Reading.{IsWholeLine}
 use Rattle.vx_cli.specs.Runs.{fails_of_lines}
 use Rattle.vx_cli.specs.Texts.{bad_text, IsTextCut}
-use Rattle.vx_cli.specs.Ends.{IsBadNext, RunPart, WriteEnds, AtReply, AtBad, MemoryEnds, ReadEnds, RunEnds, PartOfLine, PartOfNext, LastWorld, RunOutcome}
+use Rattle.vx_cli.specs.Ends.{IsBadLine, IsBadNext, RunPart, WriteEnds, AtReply, AtBad, MemoryEnds, ReadEnds, RunEnds, PartOfLine, PartOfNext, LastWorld, RunOutcome}
 use Rattle.vx_cli.proofs.StepLemmas.{rose_more}
 
 -- a number of lines, one further on
@@ -34,10 +35,11 @@ with_line line fails text part = record { lines = line ∷ part.lines; others = 
 onto_text : (text out all end : List ℕ) → out ≡ all ++ end → text ++ out ≡ (text ++ all) ++ end
 onto_text text out all end e = ap (λ (t : List ℕ). text ++ t) e ∙ sym (append_assoc text all end)
 
-write_more : (n : ℕ) (part : RunPart) (line : List ℕ) (fails : Fails) (text out : List ℕ) → WriteEnds (n + 1) part out → WriteEnds n (with_line line fails text part) (text ++ out)
-write_more n part line fails text out (AtReply before last sent e cut is) =
+write_more : (files : Bool) (w : World) (n : ℕ) (part : RunPart) (line : List ℕ) (fails : Fails) (text out : List ℕ) → WriteEnds files w (n + 1) part out
+    → WriteEnds files w n (with_line line fails text part) (text ++ out)
+write_more files w n part line fails text out (AtReply before last sent e cut is) =
     AtReply (text ∷ before) last sent (ap (λ (ts : List (List ℕ)). text ∷ ts) e) cut (onto_text text out (concat before) sent is)
-write_more n part line fails text out (AtBad column sent bad few cut is) =
+write_more files w n part line fails text out (AtBad column sent bad few cut is) =
     AtBad column sent bad (omega (arith, few)) (subst (λ (t : List ℕ). IsTextCut t sent) (at_number n (length part.lines) column) cut) (onto_text text out (concat part.texts) sent is)
 
 memory_more : (part : RunPart) (line : List ℕ) (fails : Fails) (text out : List ℕ) → MemoryEnds part out → MemoryEnds (with_line line fails text part) (text ++ out)
@@ -55,21 +57,21 @@ read_more raw line after left part fails text out whole x = record {
   is = ap (λ (t : List ℕ). text ++ t) x.is;
 }
 
-ends_more : (n : ℕ) (status : Status) (raw line after : List ℕ) (left : Option (List ℕ)) (part : RunPart) (fails : Fails) (text out : List ℕ)
-    → IsWholeLine raw line → RunEnds (n + 1) status after left part out → RunEnds n status (raw ++ after) left (with_line line fails text part) (text ++ out)
-ends_more n Done raw line after left part fails text out whole is = (is.0, is.1, ap (λ (t : List ℕ). text ++ t) is.2)
-ends_more n (BadLine at column) raw line after left part fails text out whole is = (
+ends_more : (files : Bool) (w : World) (n : ℕ) (status : Status) (raw line after : List ℕ) (left : Option (List ℕ)) (part : RunPart) (fails : Fails) (text out : List ℕ)
+    → IsWholeLine raw line → RunEnds files w (n + 1) status after left part out → RunEnds files w n status (raw ++ after) left (with_line line fails text part) (text ++ out)
+ends_more files w n Done raw line after left part fails text out whole is = (is.0, is.1, ap (λ (t : List ℕ). text ++ t) is.2)
+ends_more files w n (BadLine at column) raw line after left part fails text out whole is = (
   is.0 ∙ ap (λ (k : ℕ). k + 1) (same_number n (length part.lines)),
   is.1,
   let h = is.2 in omega arith,
   onto_text text out (concat part.texts) (bad_text at column) is.3,
 )
-ends_more n ReadFault raw line after left part fails text out whole is = read_more raw line after left part fails text out whole is
-ends_more n WriteFault raw line after left part fails text out whole is = write_more n part line fails text out is
-ends_more n OutOfMemory raw line after left part fails text out whole is = memory_more part line fails text out is
-ends_more n TooLong raw line after left part fails text out whole is =
+ends_more files w n ReadFault raw line after left part fails text out whole is = read_more raw line after left part fails text out whole is
+ends_more files w n WriteFault raw line after left part fails text out whole is = write_more files w n part line fails text out is
+ends_more files w n OutOfMemory raw line after left part fails text out whole is = memory_more part line fails text out is
+ends_more files w n TooLong raw line after left part fails text out whole is =
     (sym (same_number n (length part.lines)) ∙ is.0, is.1, ap (λ (t : List ℕ). text ++ t) is.2)
-ends_more n Usage raw line after left part fails text out whole is = absurd is
+ends_more files w n Usage raw line after left part fails text out whole is = absurd is
 
 -- no line was done
 abbrev pub no_part : List ℕ → RunPart
@@ -108,7 +110,7 @@ module _ {told : Type 0} {files : Bool} {Leaves : Doubted → Type 0} where
         behind = rest.behind;
         run = (mid, step, rest.run);
         last = rest.last;
-        ends = ends_more n status raw line after left rest.part fails text rest.out whole rest.ends;
+        ends = ends_more files rest.behind.world n status raw line after left rest.part fails text rest.out whole rest.ends;
         appends = appends_then w0 w1 w2 text rest.out wrote rest.appends;
         rose = rose_more fails (fails_of_lines rest.part.failures) f0 f1 f2 rose rest.rose;
         leaves = rest.leaves;
@@ -116,14 +118,14 @@ module _ {told : Type 0} {files : Bool} {Leaves : Doubted → Type 0} where
 
   -- the run ends within its next line
   pub ends_within : (n : ℕ) (old new : Doubted) (bytes : List ℕ) (status : Status) (left w0 w1 : Option (List ℕ)) (f0 f1 : ℕ → ℕ → ℕ) (out : List ℕ)
-      → n ≤ 1000000 → LastWorld told status (split_lines bytes) old new → RunEnds n status bytes left (no_part bytes) out → Appends w0 w1 out → RoseAll [] f0 f1 → Leaves new
+      → n ≤ 1000000 → LastWorld told status (split_lines bytes) old new → RunEnds files old.world n status bytes left (no_part bytes) out → Appends w0 w1 out → RoseAll [] f0 f1 → Leaves new
       → RunOutcome told files Leaves n old bytes status left w0 w1 f0 f1
   ends_within n old new bytes status left w0 w1 f0 f1 out few last ends wrote rose leaves =
       record { part = no_part bytes; world = new; out = out; split = refl; few = omega arith; behind = old; run = refl; last = last; ends = ends; appends = wrote; rose = rose; leaves = leaves }
 
   -- the run ends before its next line
   pub ends_here : (n : ℕ) (old : Doubted) (bytes : List ℕ) (status : Status) (left w0 w1 : Option (List ℕ)) (f0 f1 : ℕ → ℕ → ℕ) (out : List ℕ)
-      → n ≤ 1000000 → RunEnds n status bytes left (no_part bytes) out → Appends w0 w1 out → RoseAll [] f0 f1 → Leaves old
+      → n ≤ 1000000 → RunEnds files old.world n status bytes left (no_part bytes) out → Appends w0 w1 out → RoseAll [] f0 f1 → Leaves old
       → RunOutcome told files Leaves n old bytes status left w0 w1 f0 f1
   ends_here n old bytes status left w0 w1 f0 f1 out few ends wrote rose leaves =
       ends_within n old old bytes status left w0 w1 f0 f1 out few (last_same told status (split_lines bytes) old) ends wrote rose leaves
@@ -131,7 +133,7 @@ module _ {told : Type 0} {files : Bool} {Leaves : Doubted → Type 0} where
   -- the run ends with a line
   pub ends_one : (n : ℕ) (old new : Doubted) (bytes line : List ℕ) (others : List (List ℕ)) (status : Status) (left w0 w1 : Option (List ℕ)) (f0 f1 : ℕ → ℕ → ℕ)
       (fails : Fails) (text out : List ℕ) → n < 1000000 → split_lines bytes ≡ line ∷ others → BytesStep told files old line fails text new → RoseAll fails f0 f1
-      → RunEnds n status bytes left (one_part line others fails text) out → Appends w0 w1 out → Leaves new → RunOutcome told files Leaves n old bytes status left w0 w1 f0 f1
+      → RunEnds files new.world n status bytes left (one_part line others fails text) out → Appends w0 w1 out → Leaves new → RunOutcome told files Leaves n old bytes status left w0 w1 f0 f1
   ends_one n old new bytes line others status left w0 w1 f0 f1 fails text out few split step rose ends wrote leaves =
       record {
         part = one_part line others fails text;
@@ -148,8 +150,9 @@ module _ {told : Type 0} {files : Bool} {Leaves : Doubted → Type 0} where
         leaves = leaves;
       }
 
-pub bad_next : (lines : List (List ℕ)) (line : List ℕ) (others : List (List ℕ)) (column : ℕ) → lines ≡ line ∷ others → script_line line ≡ Err column → IsBadNext lines column
-bad_next lines line others column e bad = subst (λ (ls : List (List ℕ)). IsBadNext ls column) (sym e) bad
+pub bad_next : (files : Bool) (w : World) (lines : List (List ℕ)) (line : List ℕ) (others : List (List ℕ)) (column : ℕ) → lines ≡ line ∷ others → IsBadLine files w line column
+    → IsBadNext files w lines column
+bad_next files w lines line others column e bad = subst (λ (ls : List (List ℕ)). IsBadNext files w ls column) (sym e) bad
 
 pub zero_more : (n : ℕ) → n + 1 ≡ n + 0 + 1
 zero_more n = omega arith

@@ -20,7 +20,7 @@ use Rattle.vx_cli.specs.declared.status.Status.{Status}
 use Rattle.vx_cli.specs.declared.status.Status.TheVariants.{OutOfMemory}
 use Rattle.vx_cli.specs.Reading.{MayHave}
 use Rattle.vx_cli.specs.Runs.{RunsLines, LeavesRacks, fails_of_lines}
-use Rattle.vx_cli.specs.Ends.{RunIs}
+use Rattle.vx_cli.specs.Ends.{RunEnds, RunIs}
 use Rattle.vx_cli.specs.Turns.{YardComes}
 use Rattle.vx_cli.proofs.EndsLemmas.{ends_here}
 use Rattle.vx_cli.proofs.ReaderLemmas.{ahead_some}
@@ -69,7 +69,7 @@ module _ {R : Type 0} {g : Ghosts R} where
           run = subst (λ (f : Bool). RunsLines (RacksTell g.meaning racks) f (sure empty_world) o.part.lines o.part.failures o.part.texts o.behind) kept
               (run_told tells (in_files old) (sure empty_world) o.part.lines o.part.failures o.part.texts o.behind o.run);
           last = last_told tells status o.part.others o.behind o.world o.last;
-          ends = o.ends;
+          ends = subst (λ (f : Bool). RunEnds f o.behind.world 0 status comes.bytes now_left o.part o.out) kept o.ends;
           appends = o.appends;
           rose = rose_same (fails_of_lines o.part.failures) (count_of old) (count_of new) f0 f1 (λ s d. sym (counts s d)) (after o.world o.leaves.stands) o.rose;
           leaves = record {

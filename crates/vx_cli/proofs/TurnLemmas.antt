@@ -1,30 +1,46 @@
 -- One turn of the loop, and the loop.
-use Rattle.std.proofs.Common.{◌≡◌, ◌≤◌, ◌<◌, ℕ, ◌+◌, Bool, List, [], ◌∷◌, ◌++◌, Option, Some, None, Result, Ok, Err, refl, arith, ap, sym, subst, ◌∙◌, append-nil, inl, inr, ◌⊎◌}
+use Rattle.std.proofs.Common.{◌≡◌, ◌≤◌, ◌<◌, ℕ, ◌+◌, Bool, List, [], ◌∷◌, ◌++◌, Option, Some, None, Result, Ok, Err, refl, arith, sym, subst, ◌∙◌, append-nil, inl, inr, ◌⊎◌}
 use Rattle.std.specs.Io.KnownBytes.{Appends}
 use Rattle.vx_history.specs.Doubts.{Doubted}
 use Rattle.vx_history.specs.World.{empty_world}
 use Rattle.vx_events.specs.Doubts.{sure}
+use Rattle.vx_events.specs.OpenLines.{EndsRun}
 use Rattle.vx_disk.specs.declared.shelf.Shelf.{Ghosts}
 use Rattle.vx_script.specs.Lines.{split_lines, HasNoNewline}
 use Rattle.vx_script.specs.declared.line.ScriptLine.{ScriptLine}
 use Rattle.vx_script.proofs.LineLemmas.{whole_lines_of_last, some_line}
-use Rattle.vx_stream.proofs.SendLemmas.{appends_none}
+use Rattle.vx_stream.specs.Causes.{StreamRose}
+use Rattle.vx_stream.proofs.SendLemmas.{appends_none, appends_then}
 use Rattle.vx_yard.specs.declared.yard.Yard.{Yard}
 use Rattle.vx_yard.specs.Lines.{script_line}
 use Rattle.vx_yard.specs.Steps.{SaidStep}
-use Rattle.vx_yard.specs.Standing.{Serves, StepsFor, StopsAbove}
+use Rattle.vx_yard.specs.Standing.{Serves, StaysFor, StepsFor, StopsAbove}
 use Rattle.vx_yard.specs.Yards.{IsTold, count_of, in_files}
 use Rattle.vx_cli.specs.declared.reader.Next.TheVariants as nexts
 use Rattle.vx_cli.specs.declared.status.Status.{Status}
 use Rattle.vx_cli.specs.declared.status.Status.TheVariants.{Done, Usage, BadLine, ReadFault, WriteFault, OutOfMemory, TooLong}
 use Rattle.vx_cli.specs.Reading.{MayHave, Ahead, FollowsInput, IsWholeLine, IsLong, IsByteAhead, NextIs}
 use Rattle.vx_cli.specs.Texts.{bad_text}
-use Rattle.vx_cli.specs.Ends.{IsNonEmpty, AtReply, AtBad, RunEnds, PartOfLine, PartOfNext, RunOutcome}
+use Rattle.vx_cli.specs.Ends.{IsBadLine, IsNonEmpty, OpenLine, WrongLine, AtReply, AtBad, RunEnds, PartOfLine, PartOfNext, RunOutcome}
 use Rattle.vx_cli.specs.Turns.{BadIs, Did, DidPart, StaysServing, MemoryStops, StopsBefore, StopsWithin, StopsBehind, WriteStops, StopsAtReply, StopsAtBad, AnswerIs, YardComes, TurnIs, TurnReaches}
 use Rattle.vx_cli.proofs.StepLemmas.{script_line_long, rose_none, line_told}
 use Rattle.vx_cli.proofs.EndsLemmas.{no_part, one_part, outcome_more, ends_within, ends_here, ends_one, bad_next, bad_first, zero_more}
 use Rattle.vx_cli.proofs.ReaderLemmas.{ahead_some}
 use Rattle.vx_cli.proofs.Sounds.{part_good, said_good}
+
+-- a count that rose behind one that did not fall
+pub rose_behind : (a b c : ℕ) → a ≤ b → StreamRose b c → StreamRose a c
+rose_behind a b c later rose = record { fell_not = omega (arith, later, rose.fell_not); rose = omega (arith, later, rose.rose) }
+
+-- what is written of a line at which the run ends, behind nothing
+bad_behind : (line column : ℕ) (status : Status) (w0 w1 w2 : Option (List ℕ)) → Appends w0 w1 [] → BadIs line column status w1 w2 → BadIs line column status w0 w2
+bad_behind line column (BadLine l c) w0 w1 w2 none is = (is.0, is.1, appends_then w0 w1 w2 [] (bad_text line column) none is.2)
+bad_behind line column WriteFault w0 w1 w2 none is = (is.0, is.1, appends_then w0 w1 w2 [] is.0 none is.2)
+bad_behind line column OutOfMemory w0 w1 w2 none is = appends_then w0 w1 w2 [] [] none is
+bad_behind line column Done w0 w1 w2 none is = absurd is
+bad_behind line column Usage w0 w1 w2 none is = absurd is
+bad_behind line column ReadFault w0 w1 w2 none is = absurd is
+bad_behind line column TooLong w0 w1 w2 none is = absurd is
 
 module _ {R : Type 0} {g : Ghosts R} where
   -- nothing was done
@@ -73,24 +89,40 @@ module _ {R : Type 0} {g : Ghosts R} where
   memory_answer w line words old new e serves told (inl short) = StopsWithin words e (did_part w words old new serves told short)
   memory_answer w line words old new e serves told (inr did) = StopsBehind did.0 (did_line w line words old new did.0 e serves told did.1)
 
-  pub bad_answer : (n : ℕ) (w : Doubted) (line : List ℕ) (column : ℕ) (status : Status) (y : Yard R g) (w0 w1 : Option (List ℕ))
-      → script_line line ≡ Err column → Serves w y → BadIs (n + 1) column status w0 w1 → AnswerIs n w line (Some status) y y w0 w1
-  bad_answer n w line column (BadLine l c) y w0 w1 e serves is = (
+  -- a line at which the run ends
+  ends_answer : (n : ℕ) (w : Doubted) (line : List ℕ) (column : ℕ) (status : Status) (old new : Yard R g) (w0 w1 : Option (List ℕ))
+      → IsBadLine (in_files old) w.world line column → StaysServing w old new → BadIs (n + 1) column status w0 w1 → AnswerIs n w line (Some status) old new w0 w1
+  ends_answer n w line column (BadLine l c) old new w0 w1 bad same is = (
     is.0,
-    e ∙ ap Err (sym is.1),
-    stays w y serves,
+    subst (λ (k : ℕ). IsBadLine (in_files old) w.world line k) (sym is.1) bad,
+    same,
     subst (λ (k : ℕ). Appends w0 w1 (bad_text k c)) (sym is.0) (subst (λ (k : ℕ). Appends w0 w1 (bad_text (n + 1) k)) (sym is.1) is.2),
   )
-  bad_answer n w line column WriteFault y w0 w1 e serves is = StopsAtBad column is.0 e (stays w y serves) is.1 is.2
-  bad_answer n w line column OutOfMemory y w0 w1 e serves is = (StopsBefore (stays w y serves), is)
-  bad_answer n w line column Done y w0 w1 e serves is = absurd is
-  bad_answer n w line column Usage y w0 w1 e serves is = absurd is
-  bad_answer n w line column ReadFault y w0 w1 e serves is = absurd is
-  bad_answer n w line column TooLong y w0 w1 e serves is = absurd is
+  ends_answer n w line column WriteFault old new w0 w1 bad same is = StopsAtBad column is.0 bad same is.1 is.2
+  ends_answer n w line column OutOfMemory old new w0 w1 bad same is = (StopsBefore same, is)
+  ends_answer n w line column Done old new w0 w1 bad same is = absurd is
+  ends_answer n w line column Usage old new w0 w1 bad same is = absurd is
+  ends_answer n w line column ReadFault old new w0 w1 bad same is = absurd is
+  ends_answer n w line column TooLong old new w0 w1 bad same is = absurd is
+
+  pub bad_answer : (n : ℕ) (w : Doubted) (line : List ℕ) (column : ℕ) (status : Status) (y : Yard R g) (w0 w1 : Option (List ℕ))
+      → script_line line ≡ Err column → Serves w y → BadIs (n + 1) column status w0 w1 → AnswerIs n w line (Some status) y y w0 w1
+  bad_answer n w line column status y w0 w1 e serves is = ends_answer n w line column status y y w0 w1 (WrongLine e) (stays w y serves) is
+
+  -- an open one, before which nothing was written
+  pub open_answer : (n : ℕ) (w : Doubted) (line : List ℕ) (words : ScriptLine) (status : Status) (old new : Yard R g) (w0 w1 w2 : Option (List ℕ)) → script_line line ≡ Ok (Some words)
+      → Serves w old → (IsTold new → IsTold old) → EndsRun (in_files old) w.world words × StaysFor w old new × Appends w0 w1 [] → BadIs (n + 1) 1 status w1 w2
+      → AnswerIs n w line (Some status) old new w0 w2
+  open_answer n w line words status old new w0 w1 w2 e serves told it is =
+      let same : StaysServing w old new = record {
+        serves = record { stands = it.1.stands; carries = it.1.carries serves.carries; good = λ t. serves.good (told t) };
+        rose = it.1.rose;
+      } in
+      ends_answer n w line 1 status old new w0 w2 (OpenLine words e it.0 refl) same (bad_behind (n + 1) 1 status w0 w1 w2 it.2 is)
 
   -- the run ends before its next line
   comes_here : (n : ℕ) (w : Doubted) (held : List ℕ) (left : Option (List ℕ)) (bytes : List ℕ) (status : Status) (old new : Yard R g) (now_left w0 w1 : Option (List ℕ)) (out : List ℕ)
-      → Ahead held left bytes → n ≤ 1000000 → RunEnds n status bytes now_left (no_part bytes) out → Appends w0 w1 out → StaysServing w old new
+      → Ahead held left bytes → n ≤ 1000000 → RunEnds (in_files old) w.world n status bytes now_left (no_part bytes) out → Appends w0 w1 out → StaysServing w old new
       → YardComes n w held left status old new now_left w0 w1
   comes_here n w held left bytes status old new now_left w0 w1 out ahead few ends wrote same = record {
     bytes = bytes;
@@ -101,7 +133,7 @@ module _ {R : Type 0} {g : Ghosts R} where
   -- the run ends with a line
   comes_one : (n : ℕ) (w : Doubted) (held : List ℕ) (left : Option (List ℕ)) (bytes line : List ℕ) (others : List (List ℕ)) (status : Status) (old new : Yard R g)
       (now_left w0 w1 : Option (List ℕ)) (text out : List ℕ) → Ahead held left bytes → n < 1000000 → split_lines bytes ≡ line ∷ others → (did : Did w line old new text)
-      → RunEnds n status bytes now_left (one_part line others did.fails text) out → Appends w0 w1 out → YardComes n w held left status old new now_left w0 w1
+      → RunEnds (in_files old) did.world.world n status bytes now_left (one_part line others did.fails text) out → Appends w0 w1 out → YardComes n w held left status old new now_left w0 w1
   comes_one n w held left bytes line others status old new now_left w0 w1 text out ahead few split did ends wrote = record {
     bytes = bytes;
     ahead = ahead;
@@ -114,7 +146,7 @@ module _ {R : Type 0} {g : Ghosts R} where
       comes_one n w held left bytes line others WriteFault old new now_left w0 w1 text sent ahead few split did (AtReply [] text sent refl cut refl) wrote
   write_stops n w held left bytes line others old new now_left w0 w1 ahead split (StopsAtBad column sent e same cut wrote) few =
       comes_here n w held left bytes WriteFault old new now_left w0 w1 sent ahead (omega arith)
-      (AtBad column sent (bad_next (split_lines bytes) line others column split e) (omega arith) (bad_first n column sent cut) refl) wrote same
+      (AtBad column sent (bad_next (in_files old) w.world (split_lines bytes) line others column split e) (omega arith) (bad_first n column sent cut) refl) wrote same
 
   -- memory ran out within a line
   comes_within : (n : ℕ) (w : Doubted) (held : List ℕ) (left : Option (List ℕ)) (bytes line : List ℕ) (others : List (List ℕ)) (words : ScriptLine) (old new : Yard R g)
@@ -147,7 +179,7 @@ module _ {R : Type 0} {g : Ghosts R} where
       → YardComes n w held left status old new now_left w0 w1
   turn_stop n w held left bytes line others (BadLine at column) old new now_left w0 w1 ahead split is few =
       comes_here n w held left bytes (BadLine at column) old new now_left w0 w1 (bad_text at column) ahead (omega arith)
-      (is.0 ∙ zero_more n, bad_next (split_lines bytes) line others column split is.1, omega arith, refl) is.3 is.2
+      (is.0 ∙ zero_more n, bad_next (in_files old) w.world (split_lines bytes) line others column split is.1, omega arith, refl) is.3 is.2
   turn_stop n w held left bytes line others WriteFault old new now_left w0 w1 ahead split is few = write_stops n w held left bytes line others old new now_left w0 w1 ahead split is few
   turn_stop n w held left bytes line others OutOfMemory old new now_left w0 w1 ahead split is few =
       memory_stops n w held left bytes line others old new now_left w0 w1 ahead split is.0 is.1 few

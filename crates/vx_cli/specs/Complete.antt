@@ -1,5 +1,5 @@
 -- Which end a run comes to, where nothing cuts it off.
-use Rattle.std.specs.Prelude.{◌≡◌, ◌⊎◌, ℕ, ◌+◌, ◌≤◌, ◌<◌, Bool, List, [], ◌∷◌, ◌++◌, length, map, Option, Err}
+use Rattle.std.specs.Prelude.{◌≡◌, ◌⊎◌, ℕ, ◌+◌, ◌≤◌, ◌<◌, Bool, List, [], ◌∷◌, ◌++◌, length, map, Option, Some, Ok, Err}
 use Rattle.std.specs.List.{concat}
 use Rattle.std.specs.Io.KnownBytes.{Appends}
 use Rattle.vx_history.specs.Doubts.{Doubted}
@@ -7,7 +7,9 @@ use Rattle.vx_history.specs.World.{empty_world}
 use Rattle.vx_events.specs.Doubts.{sure}
 use Rattle.vx_yard.specs.Lines.{script_line}
 use Rattle.vx_events.specs.Fails.{Fails}
+use Rattle.vx_events.specs.OpenLines.{EndsRun}
 use Rattle.vx_script.specs.Lines.{split_lines}
+use Rattle.vx_script.specs.declared.line.ScriptLine.{ScriptLine}
 use Rattle.vx_cli.specs.Runs.{RunsLines}
 use Rattle.vx_cli.specs.declared.status.Status.{Status}
 use Rattle.vx_cli.specs.declared.status.Status.TheVariants.{Done, Usage, BadLine, ReadFault, WriteFault, OutOfMemory, TooLong}
@@ -55,6 +57,22 @@ pub record IsTooLong (input : List ℕ) : Type 0 where
   pub good : AllLinesGood before
   pub number : length before ≡ 1000000
 
+-- The run ended at a line that is open in the world behind those before it, which were done, and that no test refuses: it was answered as one whose kind is not
+-- built.
+pub record StopsOpen (told : Type 0) (files : Bool) (status : Status) (lines : List (List ℕ)) : Type 0 where
+  pub before : List (List ℕ)
+  pub next : List ℕ
+  pub others : List (List ℕ)
+  pub split : lines ≡ before ++ next ∷ others
+  pub failures : List Fails
+  pub texts : List (List ℕ)
+  pub behind : Doubted
+  pub run : RunsLines told files (sure empty_world) before failures texts behind
+  pub words : ScriptLine
+  pub says : script_line next ≡ Ok (Some words)
+  pub ends : EndsRun files behind.world words
+  pub is : status ≡ BadLine (length before + 1) 1
+
 -- a count that did not rise, and that does not stand at its greatest value
 pub record IsStillCount (before now : ℕ) : Type 0 where
   pub same : now ≡ before
@@ -76,6 +94,6 @@ pub record CleanRun (told : Type 0) (files : Bool) (Leaves : Doubted → Type 0)
   pub appends : Appends written now (concat texts)
   pub leaves : Leaves world
 
--- such a run was done, or memory ran out
+-- such a run was done, or memory ran out, or it ended at an open line
 abbrev pub IsClean : Type 0 → Bool → (Doubted → Type 0) → Status → List (List ℕ) → Option (List ℕ) → Option (List ℕ) → Type 0
-IsClean told files Leaves status lines written now = ((status ≡ Done) × CleanRun told files Leaves lines written now) ⊎ (status ≡ OutOfMemory)
+IsClean told files Leaves status lines written now = ((status ≡ Done) × CleanRun told files Leaves lines written now) ⊎ (status ≡ OutOfMemory) ⊎ StopsOpen told files status lines

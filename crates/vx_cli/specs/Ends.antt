@@ -8,6 +8,7 @@ use Rattle.vx_events.specs.Doubts.{sure}
 use Rattle.vx_yard.specs.Lines.{script_line}
 use Rattle.vx_yard.specs.Stands.{RoseAll}
 use Rattle.vx_events.specs.Fails.{Fails}
+use Rattle.vx_events.specs.OpenLines.{EndsRun}
 use Rattle.vx_events.specs.Parts.{may_stop}
 use Rattle.vx_events.specs.RvgParts.{ShortFull}
 use Rattle.vx_script.specs.Lines.{split_lines, whole_lines_of}
@@ -25,21 +26,26 @@ pub record RunPart : Type 0 where
   pub failures : List Fails
   pub texts : List (List ℕ)
 
--- the next of these lines is wrong, from this column on
-abbrev pub IsBadNext : List (List ℕ) → ℕ → Type 0
-IsBadNext [] column = ⊥
-IsBadNext (line ∷ lines) column = script_line line ≡ Err column
+-- A line ends a run: it is wrong from this column on; or no test refuses it in this world and it is open, and then it is answered as one whose kind is not built.
+pub data IsBadLine (files : Bool) (w : World) (line : List ℕ) (column : ℕ) : Type 0 where
+  WrongLine : script_line line ≡ Err column → IsBadLine files w line column
+  OpenLine : (words : ScriptLine) → script_line line ≡ Ok (Some words) → EndsRun files w words → column ≡ 1 → IsBadLine files w line column
+
+-- the next of these lines does
+abbrev pub IsBadNext : Bool → World → List (List ℕ) → ℕ → Type 0
+IsBadNext files w [] column = ⊥
+IsBadNext files w (line ∷ lines) column = IsBadLine files w line column
 
 abbrev pub IsNonEmpty : List (List ℕ) → Type 0
 IsNonEmpty [] = ⊥
 IsNonEmpty (line ∷ lines) = Unit {0}
 
 -- The sink failed at the reply of the last line that was done, or at the line that says where the script is wrong. All
--- before it was written, and of it a front part. n lines came before.
-pub data WriteEnds (n : ℕ) (part : RunPart) (out : List ℕ) : Type 0 where
-  AtReply : (before : List (List ℕ)) (last sent : List ℕ) → part.texts ≡ before ++ last ∷ [] → IsTextCut last sent → out ≡ concat before ++ sent → WriteEnds n part out
-  AtBad : (column : ℕ) (sent : List ℕ) → IsBadNext part.others column → n + length part.lines < 1000000 → IsTextCut (bad_text (n + length part.lines + 1) column) sent
-      → out ≡ concat part.texts ++ sent → WriteEnds n part out
+-- before it was written, and of it a front part. n lines came before, and all that were done left this world.
+pub data WriteEnds (files : Bool) (w : World) (n : ℕ) (part : RunPart) (out : List ℕ) : Type 0 where
+  AtReply : (before : List (List ℕ)) (last sent : List ℕ) → part.texts ≡ before ++ last ∷ [] → IsTextCut last sent → out ≡ concat before ++ sent → WriteEnds files w n part out
+  AtBad : (column : ℕ) (sent : List ℕ) → IsBadNext files w part.others column → n + length part.lines < 1000000 → IsTextCut (bad_text (n + length part.lines + 1) column) sent
+      → out ≡ concat part.texts ++ sent → WriteEnds files w n part out
 
 -- the reply of each line that was done was written, or of each but the last
 pub record MemoryEnds (part : RunPart) (out : List ℕ) : Type 0 where
@@ -58,19 +64,19 @@ pub record ReadEnds (bytes : List ℕ) (left : Option (List ℕ)) (part : RunPar
   pub lines : part.lines ≡ whole_lines_of got
   pub is : out ≡ concat part.texts
 
--- By the status: where the run stopped in bytes, what the source has left, and what was written. n lines came before.
-abbrev pub RunEnds : ℕ → Status → List ℕ → Option (List ℕ) → RunPart → List ℕ → Type 0
+-- By the status: where the run stopped in bytes, what the source has left, and what was written. n lines came before, and all that were done left this world.
+abbrev pub RunEnds : Bool → World → ℕ → Status → List ℕ → Option (List ℕ) → RunPart → List ℕ → Type 0
 -- all lines were done, the input was read to its end, and each reply was written
-RunEnds n Done bytes left part out = (part.others ≡ []) × MayHave left [] × (out ≡ concat part.texts)
--- the next line is wrong from that column on, and the last line of the output says so
-RunEnds n (BadLine line column) bytes left part out =
-    (line ≡ n + length part.lines + 1) × IsBadNext part.others column × (n + length part.lines < 1000000) × (out ≡ concat part.texts ++ bad_text line column)
-RunEnds n ReadFault bytes left part out = ReadEnds bytes left part out
-RunEnds n WriteFault bytes left part out = WriteEnds n part out
-RunEnds n OutOfMemory bytes left part out = MemoryEnds part out
+RunEnds files w n Done bytes left part out = (part.others ≡ []) × MayHave left [] × (out ≡ concat part.texts)
+-- the next line ends the run, and the last line of the output says so
+RunEnds files w n (BadLine line column) bytes left part out =
+    (line ≡ n + length part.lines + 1) × IsBadNext files w part.others column × (n + length part.lines < 1000000) × (out ≡ concat part.texts ++ bad_text line column)
+RunEnds files w n ReadFault bytes left part out = ReadEnds bytes left part out
+RunEnds files w n WriteFault bytes left part out = WriteEnds files w n part out
+RunEnds files w n OutOfMemory bytes left part out = MemoryEnds part out
 -- so many lines were done, and another byte follows
-RunEnds n TooLong bytes left part out = (n + length part.lines ≡ 1000000) × IsNonEmpty part.others × (out ≡ concat part.texts)
-RunEnds n Usage bytes left part out = ⊥
+RunEnds files w n TooLong bytes left part out = (n + length part.lines ≡ 1000000) × IsNonEmpty part.others × (out ≡ concat part.texts)
+RunEnds files w n Usage bytes left part out = ⊥
 
 -- what want of memory may leave of a line that was read, over disks that tell their contents or not
 abbrev pub PartOfLine : Type 0 → Result (Option ScriptLine) ℕ → Doubted → Doubted → Type 0
@@ -111,7 +117,7 @@ pub record RunOutcome (told : Type 0) (files : Bool) (Leaves : Doubted → Type 
   pub behind : Doubted
   pub run : RunsLines told files old part.lines part.failures part.texts behind
   pub last : LastWorld told status part.others behind world
-  pub ends : RunEnds n status bytes left part out
+  pub ends : RunEnds files behind.world n status bytes left part out
   pub appends : Appends written now_written out
   pub rose : RoseAll (fails_of_lines part.failures) faults now_faults
   pub leaves : Leaves world

@@ -1,5 +1,5 @@
 -- What one turn of the loop does, and where the loop stands.
-use Rattle.std.specs.Prelude.{◌≡◌, ℕ, ◌+◌, Bool, List, [], Option, Some, None, Ok, Err}
+use Rattle.std.specs.Prelude.{◌≡◌, ℕ, ◌+◌, Bool, List, [], Option, Some, None, Ok}
 use Rattle.std.specs.Io.KnownBytes.{Appends}
 use Rattle.vx_history.specs.Doubts.{Doubted}
 use Rattle.vx_history.specs.World.{empty_world}
@@ -14,7 +14,7 @@ use Rattle.vx_events.specs.RvgParts.{ShortFull}
 use Rattle.vx_yard.specs.Standing.{Serves}
 use Rattle.vx_yard.specs.Yards.{IsTold, count_of, in_files}
 use Rattle.vx_yard.specs.declared.yard.Yard.{Yard}
-use Rattle.vx_cli.specs.Ends.{RunOutcome}
+use Rattle.vx_cli.specs.Ends.{IsBadLine, RunOutcome}
 use Rattle.vx_cli.specs.Reading.{Ahead, FollowsInput, IsWholeLine}
 use Rattle.vx_cli.specs.Texts.{bad_text, IsTextCut}
 use Rattle.vx_cli.specs.declared.status.Status.{Status}
@@ -64,14 +64,14 @@ module _ {R : Type 0} {g : Ghosts R} where
   -- the sink failed at a reply, or at the line that says where the script is wrong
   pub data WriteStops (n : ℕ) (d : Doubted) (line : List ℕ) (old new : Yard R g) (written now : Option (List ℕ)) : Type 0 where
     StopsAtReply : (text sent : List ℕ) → Did d line old new text → IsTextCut text sent → Appends written now sent → WriteStops n d line old new written now
-    StopsAtBad : (column : ℕ) (sent : List ℕ) → script_line line ≡ Err column → StaysServing d old new → IsTextCut (bad_text (n + 1) column) sent → Appends written now sent
+    StopsAtBad : (column : ℕ) (sent : List ℕ) → IsBadLine (in_files old) d.world line column → StaysServing d old new → IsTextCut (bad_text (n + 1) column) sent → Appends written now sent
         → WriteStops n d line old new written now
 
   -- one line was answered, or the run ended at it
   abbrev pub AnswerIs : ℕ → Doubted → List ℕ → Option Status → Yard R g → Yard R g → Option (List ℕ) → Option (List ℕ) → Type 0
   AnswerIs n d line None old new written now = (text : List ℕ) × Did d line old new text × Appends written now text
   AnswerIs n d line (Some (BadLine at column)) old new written now =
-      (at ≡ n + 1) × (script_line line ≡ Err column) × StaysServing d old new × Appends written now (bad_text at column)
+      (at ≡ n + 1) × IsBadLine (in_files old) d.world line column × StaysServing d old new × Appends written now (bad_text at column)
   AnswerIs n d line (Some WriteFault) old new written now = WriteStops n d line old new written now
   AnswerIs n d line (Some OutOfMemory) old new written now = MemoryStops d line old new × Appends written now []
   AnswerIs n d line (Some other) old new written now = ⊥

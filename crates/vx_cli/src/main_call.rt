@@ -1,10 +1,10 @@
 // The top call.
-ghost use Rattle.std.specs.Prelude.{◌≡◌, ◌≤◌, ◌↔◌, ℕ, List, Bool, Option, Some, None, map};
+ghost use Rattle.std.specs.Prelude.{◌≡◌, ◌⊎◌, ◌≤◌, ◌↔◌, ℕ, List, Bool, Option, Some, None, map};
 ghost use Rattle.std.specs.String.{string_bytes};
 ghost use Rattle.vx_stream.specs.Causes.{StreamRose};
 ghost use Rattle.vx_script.specs.Lines.{split_lines};
 ghost use Rattle.vx_yard.specs.Holds.{AreFresh, RacksTell, rack_faults};
-ghost use Rattle.vx_cli.specs.Complete.{IsGoodScript, IsUncut, FirstBad, IsTooLong, IsStillCount, AreStill, IsClean};
+ghost use Rattle.vx_cli.specs.Complete.{IsGoodScript, IsUncut, FirstBad, IsTooLong, IsStillCount, AreStill, IsClean, StopsOpen};
 ghost use Rattle.vx_cli.specs.Ends.{RunIs};
 ghost use Rattle.vx_cli.specs.Runs.{LeavesRacks};
 ghost use Rattle.vx_cli.specs.Words.{run_words};
@@ -45,16 +45,18 @@ pub fn vx_main<H: Threads + Wait + Sync, I: Source, O: Sink, R: Rack, G: Gate>(
     ensures read { result ≡ Status.ReadFault → StreamRose (I.faults source.old) (I.faults source.new) }
     ensures write_later { O.faults sink.old ≤ O.faults sink.new }
     ensures write { result ≡ Status.WriteFault → StreamRose (O.faults sink.old) (O.faults sink.new) }
-    // Unless a fault of an end or want of memory cut the run off: a good script is done, the first line that is wrong is
+    // Unless a fault of an end or want of memory cut the run off, or it ended at an open line: a good script is done, the first line that is wrong is
     // answered as such, and so is a line too many.
     ensures complete { (files : Bool) → run_words (map string_bytes words.now) ≡ Some files
-        → (input : List ℕ) → I.left source.old ≡ Some input → IsGoodScript input → IsUncut result → result ≡ Status.Done }
+        → (input : List ℕ) → I.left source.old ≡ Some input → IsGoodScript input → IsUncut result
+        → (result ≡ Status.Done) ⊎ StopsOpen (RacksTell R.meaning racks.new.items) files result (split_lines input) }
     ensures bad { (files : Bool) → run_words (map string_bytes words.now) ≡ Some files
         → (input : List ℕ) → I.left source.old ≡ Some input → (line column : ℕ) → FirstBad input line column → IsUncut result
-        → result ≡ Status.BadLine line column }
+        → (result ≡ Status.BadLine line column) ⊎ StopsOpen (RacksTell R.meaning racks.new.items) files result (split_lines input) }
     ensures long { (files : Bool) → run_words (map string_bytes words.now) ≡ Some files
-        → (input : List ℕ) → I.left source.old ≡ Some input → IsTooLong input → IsUncut result → result ≡ Status.TooLong }
-    // Where no count rose, a good script is done with no failed call in any line, unless memory ran out.
+        → (input : List ℕ) → I.left source.old ≡ Some input → IsTooLong input → IsUncut result
+        → (result ≡ Status.TooLong) ⊎ StopsOpen (RacksTell R.meaning racks.new.items) files result (split_lines input) }
+    // Where no count rose, a good script is done with no failed call in any line, unless memory ran out or it ended at an open line.
     ensures clean { (files : Bool) → run_words (map string_bytes words.now) ≡ Some files
         → (input : List ℕ) → I.left source.old ≡ Some input → IsGoodScript input
         → IsStillCount (I.faults source.old) (I.faults source.new) → IsStillCount (O.faults sink.old) (O.faults sink.new)

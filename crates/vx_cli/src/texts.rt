@@ -30,3 +30,13 @@ pub fn bad<O: Sink>(alloc: Global, sink: &mut O, line: u64, column: u64) -> Stat
         Err(_) => Status::OutOfMemory,
     }
 }
+
+/// Writes the same of an open line: it is answered as one whose kind is not built, wrong at its first byte.
+pub fn unbuilt<O: Sink>(alloc: Global, sink: &mut O, line: u64) -> Status
+    ensures bad { BadIs line 1 result (O.written sink.old) (O.written sink.new) }
+    ensures reading { result ≡ Status.ReadFault → ⊥ }
+    ensures later { O.faults sink.old ≤ O.faults sink.new }
+    ensures cause { result ≡ Status.WriteFault → StreamRose (O.faults sink.old) (O.faults sink.new) }
+{
+    bad(alloc, sink, line, 1)
+}

@@ -9,7 +9,7 @@ ghost use Rattle.vx_cli.specs.Turns.{AnswerIs, TurnIs};
 use crate::Status;
 use crate::line::line_of;
 use crate::reader::{Next, ReadError, next_line};
-use crate::texts::bad;
+use crate::texts::{bad, unbuilt};
 use std::alloc::Global;
 use vx_disk::Rack;
 use vx_model::limits::MOST_NUMBER;
@@ -41,6 +41,7 @@ fn answer<O: Sink, R: Rack>(
         Ok(Some(words)) => match answer_line(yard, alloc, &words, sink) {
             Ok(()) => None,
             Err(LineStop::WriteFault) => Some(Status::WriteFault),
+            Err(LineStop::Open) => Some(unbuilt(alloc, sink, number + 1)),
             Err(LineStop::OutOfMemory) => Some(Status::OutOfMemory),
         },
         Err(LineErr::Bad { line, column }) => Some(bad(alloc, sink, line, column)),

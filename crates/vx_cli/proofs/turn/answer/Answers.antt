@@ -1,8 +1,9 @@
 -- `answer`: clause answer; what `answer_line` asks.
-use Rattle.std.proofs.Common.{[], ℕ, Ok, ap, subst, ◌∙◌}
+use Rattle.std.proofs.Common.{[], ℕ, Ok, ap, arith, subst, ◌∙◌}
 use Rattle.vx_stream.proofs.SendLemmas.{appends_none}
 use Rattle.vx_cli.specs.Turns.{BadIs, StopsAtReply, StopsBefore}
-use Rattle.vx_cli.proofs.TurnLemmas.{stays, did_nothing, did_line, bad_answer, memory_answer}
+use Rattle.vx_events.proofs.Places.{some_same}
+use Rattle.vx_cli.proofs.TurnLemmas.{stays, did_nothing, did_line, bad_answer, memory_answer, open_answer, rose_behind}
 use Rattle.vx_cli.proofs.StepLemmas.{line_built}
 use Rattle.vx_cli.proofs.turn.answer.Goals as goal
 
@@ -27,6 +28,18 @@ returns-in-Ok-Some-clause-answer g c =
     let says = c.in-Ok-Some.ensures ∙ ap Ok c.in-Ok-Some.field-0-is in
     λ w stands. let is = rw c.in-Err-OutOfMemory-answer_line.field-0-is at c.in-Err-OutOfMemory-answer_line.ensures.line w stands in
     (memory_answer w c.args.line.now c.in-Ok-Some.words _ _ says stands c.in-Err-OutOfMemory-answer_line.ensures.told is.0, is.1)
+
+pub returns-in-Err-Open-clause-answer : goal.returns-in-Err-Open-clause-answer
+returns-in-Err-Open-clause-answer g c =
+    let says = c.in-Ok-Some.ensures ∙ ap Ok c.in-Ok-Some.field-0-is in
+    λ w stands. let is = rw c.in-Err-Open.field-0-is at c.in-Err-Open.ensures.line w stands in
+    open_answer c.args.number w c.args.line.now c.in-Ok-Some.words c.unbuilt.result _ _ _ _ _ says stands c.in-Err-Open.ensures.told is c.unbuilt.ensures.bad
+
+pub returns-in-Err-Open-clause-later : goal.returns-in-Err-Open-clause-later
+returns-in-Err-Open-clause-later g c = omega (arith, c.in-Err-Open.ensures.later, c.unbuilt.ensures.later)
+
+pub returns-in-Err-Open-clause-cause : goal.returns-in-Err-Open-clause-cause
+returns-in-Err-Open-clause-cause g c = λ is. rose_behind _ _ _ c.in-Err-Open.ensures.later (c.unbuilt.ensures.cause (some_same is))
 
 pub returns-in-Err-Bad-clause-answer : goal.returns-in-Err-Bad-clause-answer
 returns-in-Err-Bad-clause-answer g c =
