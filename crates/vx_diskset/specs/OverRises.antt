@@ -24,6 +24,7 @@ use Rattle.vx_model.specs.declared.errors.Stop.TheVariants.{No as Refused, OutOf
 use Rattle.vx_model.specs.declared.no.No.TheVariants.{Device, Limit}
 use Rattle.vx_model.specs.declared.site.SPhase.TheVariants.{Quiet}
 use Rattle.vx_model.specs.declared.site.SiteState.TheVariants.{Up as IsUp}
+use Rattle.vx_model.specs.declared.site.SiteState.TheVariants.{Up as IsUp}
 use Rattle.vx_model.specs.declared.units.Units.{Units}
 use Rattle.vx_srl.specs.Views.{most_number}
 use Rattle.vx_diskset.specs.Aboves.{site_in}
@@ -32,11 +33,14 @@ use Rattle.vx_diskset.specs.Holds.{KeptBeside, most_header}
 use Rattle.vx_diskset.specs.Layouts.{units_of}
 use Rattle.vx_diskset.specs.Noted.{AgreesStill, SiteNoted, below_rvg}
 use Rattle.vx_diskset.specs.Recovers.{CutFits, KeptIs, still_cut}
+use Rattle.vx_diskset.specs.Recovers.{CutFits, KeptIs, still_cut}
 use Rattle.vx_diskset.specs.Stands.{SiteStands}
 use Rattle.vx_diskset.specs.declared.disk_set.DiskSet.{DiskSet}
 use Rattle.vx_diskset.specs.declared.disk_set.DiskSet.TheVariants.{OfGroup, Over}
 use Rattle.vx_diskset.specs.declared.group_set.CutWrite.{CutWrite}
+use Rattle.vx_diskset.specs.declared.group_set.CutWrite.{CutWrite}
 use Rattle.vx_diskset.specs.declared.group_set.GroupSet.{GroupSet}
+use Rattle.vx_diskset.specs.declared.group_set.KeptWrite.{KeptWrite}
 use Rattle.vx_diskset.specs.declared.group_set.KeptWrite.{KeptWrite}
 use Rattle.vx_diskset.specs.declared.over_set.OverSet.{OverSet}
 
@@ -187,3 +191,30 @@ module _ {R : Type 0} {g : Ghosts R} where
       (beside : KeptBeside) (n : Node) (note : GroupNode) → SiteStands beside n (Over old) → n.state ≡ IsUp → n.halted ≡ None → SiteNoted n note (Over old) → note.cut ≡ None → LookedOver beside n note cut old new r
   LooksOver cut (Over old) other r = ⊥
   LooksOver cut old new r = Unit {0}
+
+  -- ---- what is read of a write that was cut, where the replicated volume group came up
+
+  pub record LooksFor (beside : KeptBeside) (n : Node) (note : GroupNode) (cut : Option CutWrite) (old : GroupSite R g) (s : OverSet R g) (kept : Option KeptWrite) : Type 0 where
+    pub is : KeptIs note (site_disks old) cut kept
+    pub noted : SiteNoted (worked n) note (Over s)
+    pub stands : SiteStands beside (worked n) (Over s)
+
+  -- a disk failed in it: the site is down again, with what its log kept, and the write is cut still
+  pub record LooksLost (beside : KeptBeside) (n : Node) (note : GroupNode) (cut : Option CutWrite) (old : GroupSite R g) (s : OverSet R g) (stop : Stop) : Type 0 where
+    pub disk : ℕ
+    pub why : stop ≡ Refused (Device disk)
+    pub fits : CutFits note cut
+    pub rose : Rose ((site_disks old).disk_faults disk) ((site_disks (site_in s)).disk_faults disk)
+    pub noted : SiteNoted (crashed (with_note (still_cut cut note) n) n.safe) (still_cut cut note) (Over s)
+    pub stands : SiteStands beside (crashed (with_note (still_cut cut note) n) n.safe) (Over s)
+
+  abbrev pub LooksOver : KeptBeside → Node → GroupNode → Option CutWrite → GroupSite R g → DiskSet R g → Result (Option KeptWrite) Stop → Type 0
+  LooksOver beside n note cut old (Over s) (Ok kept) = LooksFor beside n note cut old s kept
+  LooksOver beside n note cut old (Over s) (Err stop) = LooksLost beside n note cut old s stop
+  LooksOver beside n note cut old other r = ⊥
+
+  -- so it is of disks below a replicated volume group, of a site that is up; of others nothing is said here
+  abbrev pub LooksAbove : Option CutWrite → DiskSet R g → DiskSet R g → Result (Option KeptWrite) Stop → Type 0
+  LooksAbove cut (Over o) new r =
+      (beside : KeptBeside) (n : Node) (note : GroupNode) → SiteStands beside n (Over o) → n.state ≡ IsUp → n.halted ≡ None → SiteNoted n note (Over o) → LooksOver beside n note cut (site_in o) new r
+  LooksAbove cut old new r = Unit {0}

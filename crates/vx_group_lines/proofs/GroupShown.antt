@@ -91,19 +91,19 @@ module _ {R : Type 0} {g : Ghosts R} where
 
   -- how a site over a group stands
   pub shows_group : (d : Doubted) (y : Yard R g) (name : List ℕ) (s : ℕ) (e : DiskSet R g) (view : SiteView) → GroupAt d y name s e → slice_get y.disk_sets.items s ≡ Some e
-      → ((f : SiteFacts) (c : Config) → slice_get y.facts.items s ≡ Some f → HasConfig s c y → view ≡ view_with f (Some c))
-      → ((f : SiteFacts) → slice_get y.facts.items s ≡ Some f → HasNoConfig s y → view ≡ view_with f None) → view ≡ grouped_view (d.world.nodes s) (note_at (d.world.nodes s))
+      → ((f : SiteFacts) (c : Config) → slice_get y.facts.items s ≡ Some f → f.rvg ≡ None → HasConfig s c y → view ≡ view_with f (Some c))
+      → ((f : SiteFacts) → slice_get y.facts.items s ≡ Some f → f.rvg ≡ None → HasNoConfig s y → view ≡ view_with f None) → view ≡ grouped_view (d.world.nodes s) (note_at (d.world.nodes s))
   shows_group d y name s e view at there up off =
       let n : Node = d.world.nodes s in
       let set_there : slice_get y.disk_sets.items s ≡ Some (OfGroup at.set) = there ∙ ap (λ (x : DiskSet R g). Some x) at.is_set in
       shows_site n at.set.site view at.stands.stands at.made
-      (λ c is. up (fact_of_group n (note_at n)) c at.fact (record { disk_set = OfGroup at.set; there = set_there; is = is }))
-      (λ is. off (fact_of_group n (note_at n)) at.fact (record { disk_set = OfGroup at.set; there = set_there; is = is }))
+      (λ c is. up (fact_of_group n (note_at n)) c at.fact refl (record { disk_set = OfGroup at.set; there = set_there; is = is }))
+      (λ is. off (fact_of_group n (note_at n)) at.fact refl (record { disk_set = OfGroup at.set; there = set_there; is = is }))
 
   pub status_leads : (d : Doubted) (y : Yard R g) (name : List ℕ) (s : ℕ) (e : DiskSet R g) (view : SiteView) → StandsFor d y → seat_of y.facts.items name ≡ Some s → over_group_at d.world name ≡ true
       → slice_get y.disk_sets.items s ≡ Some e
-      → ((f : SiteFacts) (c : Config) → slice_get y.facts.items s ≡ Some f → HasConfig s c y → view ≡ view_with f (Some c))
-      → ((f : SiteFacts) → slice_get y.facts.items s ≡ Some f → HasNoConfig s y → view ≡ view_with f None) → LeadsOver d (Status name) (Shown view) y y
+      → ((f : SiteFacts) (c : Config) → slice_get y.facts.items s ≡ Some f → f.rvg ≡ None → HasConfig s c y → view ≡ view_with f (Some c))
+      → ((f : SiteFacts) → slice_get y.facts.items s ≡ Some f → f.rvg ≡ None → HasNoConfig s y → view ≡ view_with f None) → LeadsOver d (Status name) (Shown view) y y
   status_leads d y name s e view stands seat over there up off =
       let n : Node = d.world.nodes s in
       let at : GroupAt d y name s e = group_at d y name s e stands seat over there in

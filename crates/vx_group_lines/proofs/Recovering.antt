@@ -28,7 +28,7 @@ use Rattle.vx_grouped.specs.declared.group_site.GroupSite.{GroupSite}
 use Rattle.vx_diskset.proofs.KeepsFailing.{failing_then}
 use Rattle.vx_diskset.specs.Asked.{SameFailing}
 use Rattle.vx_diskset.specs.DiskSets.{Later}
-use Rattle.vx_diskset.specs.GroupCalls.{AtSite, OnSites}
+use Rattle.vx_diskset.specs.GroupCalls.{AtSite, OnSites, config_in}
 use Rattle.vx_diskset.specs.Recovers.{LooksAt, RaisesGroup, RaisesMaps}
 use Rattle.vx_diskset.specs.Stands.{IsRackTold, faults_at}
 use Rattle.vx_diskset.specs.declared.disk_set.DiskSet.{DiskSet}
@@ -41,7 +41,7 @@ use Rattle.vx_events.specs.Doubts.{IsAs, run_as}
 use Rattle.vx_events.specs.GroupEnds.{GroupEnds}
 use Rattle.vx_events.specs.GroupLines.{is_over_group, noting, crash_first}
 use Rattle.vx_events.specs.GroupNotes.{note_at, NotesShort, no_note}
-use Rattle.vx_events.specs.GroupViews.{plain_fact}
+use Rattle.vx_events.specs.GroupViews.{plain_fact, volumes_of}
 use Rattle.vx_events.specs.StepsOver.{fact_of_group, group_place}
 use Rattle.vx_events.specs.Parts.{StopsDown, StopsInPart, StopsShort, raises_first}
 use Rattle.vx_events.specs.declared.said.Said.{Said}
@@ -68,6 +68,7 @@ use Rattle.vx_group_lines.proofs.Arriving.{Arrives, arrives_crash, noted_at}
 use Rattle.vx_group_lines.proofs.GroupAt.{GroupAt, down_noted, group_by, up_noted, up_notes, lit_up}
 use Rattle.vx_group_lines.proofs.GroupCalls.{Called, maps_were, set_then}
 use Rattle.vx_group_lines.proofs.GroupMarks.{begins_at, noting_same}
+use Rattle.vx_group_lines.proofs.GroupShown.{config_at}
 use Rattle.vx_group_lines.proofs.MapComing.{MapsCame, bright_before, comes_up, config_with, recovered_so, returns_with}
 use Rattle.vx_group_lines.proofs.MapGoing.{on_both, up_config}
 use Rattle.vx_group_lines.proofs.Rising.{has_up, refused_as}
@@ -336,21 +337,20 @@ module _ {R : Type 0} {g : Ghosts R} where
   seen_up s old mid f x at is = ap (λ (fs : List SiteFacts). slice_get fs s) is ∙ get-set_same old.facts.items s x (slice_get_within old.facts.items s f at)
 
   -- its answer, where what is kept was read
-  pub so_up : (s : ℕ) (old mid new : Yard R g) (before after : DiskSet R g) (kept : Option KeptWrite) (shown : Option Kept) (view : SiteView) (seen : SiteFacts) → KeepsRest old mid → slice_get mid.disk_sets.items s ≡ Some before
-      → new.facts.items ≡ mid.facts.items → new.assemblies ≡ mid.assemblies → mid.assemblies ≡ old.assemblies → slice_get new.disk_sets.items s ≡ Some after → slice_get new.facts.items s ≡ Some seen → shown ≡ kept_shown seen.volumes kept
+  pub so_up : (s : ℕ) (old mid new : Yard R g) (before after : DiskSet R g) (kept : Option KeptWrite) (shown : Option Kept) (view : SiteView) → KeepsRest old mid → slice_get mid.disk_sets.items s ≡ Some before
+      → new.facts.items ≡ mid.facts.items → new.assemblies ≡ mid.assemblies → mid.assemblies ≡ old.assemblies → slice_get new.disk_sets.items s ≡ Some after → shown ≡ kept_shown (volumes_of (config_in after)) kept
       → ((f : SiteFacts) (c : Config) → slice_get old.facts.items s ≡ Some f → HasConfig s c old → mid.facts.items ≡ slice_set old.facts.items s (group_up_facts (map plain_fact c.volumes) f))
-      → ((f : SiteFacts) (c : Config) → slice_get new.facts.items s ≡ Some f → HasConfig s c new → view ≡ view_with f (Some c))
+      → ((f : SiteFacts) (c : Config) → slice_get new.facts.items s ≡ Some f → f.rvg ≡ None → HasConfig s c new → view ≡ view_with f (Some c))
       → (f : SiteFacts) (c : Config) → slice_get old.facts.items s ≡ Some f → AtSite (λ x. site_config x ≡ Some c) before → StandsSo s f c after (Ok kept) old new (Ok (Resumed view shown))
-  so_up s old mid new before after kept shown view seen rest there facts loads held here looked_at shows noted views f c at is =
+  so_up s old mid new before after kept shown view rest there facts loads held here shows noted views f c at is =
       let x : SiteFacts = group_up_facts (map plain_fact c.volumes) f in
       let marked : mid.facts.items ≡ slice_set old.facts.items s x = noted_up s old mid before f c rest there at is noted in
-      let now : slice_get new.facts.items s ≡ Some x = ap (λ (fs : List SiteFacts). slice_get fs s) facts ∙ seen_up s old mid f x at marked in
-      let same : seen ≡ x = some_same (sym looked_at ∙ now) in (
+      let now : slice_get new.facts.items s ≡ Some x = ap (λ (fs : List SiteFacts). slice_get fs s) facts ∙ seen_up s old mid f x at marked in (
         facts ∙ marked,
         loads ∙ held,
         λ k has.
-            ap (λ (v : SiteView). Ok (Resumed v shown)) (views x k now (record { disk_set = after; there = here; is = has }))
-            ∙ ap (λ (o : Option Kept). Ok (Resumed (view_with x (Some k)) o)) (shows ∙ ap (λ (y : SiteFacts). kept_shown y.volumes kept) same),
+            ap (λ (v : SiteView). Ok (Resumed v shown)) (views x k now refl (record { disk_set = after; there = here; is = has }))
+            ∙ ap (λ (o : Option Kept). Ok (Resumed (view_with x (Some k)) o)) (shows ∙ ap (λ (o : Option Config). kept_shown (volumes_of o) kept) (config_at after (Some k) has)),
       )
 
   -- and where it was not

@@ -154,9 +154,9 @@ module _ {R : Type 0} {g : Ghosts R} where
         (mid : Yard R g) (half : HalfWay mid) (result : Result Said OutOfMemory)
         (mapped : (set : GroupSet R g) → after ≡ OfGroup set → StandMaps next set.site) (renewed : next.dark ≡ false → IsTrue (site_disks m).tells → MapsRecovered (note_at (e.world.nodes s)) next)
       where
-        sizes : (v : ℕ) → next.bytes.size v ≡ blocks_of c.volumes v
-        sizes v =
-            config.sizes v ∙ ap (λ (vs : List VolumeEntry). blocks_of vs v) (some_config config.now c (sym (config_is next.config config.now config.noted_now.is config.noted_now.spells) ∙ reads))
+        sizes : (k : Config) → config_of next.config ≡ Some (at_serial 0 k) → (v : ℕ) → next.bytes.size v ≡ blocks_of k.volumes v
+        sizes k is v =
+            config.sizes v ∙ ap (λ (vs : List VolumeEntry). blocks_of vs v) (some_config config.now k (sym (config_is next.config config.now config.noted_now.is config.noted_now.spells) ∙ is))
 
         -- contents that are known were told of the disks that came up
         known : (set : GroupSet R g) → after ≡ OfGroup set → IsKnown (IsTold new) next → IsTrue (site_disks m).tells
@@ -216,7 +216,7 @@ module _ {R : Type 0} {g : Ghosts R} where
             has = has_up (risen_node next n) next t.set.site holds
 
             shown : Option Kept
-            shown = kept_shown (map plain_fact c.volumes) kept
+            shown = kept_shown has.config.volumes kept
 
             view : SiteView
             view = view_with (group_up_facts (map plain_fact c.volumes) (fact_of_group n note)) (Some has.config)
@@ -246,8 +246,8 @@ module _ {R : Type 0} {g : Ghosts R} where
 
             shows : IsTrue (site_disks m).tells → (d : Doubted) → ComesDown d e s → ShowsKept (IsTold new) (note_at (d.world.nodes s)).cut next shown
             shows tells d comes =
-                subst (λ (w : Option Write). ShowsKept (IsTold new) w next (kept_shown (map plain_fact c.volumes) kept)) (cut_for d comes)
-                (shows_cut (IsTold new) next (site_disks m) c (λ _. tells) reads sizes cut kept (λ x is. lies_now tells x (was_fits x (sym cut_is ∙ is))) is_kept)
+                subst (λ (w : Option Write). ShowsKept (IsTold new) w next (kept_shown has.config.volumes kept)) (cut_for d comes)
+                (shows_cut (IsTold new) next (site_disks m) has.config (λ _. tells) has.reads (sizes has.config has.reads) cut kept (λ x is. lies_now tells x (was_fits x (sym cut_is ∙ is))) is_kept)
 
             ends : (d : Doubted) (name : List ℕ) → ComesDown d e s → GroupEnds (IsTold new) d (Recover name) s (calls s old new MOST_DISKS) (Resumed view shown) (noted_at (happened e (Regroup s) false) s next)
             ends d name comes =

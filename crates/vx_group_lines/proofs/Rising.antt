@@ -1,5 +1,5 @@
 -- What a recovery of a site that is down leads a yard to, where its group comes up.
-use Rattle.std.proofs.Common.{◌≡◌, ◌∙◌, ◌⊎◌, ⊎_elim, ◌/◌, ◌<◌, ℕ, zero, suc, false, List, [], ◌∷◌, ◌++◌, length, map, ap, sym, subst, refl, arith, IsTrue}
+use Rattle.std.proofs.Common.{◌≡◌, ◌∙◌, ◌⊎◌, ⊎_elim, ◌/◌, ◌<◌, ℕ, zero, suc, false, List, [], ◌∷◌, ◌++◌, length, ap, sym, subst, refl, arith, IsTrue}
 use Rattle.std.specs.Prelude.{Option, Some, None, slice_get}
 use Rattle.vx_model.specs.Content.{Write}
 use Rattle.vx_model.specs.declared.site.SiteState.{SiteState}
@@ -15,7 +15,6 @@ use Rattle.vx_history.specs.Groups.{GroupNode}
 use Rattle.vx_history.specs.Steps.{burned, group_up, worked}
 use Rattle.vx_history.specs.World.{Fuse as FuseOf, Node, NoFuse}
 use Rattle.vx_history.specs.declared.event.Event.TheVariants.{Crash as CrashAt, Group as GroupAt}
-use Rattle.vx_order.specs.declared.facts.VolumeFacts.{VolumeFacts}
 use Rattle.vx_report.specs.declared.view.Kept.{Kept}
 use Rattle.vx_grouped.proofs.ReadyLemmas.{imported_same}
 use Rattle.vx_grouped.specs.Ends.{plain_write}
@@ -36,7 +35,7 @@ use Rattle.vx_events.specs.Doubts.{run_as}
 use Rattle.vx_events.specs.GroupLines.{crash_first, group_recovery, unread_events}
 use Rattle.vx_events.specs.GroupNotes.{IsKnown}
 use Rattle.vx_events.specs.GroupReplies.{ShowsKept}
-use Rattle.vx_events.specs.GroupViews.{config_of, plain_fact, volumes_of}
+use Rattle.vx_events.specs.GroupViews.{config_of, volumes_of}
 use Rattle.vx_yard.specs.Yards.{IsTold}
 use Rattle.vx_yard.specs.declared.yard.Yard.{Yard}
 use Rattle.vx_group_lines.specs.Rises.{ComesDown, kept_of_volume, kept_shown}
@@ -112,22 +111,17 @@ some_entry [] v low = absurd (omega (arith, low))
 some_entry (x ∷ vs) zero low = (x, refl)
 some_entry (x ∷ vs) (suc v) low = some_entry vs v low
 
-at_map : (vs : List VolumeEntry) (v : ℕ) (entry : VolumeEntry) → slice_get vs v ≡ Some entry → slice_get (map plain_fact vs) v ≡ Some (plain_fact entry)
-at_map [] v entry is = absurd (cc)
-at_map (x ∷ vs) zero entry is = ap (λ (k : VolumeEntry). Some (plain_fact k)) (some_same is)
-at_map (x ∷ vs) (suc v) entry is = at_map vs v entry is
-
 -- what is shown of it
 module _ (told : Type 0) (next : GroupNode) (m : Meaning) (c : Config) (tells : IsKnown told next → IsTrue m.tells) (is_config : config_of next.config ≡ Some (at_serial 0 c)) (sizes : (v : ℕ) → next.bytes.size v ≡ blocks_of c.volumes v) where
-  shows_one : (x : CutWrite) (k : KeptWrite) → FitsPlain next x.volume x.block (length x.bytes) → KeptIs next m (Some x) (Some k) → ShowsKept told (Some (plain_write x.volume x.block x.bytes)) next (kept_shown (map plain_fact c.volumes) (Some k))
+  shows_one : (x : CutWrite) (k : KeptWrite) → FitsPlain next x.volume x.block (length x.bytes) → KeptIs next m (Some x) (Some k) → ShowsKept told (Some (plain_write x.volume x.block x.bytes)) next (kept_shown c.volumes (Some k))
   shows_one x k fits is =
       let some : 0 < blocks_of c.volumes x.volume = omega (arith, fits.some, fits.within, fits.whole, sizes x.volume) in
       let entry = some_entry c.volumes x.volume some in
       let write : k.write ≡ x = is.0 in
       let view : Kept = record { volume = entry.0.name; block = k.write.block; count = length k.write.bytes / 512; bits = k.bits } in
-      let found : slice_get (map plain_fact c.volumes) k.write.volume ≡ Some (plain_fact entry.0) = ap (λ (y : CutWrite). slice_get (map plain_fact c.volumes) y.volume) write ∙ at_map c.volumes x.volume entry.0 entry.1 in (
+      let found : slice_get c.volumes k.write.volume ≡ Some entry.0 = ap (λ (y : CutWrite). slice_get c.volumes y.volume) write ∙ entry.1 in (
         view,
-        ap (λ (o : Option VolumeFacts). kept_of_volume o k) found,
+        ap (λ (o : Option VolumeEntry). kept_of_volume o k) found,
         record {
           volume = entry.0;
           is_volume = ap (λ (o : Option Config). slice_get (volumes_of o) x.volume) is_config ∙ entry.1;
@@ -139,8 +133,8 @@ module _ (told : Type 0) (next : GroupNode) (m : Meaning) (c : Config) (tells : 
       )
 
   pub shows_cut : (o : Option CutWrite) (kept : Option KeptWrite) → ((x : CutWrite) → o ≡ Some x → FitsPlain next x.volume x.block (length x.bytes)) → KeptIs next m o kept
-      → ShowsKept told (cut_value o) next (kept_shown (map plain_fact c.volumes) kept)
-  shows_cut None kept fits is = ap (λ (k : Option KeptWrite). kept_shown (map plain_fact c.volumes) k) is
+      → ShowsKept told (cut_value o) next (kept_shown c.volumes kept)
+  shows_cut None kept fits is = ap (λ (k : Option KeptWrite). kept_shown c.volumes k) is
   shows_cut (Some x) None fits is = absurd (is (fits x refl))
   shows_cut (Some x) (Some k) fits is = shows_one x k (fits x refl) is
 

@@ -10,6 +10,7 @@ use Rattle.vx_history.specs.World.{Node}
 use Rattle.vx_history.specs.declared.event.Event.TheVariants.{Crash as CrashAt}
 use Rattle.vx_disk.specs.declared.shelf.Shelf.{Ghosts}
 use Rattle.vx_config.specs.declared.config.Config.{Config}
+use Rattle.vx_config.specs.declared.entry.VolumeEntry.{VolumeEntry}
 use Rattle.vx_grouped.specs.GroupSites.{UpNoted, site_config}
 use Rattle.vx_grouped.specs.SiteMaps.{StaysMapped}
 use Rattle.vx_diskset.specs.Asked.{SameFailing}
@@ -20,7 +21,6 @@ use Rattle.vx_diskset.specs.declared.disk_set.DiskSet.{DiskSet}
 use Rattle.vx_diskset.specs.declared.group_set.CutWrite.{CutWrite}
 use Rattle.vx_diskset.specs.declared.group_set.KeptWrite.{KeptWrite}
 use Rattle.vx_order.specs.declared.facts.SiteFacts.{SiteFacts}
-use Rattle.vx_order.specs.declared.facts.VolumeFacts.{VolumeFacts}
 use Rattle.vx_report.specs.declared.view.Kept.{Kept}
 use Rattle.vx_script.specs.declared.line.ScriptLine.TheVariants.{Recover}
 use Rattle.vx_events.specs.Fails.{Fails}
@@ -44,11 +44,11 @@ use Rattle.vx_group_lines.specs.Views.{view_with}
 -- ---- what is shown of a write that was cut
 
 -- with the name of its volume; nothing of a volume that is not there
-abbrev pub kept_of_volume : Option VolumeFacts → KeptWrite → Option Kept
+abbrev pub kept_of_volume : Option VolumeEntry → KeptWrite → Option Kept
 kept_of_volume None kept = None
 kept_of_volume (Some volume) kept = Some (record { volume = volume.name; block = kept.write.block; count = length kept.write.bytes / BLOCK; bits = kept.bits })
 
-abbrev pub kept_shown : List VolumeFacts → Option KeptWrite → Option Kept
+abbrev pub kept_shown : List VolumeEntry → Option KeptWrite → Option Kept
 kept_shown volumes None = None
 kept_shown volumes (Some kept) = kept_of_volume (slice_get volumes kept.write.volume) kept
 
@@ -70,7 +70,7 @@ module _ {R : Type 0} {g : Ghosts R} where
   StandsSo s f c after (Ok kept) old new result =
       (new.facts.items ≡ slice_set old.facts.items s (group_up_facts (map plain_fact c.volumes) f)) × (new.assemblies ≡ old.assemblies)
       × ((k : Config) → AtSite (λ x. site_config x ≡ Some k) after
-      → result ≡ Ok (Resumed (view_with (group_up_facts (map plain_fact c.volumes) f) (Some k)) (kept_shown (map plain_fact c.volumes) kept)))
+      → result ≡ Ok (Resumed (view_with (group_up_facts (map plain_fact c.volumes) f) (Some k)) (kept_shown k.volumes kept)))
   StandsSo s f c after (Err stop) old new result =
       (new.facts.items ≡ slice_set old.facts.items s (down_fact (group_up_facts (map plain_fact c.volumes) f))) × LetGo s old.assemblies.items new.assemblies.items
       × (result ≡ reply_to stop)

@@ -1,7 +1,8 @@
 // The line that recovers a site whose disks are a group.
-ghost use Rattle.std.specs.Prelude.{◌≡◌, ◌<◌, [], IfOk, Some, length, slice_get, slice_set, true};
+ghost use Rattle.std.specs.Prelude.{◌≡◌, ◌<◌, [], IfOk, Some, length, option_copied, slice_get, slice_set, true};
 ghost use Rattle.vx_diskset.specs.Asked.{SameFailing};
 ghost use Rattle.vx_events.specs.GroupLines.{is_over_group};
+ghost use Rattle.vx_events.specs.GroupViews.{volumes_of};
 ghost use Rattle.vx_group_lines.specs.Noting.{KeepsRest};
 ghost use Rattle.vx_group_lines.specs.Rises.{RisesIs, StoodUp, kept_shown};
 ghost use Rattle.vx_model.specs.declared.site.SiteState.TheVariants.{Down as DownState};
@@ -21,12 +22,13 @@ use crate::noting::{group_stopped, note_up};
 use crate::views::view_at;
 use std::alloc::Global;
 use std::mem;
+use vx_config::{Config, VolumeEntry};
 use vx_disk::Rack;
 use vx_diskset::{CutWrite, DiskSet, KeptWrite};
 use vx_events::Said;
 use vx_model::limits::BLOCK;
 use vx_model::{Name, OutOfMemory, SiteState, Stop};
-use vx_order::{SiteFacts, VolumeRoom};
+use vx_order::VolumeRoom;
 use vx_report::Kept;
 use vx_site_lines::ViewRoom;
 use vx_yard::falling::go_down;
@@ -53,10 +55,10 @@ impl RiseRoom {
 }
 
 // What is kept of a write, with the name of its volume. Nothing is said of a volume that the group has not.
-fn shown(facts: &SiteFacts, kept: &KeptWrite) -> Option<Kept>
-    ensures { result ≡ kept_shown facts.now.volumes (Some kept.now) }
+fn shown(volumes: &[VolumeEntry], kept: &KeptWrite) -> Option<Kept>
+    ensures { result ≡ kept_shown volumes.now (Some kept.now) }
 {
-    match facts.volumes.as_slice().get(kept.write.volume as usize) {
+    match volumes.get(kept.write.volume as usize) {
         Some(volume) => Some(Kept {
             volume: volume.name,
             block: kept.write.block,
@@ -67,11 +69,14 @@ fn shown(facts: &SiteFacts, kept: &KeptWrite) -> Option<Kept>
     }
 }
 
-fn shown_if(facts: &SiteFacts, kept: Option<KeptWrite>) -> Option<Kept>
-    ensures { result ≡ kept_shown facts.now.volumes kept }
+fn shown_if(config: Option<&Config>, kept: Option<KeptWrite>) -> Option<Kept>
+    ensures { result ≡ kept_shown (volumes_of (option_copied config.entry)) kept }
 {
     match kept {
-        Some(kept) => shown(facts, &kept),
+        Some(kept) => match config {
+            Some(config) => shown(config.volumes.as_slice(), &kept),
+            None => None,
+        },
         None => None,
     }
 }
@@ -115,7 +120,7 @@ fn stand_up<R: Rack>(
     yard.disk_sets[site] = disk_set;
     match looked {
         Ok(kept) => {
-            let kept = shown_if(&yard.facts[site], kept);
+            let kept = shown_if(yard.disk_sets[site].config(), kept);
             Ok(Said::Resumed(view_at(yard, alloc, site, room.views), kept))
         }
         Err(stop) => fall_again(yard, alloc, site, stop),

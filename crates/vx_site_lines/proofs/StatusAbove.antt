@@ -18,11 +18,14 @@ use Rattle.vx_diskset.specs.Noted.{NotedOn, below_rvg}
 use Rattle.vx_diskset.specs.Stands.{SiteStands}
 use Rattle.vx_diskset.specs.declared.disk_set.DiskSet.{DiskSet}
 use Rattle.vx_diskset.specs.declared.disk_set.DiskSet.TheVariants.{Bare, Spoiled, Up, Receives, Down, OfGroup, Over, Gone}
+use Rattle.vx_order.specs.declared.facts.RvgFacts.{RvgFacts}
 use Rattle.vx_order.specs.declared.facts.SiteFacts.{SiteFacts}
 use Rattle.vx_report.specs.declared.view.LinkView.{LinkView}
+use Rattle.vx_report.specs.declared.view.RvgView.{RvgView}
 use Rattle.vx_report.specs.declared.view.SiteView.{SiteView}
 use Rattle.vx_report.specs.declared.view.VolumeView.{VolumeView}
 use Rattle.vx_script.specs.declared.line.ScriptLine.TheVariants.{Status}
+use Rattle.vx_events.proofs.Places.{some_same}
 use Rattle.vx_events.specs.Ends.{AllDone}
 use Rattle.vx_events.specs.Facts.{seat_of}
 use Rattle.vx_events.specs.GroupLines.{is_over_group}
@@ -43,8 +46,8 @@ use Rattle.vx_yard.proofs.OverGroup.{apart_bare, both_ways, over_rvg}
 use Rattle.vx_yard.proofs.SiteEvents.{first_choice}
 use Rattle.vx_above.proofs.GroupStatus.{config_is}
 use Rattle.vx_above.proofs.OverSites.{OverIs, over_set, site_noted}
-use Rattle.vx_site_lines.specs.Seen.{links_seen, site_seen}
-use Rattle.vx_site_lines.specs.Views.{full_seen}
+use Rattle.vx_site_lines.specs.Seen.{group_at, group_in, links_seen, site_seen}
+use Rattle.vx_site_lines.specs.Views.{ShowsPlain, full_seen}
 use Rattle.vx_events.proofs.RvgEvents.{rvg_apart}
 use Rattle.vx_site_lines.proofs.AboveEnds.{stays_over}
 use Rattle.vx_site_lines.proofs.StatusLinks.{linked_view_is}
@@ -60,7 +63,32 @@ none_shown IsDown xs off = refl
 abbrev with_shown : SiteView → List Bool → List VolumeView → SiteView
 with_shown view disks volumes = record view { disks = disks; volumes = volumes }
 
+-- nothing is shown of a replicated volume group that is not seen
+none_grouped : (t : SiteState) (fs : List SiteFacts) (session : ℕ) (o : Option RvgFacts) → o ≡ None → group_at t fs session o ≡ None
+none_grouped IsBare fs session o none = refl
+none_grouped IsUp fs session o none = ap (λ (x : Option RvgFacts). group_in fs session x) none
+none_grouped IsDeported fs session o none = refl
+none_grouped IsDown fs session o none = refl
+
+-- a view of these parts
+abbrev view_by : SiteFacts → List Bool → List VolumeView → Option RvgView → List LinkView → SiteView
+view_by f disks volumes rvg links = record { name = f.name; state = f.state; disks = disks; volumes = volumes; rvg = rvg; links = links }
+
 module _ {R : Type 0} {g : Ghosts R} where
+  -- a site without one and without links
+  pub full_plain : (y : Yard R g) (s session : ℕ) (site : SiteFacts) (disks : List Bool) (volumes : List VolumeView) (links : List LinkView) (disk_set : DiskSet R g) (view : SiteView)
+      → slice_get y.facts.items s ≡ Some site → slice_get y.disk_sets.items s ≡ Some disk_set → view ≡ full_seen y.facts.items session site disks volumes links
+      → disks ≡ config_disks (config_in disk_set) → volumes ≡ map volume_view (volumes_of (config_in disk_set)) → links ≡ [] → ShowsPlain y s view
+  full_plain y s session site disks volumes links disk_set view site_at disk_set_at is disks_is volumes_is links_is f e f_at e_at none =
+      let fs : List SiteFacts = y.facts.items in
+      let same : disk_set ≡ e = some_same (sym disk_set_at ∙ e_at) in
+      is
+      ∙ ap (λ (x : SiteFacts). full_seen fs session x disks volumes links) (some_same (sym site_at ∙ f_at))
+      ∙ ap (λ (o : Option RvgView). view_by f disks volumes o links) (none_grouped f.state fs session f.rvg none)
+      ∙ ap (λ (ls : List LinkView). view_by f disks volumes None ls) links_is
+      ∙ ap (λ (ds : List Bool). view_by f ds volumes None []) (disks_is ∙ ap (λ (x : DiskSet R g). config_disks (config_in x)) same)
+      ∙ ap (λ (vs : List VolumeView). view_by f (config_disks (config_in e)) vs None []) (volumes_is ∙ ap (λ (x : DiskSet R g). map volume_view (volumes_of (config_in x))) same)
+
   -- the configuration in memory of a site that is over no group: none
   none_bare : (n : Node) (s : GroupSite R g) → GroupSiteStands n s → n.state ≡ IsBare → site_config s ≡ None
   none_bare n (GroupUp laid) (note, it) bare = absurd (let e : IsUp ≡ IsBare = sym it.at.state ∙ bare in cc)

@@ -4,7 +4,7 @@ ghost use Rattle.vx_history.specs.Doubts.{Doubted};
 ghost use Rattle.vx_order.specs.declared.facts.SiteFacts.{SiteFacts as Facts};
 ghost use Rattle.vx_script.specs.declared.line.ScriptLine.TheVariants.{Status as StatusLine};
 ghost use Rattle.vx_site_lines.specs.Seen.{group_seen, group_at, link_seen, links_seen, site_seen};
-ghost use Rattle.vx_site_lines.specs.Views.{full_seen};
+ghost use Rattle.vx_site_lines.specs.Views.{ShowsPlain, full_seen};
 ghost use Rattle.vx_yard.specs.AboveLines.{LeadsAboveIs};
 ghost use Rattle.vx_yard.specs.Standing.{LeadsIs, StandsFor};
 ghost use Rattle.vx_events.specs.GroupLines.{is_over_group};
@@ -39,8 +39,8 @@ fn group(sites: &[SiteFacts], session: u64, rvg: &RvgFacts) -> RvgView
     }
 }
 
-/// The replicated volume group of a site that is up.
-pub fn rvg_view(sites: &[SiteFacts], session: u64, site: &SiteFacts) -> Option<RvgView>
+// The replicated volume group of a site that is up.
+fn rvg_view(sites: &[SiteFacts], session: u64, site: &SiteFacts) -> Option<RvgView>
     ensures { result ≡ group_at site.now.state sites.now session site.now.rvg }
 {
     match site.state {
@@ -138,13 +138,19 @@ fn full_view(
     }
 }
 
-// How a site with these links stands, with the disks and volumes of the group below its replicated volume group.
-fn full_at<R: Rack>(yard: &Yard<R>, site: usize, links: LinkViews, room: ViewRoom) -> SiteView
+/// How a site with these links stands, with the disks and volumes of the group below its replicated volume group.
+pub fn full_at<R: Rack>(
+    yard: &Yard<R>,
+    site: usize,
+    links: LinkViews,
+    room: ViewRoom,
+) -> SiteView
     requires site { site < length yard.now.facts.items }
     requires disk_set { site < length yard.now.disk_sets.items }
     requires disks { room.disks ≡ [] }
     requires volumes { room.volumes ≡ [] }
     ensures linked { (d : Doubted) (f : Facts) → StandsFor d yard.now → site < d.world.sites → is_over_group (d.world.nodes site) ≡ false → is_over_rvg (d.world.nodes site) ≡ false → slice_get yard.now.facts.items site ≡ Some f → links ≡ links_seen yard.now.facts.items f.links → result ≡ linked_view d.world site }
+    ensures plain { links ≡ [] → ShowsPlain yard.now site result }
     ensures above { (d : Doubted) (f : Facts) → StandsFor d yard.now → site < d.world.sites → is_over_rvg (d.world.nodes site) ≡ true → slice_get yard.now.facts.items site ≡ Some f → links ≡ links_seen yard.now.facts.items f.links → result ≡ over_disks (d.world.nodes site) (note_at (d.world.nodes site)) (linked_view d.world site) }
 {
     let disk_set = &yard.disk_sets[site];

@@ -22,15 +22,10 @@ use Rattle.vx_yard.specs.Stands.{AreTold}
 use Rattle.vx_yard.specs.Yards.{in_files}
 use Rattle.vx_group_lines.proofs.BareSites.{bare_site}
 use Rattle.vx_group_lines.proofs.Founding.{bare_asks, found_done, found_none, unbegun_found}
-use Rattle.vx_group_lines.proofs.GroupShown.{config_at}
-use Rattle.vx_site_lines.proofs.Smalls.{small_set}
 use Rattle.vx_group_lines.proofs.found.recover_found.Goals as goal
 
 pub site_of-site-requires-clause-named : goal.site_of-site-requires-clause-named
 site_of-site-requires-clause-named g c = λ κs within. named_some c.args.yard.now c.args.name.now (recover_may c.args.yard.now.facts.items (in_files c.args.yard.now) c.args.name.now c.requires.free)
-
-pub view_at-requires-clause-few : goal.view_at-requires-clause-few
-view_at-requires-clause-few g c = λ κs within x has. small_set has.disk_set x (config_at has.disk_set (Some x) has.is)
 
 pub returns-in_err-room-clause-leads : goal.returns-in_err-room-clause-leads
 returns-in_err-room-clause-leads g c = λ d stands untold.
@@ -72,7 +67,7 @@ returns-in-Ok-clause-leads g c = λ d stands nothing.
       is = has;
     }) in
     let f : SiteFacts = group_up_facts (map plain_fact x.volumes) (linked_fact d.world s) in
-    (facts, c.view_at.ensures.up f x (ap (λ fs. slice_get fs s) facts ∙ get-set_same y.facts.items s f (slice_get_within y.facts.items s (linked_fact d.world s) site.fact)) (record { disk_set = after; there = here; is = has })))
+    (facts, c.view_at.ensures.up f x (ap (λ fs. slice_get fs s) facts ∙ get-set_same y.facts.items s f (slice_get_within y.facts.items s (linked_fact d.world s) site.fact)) refl (record { disk_set = after; there = here; is = has })))
 
 pub returns-in-Err-clause-leads : goal.returns-in-Err-clause-leads
 returns-in-Err-clause-leads g c = λ d stands nothing.

@@ -9,9 +9,6 @@ use Rattle.vx_site_lines.proofs.Smalls.{small_set}
 use Rattle.vx_group_lines.proofs.Recovering.{so_down, so_up, stood_by}
 use Rattle.vx_group_lines.proofs.recover.stand_up.Goals as goal
 
-pub view_at-requires-clause-few : goal.view_at-requires-clause-few
-view_at-requires-clause-few g c = λ κs within x has. small_set has.disk_set x (config_at has.disk_set (Some x) has.is)
-
 pub view_at-requires-clause-facts : goal.view_at-requires-clause-facts
 view_at-requires-clause-facts g c κs within = subst (λ k. c.args.site < k) (sym c.note_up.ensures.many) c.requires.facts
 

@@ -1,18 +1,13 @@
 -- A line that asks for the status of a site over a group.
-use Rattle.std.specs.Prelude.{Some}
 use Rattle.vx_model.proofs.Lists.{get_there}
 use Rattle.vx_events.proofs.Refused.{status_may}
 use Rattle.vx_yard.proofs.Seats.{named_some}
 use Rattle.vx_yard.specs.Yards.{in_files}
-use Rattle.vx_group_lines.proofs.GroupShown.{config_at, status_leads}
-use Rattle.vx_site_lines.proofs.Smalls.{small_set}
+use Rattle.vx_group_lines.proofs.GroupShown.{status_leads}
 use Rattle.vx_group_lines.proofs.status.status_line.Goals as goal
 
 pub site_of-site-requires-clause-named : goal.site_of-site-requires-clause-named
 site_of-site-requires-clause-named g c = λ κs within. named_some c.args.yard.now c.args.name.now (status_may c.args.yard.now.facts.items (in_files c.args.yard.now) c.args.name.now c.requires.free)
-
-pub view_at-requires-clause-few : goal.view_at-requires-clause-few
-view_at-requires-clause-few g c = λ κs within x has. small_set has.disk_set x (config_at has.disk_set (Some x) has.is)
 
 pub returns : goal.returns
 returns g c = record {

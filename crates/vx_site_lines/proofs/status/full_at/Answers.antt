@@ -7,7 +7,7 @@ use Rattle.vx_events.specs.GroupViews.{config_disks, volume_view, volumes_of}
 use Rattle.vx_yard.proofs.Lists.{get_at}
 use Rattle.vx_site_lines.specs.Views.{full_seen}
 use Rattle.vx_site_lines.proofs.Smalls.{small_as}
-use Rattle.vx_site_lines.proofs.StatusAbove.{full_above, full_apart}
+use Rattle.vx_site_lines.proofs.StatusAbove.{full_above, full_apart, full_plain}
 use Rattle.vx_site_lines.proofs.status.full_at.Goals as goal
 
 pub views_of-shown-requires-clause-few : goal.views_of-shown-requires-clause-few
@@ -27,6 +27,20 @@ returns-clause-linked g c = λ d f stands below apart off at links.
     (c.views_of-shown.ensures.disks ∙ ap (λ (o : Option Config). config_disks o) c.config.ensures)
     (c.views_of-shown.ensures.volumes ∙ ap (λ (o : Option Config). map volume_view (volumes_of o)) c.config.ensures)
     links
+
+pub returns-clause-plain : goal.returns-clause-plain
+returns-clause-plain g c = λ none.
+    let y = c.args.yard.now in
+    let s = c.args.site in
+    let disk_set = c.index-disk_set.result.now in
+    let shown = c.views_of-shown.result in
+    full_plain y s c.session-session.result c.index.result.now shown.0 shown.1 c.args.links disk_set c.full_view.result
+    (get_at y.facts.items s c.index.result.now c.requires.site c.index.ensures)
+    (get_at y.disk_sets.items s disk_set c.requires.disk_set c.index-disk_set.ensures)
+    (c.full_view.ensures ∙ ap (λ (fs : List SiteFacts). full_seen fs c.session-session.result c.index.result.now shown.0 shown.1 c.args.links) c.deref.ensures.value)
+    (c.views_of-shown.ensures.disks ∙ ap (λ (o : Option Config). config_disks o) c.config.ensures)
+    (c.views_of-shown.ensures.volumes ∙ ap (λ (o : Option Config). map volume_view (volumes_of o)) c.config.ensures)
+    none
 
 pub returns-clause-above : goal.returns-clause-above
 returns-clause-above g c = λ d f stands below over at links.
