@@ -1,5 +1,6 @@
 -- What disks by themselves tell an import by logs.
 use Rattle.std.proofs.Common.{◌≡◌, ◌∙◌, ℕ, inl, inr, ⊎_elim, Bool, true, false, IsTrue, refl, sym}
+use Rattle.std.proofs.lemmas.Bool.{false_from_ne_true}
 use Rattle.vx_disk.specs.Racks.{Alike, Stopped}
 use Rattle.vx_disk.specs.Shelf.{Goes, Meaning, Nothing}
 use Rattle.vx_group.specs.Imports.{ImportStops}
@@ -32,6 +33,13 @@ module _ (r : Rested) (m m' : Meaning) where
 -- disks that tell nothing
 pub none_tells : (r : Rested) (m : Meaning) → TellsNone m → LogsTell r m
 none_tells r m none = untold_tells r m (λ i each. none.leaves 0 0 (i 0 0) (each 0 0))
+
+-- nor do they where they are up again
+pub none_risen : (m m' : Meaning) → Alike m m' → (IsTrue m'.tells → IsTrue m.tells) → TellsNone m → TellsNone m'
+none_risen m m' alike told none = record {
+  tells = false_from_ne_true m'.tells (λ tells. let clash : false ≡ true = sym none.tells ∙ told tells in cc);
+  leaves = λ u b v left. none.leaves u b v (alike.contents.leaves u b v left);
+}
 
 pub dark_tells : {R : Type 0} (r : Rested) (meaning : R → Meaning) (s : Shade R) → LogsTell r (shade_meaning meaning (Dark (rack_of s)))
 dark_tells r meaning s = untold_tells r (shade_meaning meaning (Dark (rack_of s))) (λ i each. each 0 0)

@@ -38,5 +38,6 @@ pub use making::make_volume_of;
 pub use plain::{read_plain, write_plain};
 pub use plexes::{att_plex, det_plex};
 pub use site_plain::is_off;
+pub use site_plexes::is_down_stop;
 pub use tracing::{trace, traced, untrace, untraced};
 pub use watching::{att_watched, det_watched, read_watched, write_watched};

@@ -19,8 +19,8 @@ use std::mem;
 use vx_disk::Rack;
 use vx_model::{No, Stop};
 
-// Whether the disks were found down.
-pub(crate) fn is_down_stop(stop: &Stop) -> bool
+/// Whether the disks were found down.
+pub fn is_down_stop(stop: &Stop) -> bool
     ensures { result ≡ stops_down stop.now }
 {
     matches!(stop, Stop::No(No::Down))

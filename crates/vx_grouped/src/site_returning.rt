@@ -15,7 +15,7 @@ ghost use Rattle.vx_grouped.specs.GroupSites.{AreStopped, AwayNoted, DownNoted, 
 ghost use Rattle.vx_grouped.specs.Readies.{ready_of};
 ghost use Rattle.vx_grouped.specs.PlainMaps.{ComesMaps, map_parts};
 ghost use Rattle.vx_grouped.specs.Returns.{ImportLeaves};
-ghost use Rattle.vx_grouped.specs.SiteReturns.{ImportsFrom, LessLeft, RecoversFrom, ReturnSince, SiteImports, SiteRecovers, TellsNone, as_imported, stops_early};
+ghost use Rattle.vx_grouped.specs.SiteReturns.{ImportsFrom, LateDark, LessLeft, RecoversFrom, ReturnSince, SiteImports, SiteRecovers, TellsNone, as_imported, stops_early};
 ghost use Rattle.vx_grouped.specs.SiteMaps.{CameMapped, ImportMapped, RecoverMapped};
 ghost use Rattle.vx_config.specs.Table.{greatest};
 ghost use Rattle.vx_logimport.specs.Rests.{LogsTell};
@@ -235,6 +235,7 @@ fn recover_site<R: Rack>(
     ensures recovered { (n : Node) (note : GroupNode) → GroupDown n note true (R.meaning (rack_of rack)).tells (shade_meaning (λ s. R.meaning s) rack) → RecoversFrom n note (shade_meaning (λ s. R.meaning s) rack) result.0 result.1 }
     ensures maps { RecoverMapped (Some rested) (shade_meaning (λ s. R.meaning s) rack) result.0 result.1 }
     ensures less { LessLeft (shade_meaning (λ s. R.meaning s) rack) result.0 result.1 }
+    ensures dark { LateDark result.0 result.1 }
     ensures since { ReturnSince (shade_meaning (λ s. R.meaning s) rack) (site_disks result.0) }
     ensures told { TellsLess (R.meaning (rack_of rack)) (site_below result.0) }
     ensures brings { BringsAtSite (shade_meaning (λ s. R.meaning s) rack) result.0 result.1 }
@@ -273,6 +274,7 @@ fn import_site<R: Rack>(
     ensures imported { (n : Node) (note : GroupNode) → GroupAway n note true (R.meaning (rack_of rack)).tells (shade_meaning (λ s. R.meaning s) rack) → ImportsFrom n note (shade_meaning (λ s. R.meaning s) rack) result.0 result.1 }
     ensures maps { ImportMapped (Some rested) (shade_meaning (λ s. R.meaning s) rack) result.0 result.1 }
     ensures less { LessLeft (shade_meaning (λ s. R.meaning s) rack) result.0 result.1 }
+    ensures dark { LateDark result.0 result.1 }
     ensures since { ReturnSince (shade_meaning (λ s. R.meaning s) rack) (site_disks result.0) }
     ensures told { TellsLess (R.meaning (rack_of rack)) (site_below result.0) }
     ensures brings { BringsAtSite (shade_meaning (λ s. R.meaning s) rack) result.0 result.1 }
@@ -339,6 +341,7 @@ fn recover_idle<R: Rack>(alloc: Global, idle: Idle<R>) -> (GroupSite<R>, Result<
     ensures maps { RecoverMapped idle.rested (idle_disks idle) result.0 result.1 }
     ensures known { RestKnown idle.rested result.1 }
     ensures less { LessLeft (shade_meaning (λ s. R.meaning s) (ready_of idle.agreed idle.rack)) result.0 result.1 }
+    ensures dark { LateDark result.0 result.1 }
     ensures since { ReturnSince (idle_disks idle) (site_disks result.0) }
     ensures told { TellsLess (idle_below idle) (site_below result.0) }
     ensures brings { BringsAtSite (shade_meaning (λ s. R.meaning s) (ready_of idle.agreed idle.rack)) result.0 result.1 }
@@ -356,6 +359,7 @@ fn import_idle<R: Rack>(alloc: Global, idle: Idle<R>) -> (GroupSite<R>, Result<(
     ensures imported { (n : Node) (note : GroupNode) → AwayNoted n note (GroupSite.Deported idle) → SiteImports n note (GroupSite.Deported idle) result.0 result.1 }
     ensures maps { ImportMapped idle.rested (idle_disks idle) result.0 result.1 }
     ensures less { LessLeft (shade_meaning (λ s. R.meaning s) (ready_of idle.agreed idle.rack)) result.0 result.1 }
+    ensures dark { LateDark result.0 result.1 }
     ensures since { ReturnSince (idle_disks idle) (site_disks result.0) }
     ensures told { TellsLess (idle_below idle) (site_below result.0) }
     ensures brings { BringsAtSite (shade_meaning (λ s. R.meaning s) (ready_of idle.agreed idle.rack)) result.0 result.1 }
@@ -379,6 +383,7 @@ impl<R: Rack> GroupSite<R> {
         ensures maps { CameMapped self result.0 result.1 }
         ensures known { CameKnown self result.1 }
         ensures less { LessLeft (as_imported self) result.0 result.1 }
+        ensures dark { LateDark result.0 result.1 }
         ensures since { ReturnSince (site_disks self) (site_disks result.0) }
         ensures told { TellsLess (site_below self) (site_below result.0) }
         ensures brings { BringsAtSite (as_imported self) result.0 result.1 }

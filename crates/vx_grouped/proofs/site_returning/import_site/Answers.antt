@@ -3,11 +3,12 @@ use Rattle.std.proofs.Common.{◌≡◌, ◌∙◌, IsTrue, true, false, subst, 
 use Rattle.std.proofs.lemmas.Bool.{false_from_ne_true}
 use Rattle.vx_group.proofs.CallLemmas.{not_down}
 use Rattle.vx_untold.specs.Shades.{rack_of, shade_lawful, shade_meaning, shade_rack}
+use Rattle.vx_grouped.specs.SiteReturns.{TellsNone}
 use Rattle.vx_grouped.proofs.SinceReturns.{return_all, return_at, return_calls, return_none, return_then}
 use Rattle.vx_grouped.proofs.SiteReturnLemmas.{imported_down, imported_early, imported_fell, imported_late, imported_up}
 use Rattle.vx_grouped.proofs.StopLemmas.{still_can, early_goes}
 use Rattle.vx_grouped.proofs.GivenUpLemmas.{rested_tells}
-use Rattle.vx_grouped.proofs.TellLemmas.{alike_tells, early_tells, none_tells}
+use Rattle.vx_grouped.proofs.TellLemmas.{alike_tells, early_tells, none_risen, none_tells}
 use Rattle.vx_grouped.proofs.BringLemmas.{alike_self}
 use Rattle.std.specs.Prelude.{Some}
 use Rattle.vx_grouped.proofs.ReturnMapLemmas.{came_up, down_late, idle_of, less_idle, never_early}
@@ -171,3 +172,25 @@ returns-then-is_down_stop-clause-less g c = λ early. absurd (down_late c.in-Err
 
 pub returns-else-is_down_stop-clause-less : goal.returns-else-is_down_stop-clause-less
 returns-else-is_down_stop-clause-less g c = λ early. absurd (never_early c.in-Err.stop (sym c.is_early.ensures ∙ c.if-is_early.false) early)
+
+-- ---- of an import that was refused behind its first write
+
+pub returns-then-is_down-clause-dark : goal.returns-then-is_down-clause-dark
+returns-then-is_down-clause-dark g c = λ late. absurd (let clash : true ≡ false = late in cc)
+
+pub returns-in-Ok-clause-dark : goal.returns-in-Ok-clause-dark
+returns-in-Ok-clause-dark g c = tt
+
+pub returns-then-fell-clause-dark : goal.returns-then-fell-clause-dark
+returns-then-fell-clause-dark g c = λ late. subst (λ s. TellsNone (shade_meaning g.R.Shelf.meaning s)) (sym c.of-idle.ensures.rack) (c.fallen.ensures.dark refl)
+
+pub returns-else-fell-clause-dark : goal.returns-else-fell-clause-dark
+returns-else-fell-clause-dark g c = λ late. absurd (never_early c.in-Err.stop late (sym c.is_early.ensures ∙ c.if-is_early.true))
+
+pub returns-then-is_down_stop-clause-dark : goal.returns-then-is_down_stop-clause-dark
+returns-then-is_down_stop-clause-dark g c = λ late. subst (λ s. TellsNone (shade_meaning g.R.Shelf.meaning s)) (sym c.of-then-is_down_stop.ensures.rack) (c.fallen-rack.ensures.dark refl)
+
+pub returns-else-is_down_stop-clause-dark : goal.returns-else-is_down_stop-clause-dark
+returns-else-is_down_stop-clause-dark g c = λ late.
+    subst (λ s. TellsNone (shade_meaning g.R.Shelf.meaning s)) (sym c.of-in-Err.ensures.rack)
+    (none_risen (shade_meaning g.R.Shelf.meaning c.fallen-rack.result) (shade_meaning g.R.Shelf.meaning c.risen.result) c.risen.ensures.alike c.risen.ensures.since.tells (c.fallen-rack.ensures.dark refl))

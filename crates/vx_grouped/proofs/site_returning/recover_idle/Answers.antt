@@ -3,12 +3,12 @@ use Rattle.std.proofs.Common.{◌∙◌, IsTrue, ap, refl, subst, sym, ◌≡◌
 use Rattle.vx_untold.specs.Shades.{rack_of, shade_meaning}
 use Rattle.std.specs.Prelude.{Err, IsSome}
 use Rattle.vx_untold.specs.declared.shade.Shade.TheVariants.{Dark}
-use Rattle.vx_grouped.specs.SiteReturns.{LessLeft, SiteRecovers, stops_early}
+use Rattle.vx_grouped.specs.SiteReturns.{LessLeft, SiteRecovers, TellsNone, stops_early}
 use Rattle.vx_grouped.specs.declared.group_site.GroupSite.TheVariants.{Down}
 use Rattle.vx_grouped.proofs.ComeLemmas.{rest_known}
 use Rattle.vx_grouped.proofs.GivenUpLemmas.{given_down}
 use Rattle.vx_grouped.proofs.ReadyLemmas.{recovered_ready, since_ready, told_ready}
-use Rattle.vx_grouped.proofs.SinceReturns.{return_at, return_dark}
+use Rattle.vx_grouped.proofs.SinceReturns.{dark_none, return_at, return_dark}
 use Rattle.vx_grouped.specs.Brings.{BringsAtSite}
 use Rattle.vx_grouped.proofs.ReturnMapLemmas.{recovered_maps}
 use Rattle.vx_grouped.proofs.site_returning.recover_idle.Goals as goal
@@ -55,3 +55,9 @@ returns-in-Some-clause-less g c = subst (λ s. LessLeft (shade_meaning g.R.Shelf
 
 pub returns-in-None-clause-less : goal.returns-in-None-clause-less
 returns-in-None-clause-less g c = λ early. absurd (let clash : false ≡ true = sym (ap stops_early c.too_few.ensures) ∙ early in cc)
+
+pub returns-in-Some-clause-dark : goal.returns-in-Some-clause-dark
+returns-in-Some-clause-dark g c = c.recover_site.ensures.dark
+
+pub returns-in-None-clause-dark : goal.returns-in-None-clause-dark
+returns-in-None-clause-dark g c = λ late. subst (λ s. TellsNone (shade_meaning g.R.Shelf.meaning s)) (sym c.given_up.ensures.rack) (dark_none g.R.Shelf.meaning c.args.idle.rack)

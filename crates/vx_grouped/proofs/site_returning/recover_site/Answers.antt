@@ -1,7 +1,8 @@
 -- A recovery of a site's group.
-use Rattle.std.proofs.Common.{IsTrue, subst, ◌∙◌, ⊎_elim}
+use Rattle.std.proofs.Common.{◌≡◌, ◌∙◌, IsTrue, true, false, subst, sym, ⊎_elim}
 use Rattle.std.proofs.lemmas.Bool.{false_from_ne_true}
 use Rattle.vx_untold.specs.Shades.{rack_of, shade_lawful, shade_meaning, shade_rack}
+use Rattle.vx_grouped.specs.SiteReturns.{TellsNone}
 use Rattle.vx_grouped.proofs.SinceReturns.{return_all, return_at, return_calls, return_none, return_then}
 use Rattle.vx_grouped.proofs.SiteReturnLemmas.{recovered_not, recovered_up}
 use Rattle.vx_grouped.proofs.GivenUpLemmas.{rested_tells}
@@ -100,3 +101,12 @@ returns-in-Err-clause-less g c = λ early.
     less_fell c.of-in-Err.result c.fallen.result (shade_meaning g.R.Shelf.meaning c.args.rack) c.of-in-Err.ensures.agreed c.of-in-Err.ensures.rack
     (left_back (shade_meaning g.R.Shelf.meaning c.args.rack) (shade_meaning g.R.Shelf.meaning c.risen.result) (shade_meaning g.R.Shelf.meaning c.in-Err.rack) (shade_meaning g.R.Shelf.meaning c.fallen.result) c.risen.ensures.alike
     (early_goes (shade_meaning g.R.Shelf.meaning c.risen.result) (shade_meaning g.R.Shelf.meaning c.in-Err.rack) c.in-Err.stop early c.in-Err.ensures.stops) (c.fallen.ensures.stopped (c.is_early-early.ensures ∙ early)))
+
+pub returns-then-not-is_down-clause-dark : goal.returns-then-not-is_down-clause-dark
+returns-then-not-is_down-clause-dark g c = λ late. absurd (let clash : true ≡ false = late in cc)
+
+pub returns-in-Ok-clause-dark : goal.returns-in-Ok-clause-dark
+returns-in-Ok-clause-dark g c = tt
+
+pub returns-in-Err-clause-dark : goal.returns-in-Err-clause-dark
+returns-in-Err-clause-dark g c = λ late. subst (λ s. TellsNone (shade_meaning g.R.Shelf.meaning s)) (sym c.of-in-Err.ensures.rack) (c.fallen.ensures.dark (c.is_early-early.ensures ∙ late))

@@ -1,5 +1,5 @@
 -- `import`: a recovery, or an import of disks that were deported.
-use Rattle.std.proofs.Common.{subst, sym}
+use Rattle.std.proofs.Common.{◌≡◌, true, false, subst, sym}
 use Rattle.vx_grouped.specs.GroupSites.{AwayNoted, DownNoted, site_below, site_disks}
 use Rattle.vx_grouped.specs.SiteReturns.{LessLeft, ReturnSince, SiteImports, SiteRecovers, as_imported}
 use Rattle.vx_watched.specs.Traces.{TellsLess}
@@ -72,3 +72,12 @@ returns-in-Deported-clause-less g c = subst (λ e. LessLeft (as_imported e) c.im
 
 pub returns-in_default-clause-less : goal.returns-in_default-clause-less
 returns-in_default-clause-less g c = λ early. left_self (as_imported c.args.self)
+
+pub returns-in-Down-clause-dark : goal.returns-in-Down-clause-dark
+returns-in-Down-clause-dark g c = c.recover_idle.ensures.dark
+
+pub returns-in-Deported-clause-dark : goal.returns-in-Deported-clause-dark
+returns-in-Deported-clause-dark g c = c.import_idle.ensures.dark
+
+pub returns-in_default-clause-dark : goal.returns-in_default-clause-dark
+returns-in_default-clause-dark g c = λ late. absurd (let clash : true ≡ false = late in cc)
