@@ -9,7 +9,7 @@ use Rattle.vx_disk.specs.declared.shelf.Shelf.{Ghosts}
 use Rattle.vx_history.proofs.Updates.{at_place}
 use Rattle.vx_history.specs.Doubts.{Doubted}
 use Rattle.vx_history.specs.Groups.{GroupNode}
-use Rattle.vx_history.specs.Steps.{burned, crashed}
+use Rattle.vx_history.specs.Steps.{burned}
 use Rattle.vx_history.specs.World.{Fuse, Node, NoFuse, with_node}
 use Rattle.vx_model.specs.declared.no.No.TheVariants.{Down as IsOff}
 use Rattle.vx_model.specs.declared.site.SiteState.TheVariants.{Up as IsUp, Down as IsDown}
@@ -91,9 +91,6 @@ module _ {R : Type 0} {g : Ghosts R} where
       -- contents are told
       pub told_up : m.state ≡ IsUp → IsKnown (IsTold new) note → IsToldAt (Over p)
       told_up up known = lit_on (below_rvg (with_note next n)) next (site_in p) (call_up d old new s o p call (beside_of e s) m reach.stands up).0.0 (next_known known) (rack_told known.0)
-
-      pub told_off : m.state ≡ IsDown → IsKnown (IsTold new) note → IsToldAt (Over p)
-      told_off down known = lit_on (below_rvg (crashed (with_note next n) 0)) next (site_in p) (call_off d old new s o p call (beside_of e s) m reach.stands down).0.0 (next_known known) (rack_told known.0)
 
       was_over : is_over_rvg m ≡ true
       was_over = over_again n m note call.over (stays.group ∙ note_is n call.over) stays.volumes

@@ -1,5 +1,5 @@
 -- The replicated volume group that a note names, behind calls that change its configuration otherwise.
-use Rattle.std.proofs.Common.{◌≡◌, ◌∙◌, ◌⊎◌, ℕ, ap, sym, inl, inr}
+use Rattle.std.proofs.Common.{◌≡◌, ◌∙◌, ℕ, ap, sym, inl, inr}
 use Rattle.std.specs.Prelude.{Option}
 use Rattle.vx_disk.specs.Shelf.{Meaning}
 use Rattle.vx_config.specs.declared.config.Config.{Config}

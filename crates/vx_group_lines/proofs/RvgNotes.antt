@@ -1,5 +1,5 @@
 -- What a line that makes a replicated volume group leaves of the note of its site.
-use Rattle.std.proofs.Common.{◌≡◌, ◌∙◌, ◌≤◌, ◌⊎◌, inl, inr, ℕ, Bool, true, false, List, ◌∷◌, length, ap, sym, refl}
+use Rattle.std.proofs.Common.{◌≡◌, ◌∙◌, ◌≤◌, inl, inr, ℕ, Bool, true, false, List, ◌∷◌, length, ap, sym, refl}
 use Rattle.std.specs.Prelude.{◌==◌, ◌||◌, Contains}
 use Rattle.std.proofs.lemmas.Bool.{eqb-true}
 use Rattle.vx_model.specs.declared.units.Units.{Units}

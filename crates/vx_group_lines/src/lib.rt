@@ -1,5 +1,5 @@
-//! The lines that work on the disks of one site as a group without a replicated volume group: it is made, deported, imported and recovered, its
-//! volumes are made, written and read, its plexes are detached and attached, and its status is shown.
+//! The lines that work on the disks of one site as a group: it is made, deported, imported and recovered, its volumes are made, written and read, its
+//! plexes are detached and attached, its status is shown, and it gets a replicated volume group. Behind that it is only recovered here.
 //!
 //! A line has a file by its word (`init`, `volume` ..). What it does on the disks of the site is in `vx_diskset`.
 #![tactic(auto)]
