@@ -11,7 +11,7 @@ use Rattle.vx_grouped.specs.GroupNotes.{note_dimmed}
 use Rattle.vx_grouped.specs.GroupSites.{UpNoted, laid_disks, site_below, site_disks, with_note}
 use Rattle.vx_grouped.specs.SiteEnds.{ConfigGoes}
 use Rattle.vx_grouped.specs.SiteMaps.{CameMapped}
-use Rattle.vx_grouped.specs.SiteReturns.{ConfigReturns, ImportWhy, KnownAway, NoteReturns, as_imported, is_dimmed, returned_with}
+use Rattle.vx_grouped.specs.SiteReturns.{ConfigReturns, ImportWhy, KnownAway, NoteReturns, as_imported, is_dimmed, returned_with, stops_early}
 use Rattle.vx_grouped.specs.declared.group_site.GroupSite.{GroupSite}
 use Rattle.vx_grouped.specs.declared.group_site.GroupSite.TheVariants.{Up}
 use Rattle.vx_grouped.specs.declared.laid.Laid.{Laid}
@@ -71,6 +71,7 @@ module _ {R : Type 0} {g : Ghosts R} where
     pub returns : NoteReturns (IsTrue (laid_disks laid).tells) (note_ready old note) middle
     pub config : ConfigReturns (note_ready old note) middle (as_imported old) (Up laid)
     pub up : UpNoted (returned_with middle (record (below_rvg n) { group = Some (note_ready old note) })) middle (Up laid)
+    pub from : (k : ℕ) → (site_disks old).disk_faults k ≤ (laid_disks laid).disk_faults k
 
   -- what came up over a group that an import brought with the note `middle`
   pub record CameOver (beside : KeptBeside) (n : Node) (middle : GroupNode) (lit : Fuse) (laid : Laid R g) (s : OverSet R g) : Type 0 where
@@ -100,7 +101,7 @@ module _ {R : Type 0} {g : Ghosts R} where
     pub whole : length node.log ≡ node.safe
     pub quiet : node.phase ≡ Quiet
     pub origin : is_origin node.role ≡ true
-    pub fed : node.fed_by ≡ n.fed_by
+    pub rests : node.fed_by ≡ node.other
     pub is : config_of next.config ≡ Some now
     pub fits : FitsRvg node now units
     pub has : HasUnits now.volumes units
@@ -117,6 +118,7 @@ module _ {R : Type 0} {g : Ghosts R} where
     pub bright : is_dimmed old ≡ false
     pub named : group.config.now.rvg ≡ Some (units_of n)
     pub over : CameOver beside n group.middle (burned n.fuse) laid s
+    pub to : (k : ℕ) → (laid_disks laid).disk_faults k ≤ (site_disks (site_in s)).disk_faults k
 
   -- nothing is known of it, and the group has some replicated volume group
   pub record FoundAgain (beside : KeptBeside) (n : Node) (note : GroupNode) (old : GroupSite R g) (s : OverSet R g) : Type 0 where
@@ -124,6 +126,7 @@ module _ {R : Type 0} {g : Ghosts R} where
     pub group : CameGroup n note old laid
     pub over : FoundOver beside n group.middle (burned n.fuse) laid s
     pub less : KnowsLess note over.next (site_in s)
+    pub to : (k : ℕ) → (laid_disks laid).disk_faults k ≤ (site_disks (site_in s)).disk_faults k
 
   -- nothing is known of it, and the group has none
   pub record PlainAgain (n : Node) (note : GroupNode) (old : GroupSite R g) (s : GroupSet R g) : Type 0 where
@@ -156,6 +159,7 @@ module _ {R : Type 0} {g : Ghosts R} where
     pub why : StartLost beside n session group.middle worked old (site_in s) stop
     pub noted : SiteNoted (rest_in session (record worked { cut = note.cut }) n) (record worked { cut = note.cut }) (Over s)
     pub stands : SiteStands beside (rest_in session (record worked { cut = note.cut }) n) (Over s)
+    pub to : (k : ℕ) → (laid_disks laid).disk_faults k ≤ (site_disks (site_in s)).disk_faults k
 
   -- the import was refused; or it is not known what the disks hold, and what was found was refused. The site is down as it was.
   pub record HeldStill (beside : KeptBeside) (n : Node) (note : GroupNode) (old : GroupSite R g) (s : OverSet R g) (stop : Stop) : Type 0 where
@@ -163,6 +167,9 @@ module _ {R : Type 0} {g : Ghosts R} where
     pub dims : Bool
     -- imports disagree from then on, or it is not known from then on what the disks hold, only where nothing was known; or where the import had begun to write
     pub loose : loosens ≡ true → IsTrue (site_below (site_in s)).tells → (note.dark ≡ true) ⊎ (note.loose ≡ true)
+    -- where nothing was written, only of disks that may not agree
+    pub dimmed : dims ≡ true → stops_early stop ≡ true → IsTrue (site_below (site_in s)).tells → (note.dark ≡ true) ⊎ (note.loose ≡ true)
+    pub short : stop ≡ OutOfMemory → (loosens ≡ false) × (dims ≡ true → (note.loose ≡ true) ⊎ (note.dark ≡ true))
     pub why : ImportWhy (IsTrue (site_disks (site_in s)).tells) (KnownAway (IsTrue (site_disks (site_in s)).tells) (note_ready old note)) (as_imported old) (site_disks (site_in s)) stop
     pub noted : SiteNoted (rest_in n.session (note_held loosens dims note) n) (note_held loosens dims note) (Over s)
     pub stands : SiteStands beside (rest_in n.session (note_held loosens dims note) n) (Over s)
