@@ -70,6 +70,7 @@ pub mod NeedLemmas
 pub mod NotedLikes
 pub mod OverGroups
 pub mod OverImports
+pub mod PlainImports
 pub mod OverSets
 pub mod PumpGroup
 pub mod RawSets

@@ -1,7 +1,8 @@
 // How the replicated volume group of a group of disks that came up is started.
-ghost use Rattle.std.specs.Prelude.{◌≡◌, ◌*◌, ◌<◌, ◌≤◌, ℕ, Err, IfOk, length, slice_index};
+ghost use Rattle.std.specs.Prelude.{◌≡◌, ◌&&◌, ◌*◌, ◌<◌, ◌≤◌, ℕ, IfOk, length, not, slice_index, true};
 ghost use Rattle.vx_disk.specs.Maps.{maps_of};
-ghost use Rattle.vx_diskset.specs.OverStarts.{PlainStarts, PlainUnits, StartsIn, StartsOver, WithPlain, WithRvg, WithUnits, has_no_links, is_alone, is_idle_phase};
+ghost use Rattle.vx_diskset.specs.OverStarts.{PlainBack, PlainStarts, PlainUnits, StartsIn, StartsOver, WithPlain, WithRvg, WithUnits, has_no_links, is_alone, is_dark as is_dark_of, is_idle_phase};
+ghost use Rattle.vx_grouped.specs.SiteEnds.{stops_down};
 ghost use Rattle.vx_ground.specs.Lifted.{laid_volumes};
 ghost use Rattle.vx_model.specs.Sizes.{ring_of};
 ghost use Rattle.vx_model.specs.declared.errors.Stop.TheVariants.{No as RefusedStop};
@@ -18,7 +19,7 @@ use std::alloc::Global;
 use vx_config::Config;
 use vx_disk::Rack;
 use vx_ground::work_over;
-use vx_grouped::{GroupSite, Laid, is_off};
+use vx_grouped::{GroupSite, Laid, is_down_stop};
 use vx_model::limits::{LEAST_BLOCKS, LINK_PLACES, MOST_NUMBER};
 use vx_model::{Counted, KeptLink, No, OutOfMemory, SPhase, State, Stop, Units, is_origin, map_blocks};
 use vx_rvg::{RvgCore, StartRoom};
@@ -41,11 +42,20 @@ fn is_unlinked(links: &[KeptLink]) -> bool
     }
 }
 
+fn all_three(a: bool, b: bool, c: bool) -> bool
+    ensures { result ≡ (a && (b && c)) }
+{
+    a && (b && c)
+}
+
 // Whether a site with this log stands by itself: an origin without links, in no replay.
 fn stands_alone(state: &State) -> bool
     ensures { result ≡ is_alone state.now }
 {
-    is_origin(&state.role) && (is_unlinked(state.links.as_slice()) && is_idle(state.phase))
+    let origin = is_origin(&state.role);
+    let unlinked = is_unlinked(state.links.as_slice());
+    let idle = is_idle(state.phase);
+    all_three(origin, unlinked, idle)
 }
 
 // How many blocks the change maps of these data volumes of a group take.
@@ -141,14 +151,11 @@ fn start_over<R: Rack>(
     }
 }
 
-// Whether it says that the fuse ran out.
-fn is_off_stop(stop: &Stop) -> bool
-    ensures { result ≡ stops_down stop.now }
+// Whether the disks of a site that was deported, or not, are by themselves behind a refusal: not where the fuse ran out.
+fn rests_away(away: bool, stop: &Stop) -> bool
+    ensures { result ≡ (away && not (stops_down stop.now)) }
 {
-    match stop {
-        Stop::No(no) => is_off(no),
-        Stop::OutOfMemory => false,
-    }
+    if away { !is_down_stop(stop) } else { false }
 }
 
 // The disks of a site that had no replicated volume group, behind an import that is refused.
@@ -160,13 +167,44 @@ fn plain_back<R: Rack>(
 ) -> (DiskSet<R>, Result<(), Stop>)
     ensures { PlainBack away laid cut stop result.0 result.1 }
 {
-    let off = is_off_stop(&stop);
-    let site = dark_back(laid, away && !off);
+    let rests = rests_away(away, &stop);
+    let site = dark_back(laid, rests);
     (DiskSet::OfGroup(GroupSet { site, cut }), Err(stop))
 }
 
-// The replicated volume group that was found over a group of a site that had none. It is taken up only of disks that tell nothing; else the import is
-// refused, as one for which no serial is left.
+// The replicated volume group that was found over a group of a site that had none, of disks that tell nothing.
+fn start_dark<R: Rack>(
+    alloc: Global,
+    laid: Laid<R>,
+    cut: Option<CutWrite>,
+    units: &Units,
+    away: bool,
+) -> (DiskSet<R>, Result<(), Stop>)
+    requires there { UnitsPlaced units.now (laid_volumes laid) }
+    requires large { LEAST_BLOCKS ≤ (laid_volumes laid).size units.now.srl }
+    ensures starts { is_dark_of laid.shelf ≡ true → PlainStarts away units.now laid cut result.0 result.1 }
+{
+    let (laid, started) = start_in(alloc, laid, units);
+    match started {
+        Ok(core) => (
+            DiskSet::Over(OverSet::of(GroupSite::Up(laid), Above::Origin(core), None)),
+            Ok(()),
+        ),
+        Err(stop) => plain_back(laid, cut, away, stop),
+    }
+}
+
+// The refusal of an import for want of serials.
+fn too_few() -> Stop
+    ensures { result ≡ RefusedStop (LimitNo Numbers GREATEST) }
+{
+    Stop::No(No::Limit {
+        what: Counted::Number,
+        most: MOST_NUMBER,
+    })
+}
+
+// The same of any disks: of those that tell their contents it is not taken up, and the import is refused as one for which no serial is left.
 fn start_found<R: Rack>(
     alloc: Global,
     laid: Laid<R>,
@@ -178,20 +216,10 @@ fn start_found<R: Rack>(
     requires large { LEAST_BLOCKS ≤ (laid_volumes laid).size units.now.srl }
     ensures starts { PlainStarts away units.now laid cut result.0 result.1 }
 {
-    if !is_dark(&laid.shelf) {
-        let stop = Stop::No(No::Limit {
-            what: Counted::Number,
-            most: MOST_NUMBER,
-        });
-        return plain_back(laid, cut, away, stop);
-    }
-    let (laid, started) = start_in(alloc, laid, units);
-    match started {
-        Ok(core) => (
-            DiskSet::Over(OverSet::of(GroupSite::Up(laid), Above::Origin(core), None)),
-            Ok(()),
-        ),
-        Err(stop) => plain_back(laid, cut, away, stop),
+    if is_dark(&laid.shelf) {
+        start_dark(alloc, laid, cut, units, away)
+    } else {
+        plain_back(laid, cut, away, too_few())
     }
 }
 

@@ -1,39 +1,39 @@
--- A start, for which memory is taken first.
-use Rattle.std.proofs.Common.{◌∙◌, ◌*◌, ◌<◌, ◌≤◌, ℕ, List, ap, arith, length, refl, subst, sym}
-use Rattle.std.specs.Prelude.{slice_index}
-use Rattle.vx_disk.specs.Maps.{maps_of}
-use Rattle.vx_ground.specs.Lifted.{laid_volumes}
-use Rattle.vx_model.specs.declared.limits.TheConstants.{LEAST_BLOCKS, LINK_PLACES, MOST_DATA_VOLUMES}
-use Rattle.vx_model.specs.Sizes.{ring_of}
-use Rattle.vx_model.specs.declared.errors.Stop.TheVariants.{OutOfMemory}
-use Rattle.vx_diskset.proofs.OverStarting.{fails_over}
+-- A start over the volumes of a group, and the disks of the site behind it.
+use Rattle.std.proofs.Common.{subst}
+use Rattle.vx_diskset.specs.OverStarts.{StartsIn}
 use Rattle.vx_diskset.proofs.over_starts.start_over.Goals as goal
 
-pub size-blocks-requires : goal.size-blocks-requires
-size-blocks-requires g c = c.requires.there.log_exists
+pub start_in-laid-requires : goal.start_in-laid-requires
+start_in-laid-requires g c = record { there = c.requires.there; large = c.requires.large }
 
-pub maps_over-maps-requires : goal.maps_over-maps-requires
-maps_over-maps-requires g c = record {
-  few = subst (λ (xs : List ℕ). length xs ≤ MOST_DATA_VOLUMES) (sym c.as_slice-vols.ensures.units) c.as_slice-vols.ensures.few;
-  exist = subst (λ (xs : List ℕ). (v : ℕ) → v < length xs → slice_index xs v < (laid_volumes c.args.laid).units) (sym c.as_slice-vols.ensures.units) c.requires.there.exist;
-}
-
-pub start_room-requires : goal.start_room-requires
-start_room-requires g c = subst (λ k. LEAST_BLOCKS ≤ k) (sym c.size-blocks.ensures) c.requires.large
-
-pub start_with-requires : goal.start_with-requires
-start_with-requires g c = record {
-  there = c.requires.there;
-  large = c.requires.large;
-  room = c.in-Ok.ensures.0 ∙ ap (λ k. ring_of k) c.size-blocks.ensures;
-  maps =
-      let is = c.in-Ok.ensures.1 ∙ c.maps_over-maps.ensures ∙ ap (λ (xs : List ℕ). LINK_PLACES * maps_of xs (laid_volumes c.args.laid)) c.as_slice-vols.ensures.units in
-      omega (arith, is);
-  none = c.in-Ok.ensures.2;
-}
+pub of-requires : goal.of-requires
+of-requires g c =
+    let it = subst (λ r. StartsIn c.args.units.now c.args.laid c.start_in-laid.result.0 r) c.in-Ok.is c.start_in-laid.ensures.starts in
+    it.0.does.1
 
 pub returns-in-Ok : goal.returns-in-Ok
-returns-in-Ok g c = record { starts = c.start_with.ensures.starts }
+returns-in-Ok g c =
+    let it = subst (λ r. StartsIn c.args.units.now c.args.laid c.start_in-laid.result.0 r) c.in-Ok.is c.start_in-laid.ensures.starts in
+    record {
+      starts = record {
+        laid = c.start_in-laid.result.0;
+        core = c.in-Ok.core;
+        starts = it.0;
+        alone = it.1;
+        site = c.of.ensures.site;
+        above = c.of.ensures.above;
+        cut = c.of.ensures.cut;
+      };
+    }
 
 pub returns-in-Err : goal.returns-in-Err
-returns-in-Err g c = record { starts = fails_over c.args.units.now c.args.laid c.args.laid c.args.cut OutOfMemory c.back_over.result.0 c.back_over.result.1 refl c.back_over.ensures.fell c.back_over.ensures.is }
+returns-in-Err g c = record {
+  starts = record {
+    mid = c.start_in-laid.result.0;
+    idle = c.fell_back.result;
+    tried = subst (λ r. StartsIn c.args.units.now c.args.laid c.start_in-laid.result.0 r) c.in-Err.is c.start_in-laid.ensures.starts;
+    fell = c.fell_back.ensures;
+    site = c.of-in-Err.ensures.site;
+    cut_is = c.of-in-Err.ensures.cut;
+  };
+}

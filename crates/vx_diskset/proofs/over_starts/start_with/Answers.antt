@@ -1,39 +1,34 @@
 -- A start over the volumes of a group that came up.
-use Rattle.std.proofs.Common.{subst}
-use Rattle.vx_ground.specs.Lifted.{laid_volumes}
-use Rattle.vx_diskset.specs.Works.{DoesStart}
-use Rattle.vx_diskset.proofs.OverStarting.{above_starts, fails_over, starts_over}
+use Rattle.std.proofs.Common.{◌∙◌, ap, inl, inr, refl, sym}
+use Rattle.std.specs.Prelude.{Err, Ok}
+use Rattle.vx_diskset.specs.OverStarts.{is_alone}
+use Rattle.vx_diskset.proofs.OverStarting.{starts_as}
 use Rattle.vx_diskset.proofs.over_starts.start_with.Goals as goal
-use Rattle.vx_model.specs.declared.errors.Stop.TheVariants.{No as Refused}
 
 pub work_over-laid-requires : goal.work_over-laid-requires
 work_over-laid-requires g c = (c.requires.there, c.requires.large, c.requires.room, c.requires.maps)
 
-pub of-requires : goal.of-requires
-of-requires g c =
-    let does = subst (λ r. DoesStart c.args.units.now (laid_volumes c.args.laid) (laid_volumes c.work_over-laid.result.0) r) c.in-Ok.is c.work_over-laid.ensures.does in
-    above_starts c.by_role.result c.in-Ok.core (laid_volumes c.work_over-laid.result.0) (c.by_role.ensures c.requires.none) does.1
+pub returns-then-stands_alone : goal.returns-then-stands_alone
+returns-then-stands_alone g c = record {
+  starts = (
+    starts_as c.args.units.now c.args.laid c.work_over-laid.result.0 c.work_over-laid.result.1 (Ok c.in-Ok.core) c.work_over-laid.ensures.does c.work_over-laid.ensures.ground c.work_over-laid.ensures.since c.work_over-laid.ensures.told c.in-Ok.is,
+    ap (λ s. is_alone s) (sym c.state.ensures.is) ∙ sym c.stands_alone.ensures ∙ c.if-stands_alone.true,
+  );
+}
 
-pub returns-in-Ok : goal.returns-in-Ok
-returns-in-Ok g c = record {
-  starts = starts_over c.args.units.now c.args.laid c.work_over-laid.result.0 c.in-Ok.core c.args.cut c.by_role.result c.of.result
-      (record {
-        does = subst (λ r. DoesStart c.args.units.now (laid_volumes c.args.laid) (laid_volumes c.work_over-laid.result.0) r) c.in-Ok.is c.work_over-laid.ensures.does;
-        ground = c.work_over-laid.ensures.ground;
-        since = c.work_over-laid.ensures.since;
-        told = c.work_over-laid.ensures.told;
-      })
-      (c.by_role.ensures c.requires.none) c.of.ensures.site c.of.ensures.above c.of.ensures.cut;
+pub returns-else-stands_alone : goal.returns-else-stands_alone
+returns-else-stands_alone g c = record {
+  starts = inr (
+    refl,
+    record {
+      core = c.in-Ok.core;
+      starts = starts_as c.args.units.now c.args.laid c.work_over-laid.result.0 c.work_over-laid.result.1 (Ok c.in-Ok.core) c.work_over-laid.ensures.does c.work_over-laid.ensures.ground c.work_over-laid.ensures.since c.work_over-laid.ensures.told c.in-Ok.is;
+      linked = ap (λ s. is_alone s) (sym c.state.ensures.is) ∙ sym c.stands_alone.ensures ∙ c.if-stands_alone.false;
+    },
+  );
 }
 
 pub returns-in-Err : goal.returns-in-Err
 returns-in-Err g c = record {
-  starts = fails_over c.args.units.now c.args.laid c.work_over-laid.result.0 c.args.cut (Refused c.in-Err.no) c.back_over.result.0 c.back_over.result.1
-      (record {
-        does = subst (λ r. DoesStart c.args.units.now (laid_volumes c.args.laid) (laid_volumes c.work_over-laid.result.0) r) c.in-Err.is c.work_over-laid.ensures.does;
-        ground = c.work_over-laid.ensures.ground;
-        since = c.work_over-laid.ensures.since;
-        told = c.work_over-laid.ensures.told;
-      })
-      c.back_over.ensures.fell c.back_over.ensures.is;
+  starts = inl (starts_as c.args.units.now c.args.laid c.work_over-laid.result.0 c.work_over-laid.result.1 (Err c.in-Err.no) c.work_over-laid.ensures.does c.work_over-laid.ensures.ground c.work_over-laid.ensures.since c.work_over-laid.ensures.told c.in-Err.is);
 }
