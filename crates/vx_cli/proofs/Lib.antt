@@ -3,6 +3,7 @@ pub mod CompleteLemmas
 pub mod EndsLemmas
 pub mod RvgTold
 pub mod LastLemmas
+pub mod NoOpens
 pub mod ReaderLemmas
 pub mod RunLemmas
 pub mod Sounds

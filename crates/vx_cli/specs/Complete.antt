@@ -1,5 +1,5 @@
 -- Which end a run comes to, where nothing cuts it off.
-use Rattle.std.specs.Prelude.{◌≡◌, ◌⊎◌, ℕ, ◌+◌, ◌≤◌, ◌<◌, Bool, List, [], ◌∷◌, ◌++◌, length, map, Option, Some, Ok, Err}
+use Rattle.std.specs.Prelude.{◌≡◌, ◌⊎◌, ℕ, ◌+◌, ◌≤◌, ◌<◌, Bool, List, [], ◌∷◌, ◌++◌, length, map, Option, Some, Result, Ok, Err}
 use Rattle.std.specs.List.{concat}
 use Rattle.std.specs.Io.KnownBytes.{Appends}
 use Rattle.vx_history.specs.Doubts.{Doubted}
@@ -8,6 +8,8 @@ use Rattle.vx_events.specs.Doubts.{sure}
 use Rattle.vx_yard.specs.Lines.{script_line}
 use Rattle.vx_events.specs.Fails.{Fails}
 use Rattle.vx_events.specs.OpenLines.{EndsRun}
+use Rattle.vx_events.specs.RvgSteps.{MakesNoRvg}
+use Rattle.vx_events.specs.StepsOver.{MakesNoGroup}
 use Rattle.vx_script.specs.Lines.{split_lines}
 use Rattle.vx_script.specs.declared.line.ScriptLine.{ScriptLine}
 use Rattle.vx_cli.specs.Runs.{RunsLines}
@@ -72,6 +74,16 @@ pub record StopsOpen (told : Type 0) (files : Bool) (status : Status) (lines : L
   pub says : script_line next ≡ Ok (Some words)
   pub ends : EndsRun files behind.world words
   pub is : status ≡ BadLine (length before + 1) 1
+
+-- a line that was read makes no group of disks and no replicated volume group
+abbrev pub MakesNone : Result (Option ScriptLine) ℕ → Type 0
+MakesNone (Ok (Some words)) = MakesNoGroup words × MakesNoRvg words
+MakesNone other = Unit {0}
+
+-- nor does any of these
+abbrev pub NoneMakesGroups : List (List ℕ) → Type 0
+NoneMakesGroups [] = Unit {0}
+NoneMakesGroups (line ∷ lines) = MakesNone (script_line line) × NoneMakesGroups lines
 
 -- a count that did not rise, and that does not stand at its greatest value
 pub record IsStillCount (before now : ℕ) : Type 0 where

@@ -4,6 +4,7 @@ ghost use Rattle.vx_history.specs.Doubts.{Doubted};
 ghost use Rattle.vx_script.specs.declared.line.ScriptLine.{ScriptLine};
 ghost use Rattle.vx_world.specs.Lines.{GoodDoubted};
 ghost use Rattle.vx_events.specs.Parts.{StopsShort};
+ghost use Rattle.vx_cli.specs.Complete.{NoneMakesGroups, StopsOpen};
 ghost use Rattle.vx_cli.specs.Ends.{LastWorld, NextGoesWhole};
 ghost use Rattle.vx_cli.specs.declared.status.Status.{Status};
 
@@ -17,4 +18,9 @@ pub fn no_line_is_done_in_part()
 /// their disks.
 pub fn a_part_stays_good()
     ensures { (d : Doubted) (line : ScriptLine) (new : Doubted) → GoodDoubted d → StopsShort (Unit {0}) d line new → GoodDoubted new }
+{}
+
+/// A run over disks that tell their contents ends at no open line where none of its lines makes a group of disks: such a script is done whole.
+pub fn without_groups_none_is_open()
+    ensures { (files : Bool) (status : Status) (lines : List (List ℕ)) → NoneMakesGroups lines → StopsOpen (Unit {0}) files status lines → ⊥ }
 {}

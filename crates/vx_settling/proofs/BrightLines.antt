@@ -1,12 +1,12 @@
 -- However a line ends that is no refused recovery or import, it stays known what the disks of all groups hold, where imports agree of a group that it brings up.
-use Rattle.std.proofs.Common.{◌≡◌, ◌∙◌, inl, inr, ℕ, List, [], ◌∷◌, ◌++◌, Bool, true, false, ap, sym, subst}
+use Rattle.std.proofs.Common.{◌≡◌, ◌∙◌, inl, inr, ℕ, List, [], ◌∷◌, ◌++◌, Bool, true, false, ap, sym, subst, refl}
 use Rattle.std.specs.Prelude.{Option, Some, None, unwrap_or}
 use Rattle.vx_model.specs.declared.no.No.{No}
-use Rattle.vx_history.specs.Doubts.{Doubted, crashed_as, halved}
+use Rattle.vx_history.specs.Doubts.{Doubted}
 use Rattle.vx_history.specs.Groups.{GroupNode}
 use Rattle.vx_history.specs.World.{Node, World}
 use Rattle.vx_history.specs.declared.event.Event.{Event}
-use Rattle.vx_history.specs.declared.event.Event.TheVariants.{Crash as CrashAt, Fault, Recover as RecoverAt}
+use Rattle.vx_history.specs.declared.event.Event.TheVariants.{Crash as CrashAt, Recover as RecoverAt}
 use Rattle.vx_script.specs.declared.line.ScriptLine.{ScriptLine}
 use Rattle.vx_script.specs.declared.line.ScriptLine.TheVariants.{GroupImport, Recover, Rvg}
 use Rattle.vx_events.proofs.KnownLaws.{group_known, left_note}
@@ -16,19 +16,16 @@ use Rattle.vx_events.proofs.RvgKnown.{making_known, narrowed_dark, over_known, n
 use Rattle.vx_events.proofs.RvgStays.{back_group}
 use Rattle.vx_events.proofs.RvgTests.{gained_note}
 use Rattle.vx_events.specs.Doubts.{IsAs, run_as, with_disks}
-use Rattle.vx_events.specs.Ends.{AllDone, DiskFails, Ends, FindsLinks, FindsNone, FuseRunsOut, HeaderFails, IsLeft, NoNumber, ShowsReceived, noted, place_of}
+use Rattle.vx_events.specs.Ends.{place_of}
 use Rattle.vx_events.specs.Facts.{site_number}
 use Rattle.vx_events.specs.Fails.{Fails}
 use Rattle.vx_events.specs.GroupEnds.{BringsUp, FindsGroup, FindsNoGroup, GroupCut, GroupDone, GroupEnds, GroupFails, GroupLacks, GroupNotFound, ImportFails, InitFails, IsLeftOver, KeptUnread}
 use Rattle.vx_events.specs.GroupLines.{cut_events, group_events, group_noted, noting, refused_events, unread_events}
 use Rattle.vx_events.specs.GroupNotes.{IsKnown, no_note, note_at}
 use Rattle.vx_events.specs.Known.{MayDarken, SaysNo}
-use Rattle.vx_events.specs.Lines.{EndsBy, is_of_links}
-use Rattle.vx_events.specs.LinkEnds.{AppliesCut, AppliesPart, AreLeft, LinkEnds, LinksCut, LinksDone, LinksFind, LinksHalt, LogUnread, NoHeader, link_noted}
-use Rattle.vx_events.specs.Lists.{events_of}
-use Rattle.vx_events.specs.LinkLists.{link_events}
+use Rattle.vx_events.specs.Lines.{is_of_links}
 use Rattle.vx_events.specs.RvgBack.{GroupHeld, GroupUnfound, IsLeftBack, KeptLost, LogFails, LogLacks, RvgBack, RvgUp, fall_first}
-use Rattle.vx_events.specs.Brights.{AllBright, IsBright}
+use Rattle.vx_events.specs.Brights.{AllBright, IsBright, IsBrightNote}
 use Rattle.vx_events.proofs.Tolds.{told_now}
 use Rattle.vx_events.specs.RvgMakes.{IsLeftRvg, MakesRvg, RvgCut, RvgDone, RvgFails, RvgLacks, noting_in, units_at}
 use Rattle.vx_events.specs.RvgNotes.{volume_events}
@@ -40,14 +37,10 @@ use Rattle.vx_events.specs.Strays.{told_for}
 use Rattle.vx_events.specs.declared.said.Said.{Said}
 use Rattle.vx_events.specs.declared.said.Said.TheVariants.{Refused}
 use Rattle.vx_settling.specs.Brights.{IsHeldDown}
-use Rattle.vx_settling.proofs.Brights.{as_bright, crashed_bright, disks_bright, group_noted_bright, halved_bright, link_noted_bright, noted_bright, noting_bright, run_bright, runs_bright, worked_bright, node_bright}
+use Rattle.vx_settling.proofs.Brights.{as_bright, disks_bright, group_noted_bright, node_bright, noting_bright, run_bright, worked_bright}
+use Rattle.vx_settling.proofs.EachLines.{ends_each, kind_each}
 
 -- ---- what a line leaves
-
-left_bright : (s : ℕ) (line : ScriptLine) (taken : Bool) (d last new : Doubted) → IsLeft s line taken d last new → AllBright d → AllBright last → AllBright new
-left_bright s line taken d last new left before b =
-    let u : World = with_disks taken s d.world last.world in
-    as_bright last (noted s line u) new left (noted_bright s line u (disks_bright taken s d.world last.world before.sites b.sites)) b
 
 -- what the site notes is bright, where the site is
 pub next_bright : (m : Node) (next : GroupNode) → m.group ≡ Some next → IsBright m → next.dark ≡ false
@@ -81,53 +74,6 @@ same_bright d new left b = as_bright d d.world new left b.sites b
 -- another note of the group of a site
 in_bright : (d : Doubted) (s : ℕ) (note : GroupNode) → note.dark ≡ false → AllBright d → AllBright (noting_in d s note)
 in_bright d s note known b = record { sites = noting_bright d.world s note known b.sites; doubts = b.doubts }
-
--- ---- lines on no group
-
-ends_bright : (told : Type 0) → told → (d : Doubted) (line : ScriptLine) (s : ℕ) (fails : Fails) (said : Said) (new : Doubted) → AllBright d
-    → Ends told d line s fails said new → AllBright new
-ends_bright told tells d line s fails said new b (AllDone c taken borne says left) =
-    left_bright s line taken d (run_as taken d (events_of d.world line c)) new left b (run_bright taken d (events_of d.world line c) b)
-ends_bright told tells d line s fails said new b (DiskFails c taken before e rest leaves disk is led may failed says left) =
-    left_bright s line taken d (run_as taken d (before ++ leaves)) new left b (run_bright taken d (before ++ leaves) b)
-ends_bright told tells d line s fails said new b (HeaderFails c e f disk is leaves writes failed says left) =
-    left_bright s line false d (halved d f s disk) new left b (halved_bright d f s disk b)
-ends_bright told tells d line s fails said new b (FuseRunsOut c e begun is begins keeps fused failed says left) =
-    left_bright s line false d (run_as false d (begun ++ CrashAt s c.kept ∷ [])) new left b (run_bright false d (begun ++ CrashAt s c.kept ∷ []) b)
-ends_bright told tells d line s fails said new b (NoNumber c taken before e rest is may none failed says left) =
-    left_bright s line taken d (run_as taken d before) new left b (run_bright taken d before b)
-ends_bright told tells d line s fails said new b (ShowsReceived site volume start count is role gives borne left) = left_bright s line false d d new left b b
-ends_bright told tells d line s fails said new b (FindsLinks untold c taken site mid n k row is recovers comes borne says left) = absurd (untold tells)
-ends_bright told tells d line s fails said new b (FindsNone untold c taken site mid n why is recovers device failed says left) = absurd (untold tells)
-
-are_bright : (line : ScriptLine) (d last new : Doubted) → AreLeft line d last new → AllBright last → AllBright new
-are_bright line d last new left b = as_bright last (link_noted d.world line last.world) new left (link_noted_bright d.world line last.world b.sites) b
-
-links_bright : (told : Type 0) → told → (d : Doubted) (line : ScriptLine) (fails : Fails) (said : Said) (new : Doubted) → AllBright d → LinkEnds told d line fails said new
-    → AllBright new
-links_bright told tells d line fails said new b (LinksDone last runs none borne says left) =
-    are_bright line d last new left (runs_bright (link_events d.world line) d last b runs)
-links_bright told tells d line fails said new b (LinksHalt e site disk middle comes here is says left) =
-    are_bright line d (halved middle e site disk) new left (halved_bright middle e site disk (runs_bright comes.before d middle b comes.runs))
-links_bright told tells d line fails said new b (AppliesPart before rest site count reached disk last split runs none here is says left) =
-    are_bright line d last new left (runs_bright (before ++ Fault site disk ∷ []) d last b runs)
-links_bright told tells d line fails said new b (AppliesCut before rest site count reached kept taken middle split runs none few opens fused failed says left) =
-    let h : Doubted = halved middle (Fault site 0) site 0 in
-    are_bright line d (crashed_as h site kept taken) new left
-    (crashed_bright h site kept taken (halved_bright middle (Fault site 0) site 0 (runs_bright before d middle b runs)))
-links_bright told tells d line fails said new b (LinksCut e site kept taken middle comes fused none says left) =
-    let h : Doubted = halved middle e site 0 in
-    are_bright line d (crashed_as h site kept taken) new left (crashed_bright h site kept taken (halved_bright middle e site 0 (runs_bright comes.before d middle b comes.runs)))
-links_bright told tells d line fails said new b (LogUnread before rest e site disk middle split reads runs none here is says left) =
-    are_bright line d middle new left (runs_bright before d middle b runs)
-links_bright told tells d line fails said new b (NoHeader before rest e site middle split takes runs none most is says left) =
-    are_bright line d middle new left (runs_bright before d middle b runs)
-links_bright told tells d line fails said new b (LinksFind untold last finds left) = absurd (untold tells)
-
-by_kind : (told : Type 0) → told → (links : Bool) (d : Doubted) (line : ScriptLine) (fails : Fails) (said : Said) (new : Doubted) → AllBright d
-    → EndsBy links told d line fails said new → AllBright new
-by_kind told tells true d line fails said new b ends = links_bright told tells d line fails said new b ends
-by_kind told tells false d line fails said new b ends = ends_bright told tells d line (place_of d.world line) fails said new b ends
 
 -- ---- lines at a site over a group
 
@@ -176,7 +122,7 @@ module _ (told : Type 0) (tells : told) (d : Doubted) (b : AllBright d) (fails :
 
   line_bright : (line : ScriptLine) (s : ℕ) → IsBright (new.world.nodes s) → EndsOver told d line s fails said new → AllBright new
   line_bright line s here h =
-      let middle : AllBright h.middle = ends_bright (IsKnown told (note_at (d.world.nodes s))) (tells, b.sites s) d line (place_of d.world line) h.ending h.inner h.middle b h.ends in
+      let middle : AllBright h.middle = ends_each IsBrightNote refl (IsKnown told (note_at (d.world.nodes s))) (tells, b.sites s) d line (place_of d.world line) h.ending h.inner h.middle b h.ends in
       let known : h.next.dark ≡ false = next_bright (new.world.nodes s) h.next (over_group h.middle s h.next h.left) here in
       let u : World = h.middle.world in
       as_bright h.middle (noting_over line d.world u s h.next) new h.left
@@ -222,7 +168,7 @@ module _ (told : Type 0) (tells : told) (d : Doubted) (b : AllBright d) (fails :
       by_group true ends =
           let s : ℕ = group_place d.world line in
           group_bright d b fails said new (told_for told d line) line s held (group_known (told_for told d line) now d line s fails said new ends (b.sites s) (dim line s agree held)) ends
-      by_group false (inl step) = by_kind (told_for told d line) now (is_of_links line) d line fails said new b step.ends
+      by_group false (inl step) = kind_each IsBrightNote refl (told_for told d line) now (is_of_links line) d line fails said new b step.ends
       by_group false (inr kept) = absurd (kept.untold now)
   beside_bright calm line held agree (FoundOne finds) =
       let s : ℕ = group_place d.world line in

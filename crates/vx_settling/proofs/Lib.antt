@@ -15,6 +15,9 @@ pub mod WithinOne
 pub mod WithinLines
 pub mod WithinApply
 pub mod RvgRooms
+pub mod EachNote
+pub mod EachLines
+pub mod NoGroups
 pub mod Brights
 pub mod BrightLines
 pub mod Shorts
