@@ -78,5 +78,5 @@ module _ {R : Type 0} {g : Ghosts R} (mid : Laid R g) (fell : Idle R g) (it : La
     pub back_dark : is_dark fell.rack ≡ true → FellBack mid idle
     back_dark dark = record { fell = fell; is = it; rack = rack ∙ dark_same fell.rack dark; rested = rested; agreed = λ bright. absurd (both_ways (is_dark fell.rack) bright dark); void = λ on. agreed }
 
-    pub back_darkened : FellDark mid idle
-    back_darkened = record { fell = fell; is = it; rack = rack; agreed = agreed; rested = rested }
+  pub back_darkened : (rested : Option Rested) (idle : Idle R g) → idle.rack ≡ Dark (rack_of fell.rack) → idle.agreed ≡ true → idle.rested ≡ rested → FellDark rested mid idle
+  back_darkened rested idle rack agreed stays = record { fell = fell; is = it; rack = rack; agreed = agreed; stays = stays }

@@ -8,6 +8,7 @@ use Rattle.vx_grouped.specs.GroupSites.{laid_below, laid_disks}
 use Rattle.vx_grouped.specs.declared.group_site.GroupSite.{GroupSite}
 use Rattle.vx_grouped.specs.declared.group_site.GroupSite.TheVariants.{Deported, Down, Gone, Marked, Up}
 use Rattle.vx_grouped.specs.declared.laid.Laid.{Laid}
+use Rattle.vx_logimport.specs.declared.rested.Rested.{Rested}
 use Rattle.vx_model.specs.declared.errors.Stop.{Stop}
 use Rattle.vx_model.specs.declared.errors.Stop.TheVariants.{No as Refused}
 use Rattle.vx_model.specs.declared.no.No.{No}
@@ -31,16 +32,16 @@ module _ {R : Type 0} {g : Ghosts R} where
 
   -- ---- a site that had no replicated volume group
 
-  pub plain_fails : (away : Bool) (units : Units) (old mid : Laid R g) (cut : Option CutWrite) (stop : Stop) (new : DiskSet R g) (r : Result (Unit {0}) Stop) → PlainTried units old mid stop → PlainBack away mid cut stop new r → PlainStarts away units old cut new r
-  plain_fails away units old mid cut stop (Bare rack) r tried back = absurd back
-  plain_fails away units old mid cut stop (Spoiled rack) r tried back = absurd back
-  plain_fails away units old mid cut stop (UpSet rvg) r tried back = absurd back
-  plain_fails away units old mid cut stop (Receives s) r tried back = absurd back
-  plain_fails away units old mid cut stop (DownSet rack) r tried back = absurd back
-  plain_fails away units old mid cut stop (OfGroup s) r tried back =
-      subst (λ (x : Result (Unit {0}) Stop). PlainStarts away units old cut (OfGroup s) x) (sym back.2) (record { mid = mid; tried = tried; fell = back.0; cut_is = back.1 })
-  plain_fails away units old mid cut stop (Over s) r tried back = absurd back
-  plain_fails away units old mid cut stop GoneSet r tried back = absurd back
+  pub plain_fails : (away : Bool) (rested : Option Rested) (units : Units) (old mid : Laid R g) (cut : Option CutWrite) (stop : Stop) (new : DiskSet R g) (r : Result (Unit {0}) Stop) → PlainTried units old mid stop → PlainBack away rested mid cut stop new r → PlainStarts away rested units old cut new r
+  plain_fails away rested units old mid cut stop (Bare rack) r tried back = absurd back
+  plain_fails away rested units old mid cut stop (Spoiled rack) r tried back = absurd back
+  plain_fails away rested units old mid cut stop (UpSet rvg) r tried back = absurd back
+  plain_fails away rested units old mid cut stop (Receives s) r tried back = absurd back
+  plain_fails away rested units old mid cut stop (DownSet rack) r tried back = absurd back
+  plain_fails away rested units old mid cut stop (OfGroup s) r tried back =
+      subst (λ (x : Result (Unit {0}) Stop). PlainStarts away rested units old cut (OfGroup s) x) (sym back.2) (record { mid = mid; tried = tried; fell = back.0; cut_is = back.1 })
+  plain_fails away rested units old mid cut stop (Over s) r tried back = absurd back
+  plain_fails away rested units old mid cut stop GoneSet r tried back = absurd back
 
   -- ---- a site that did not come up
 
@@ -51,9 +52,9 @@ module _ {R : Type 0} {g : Ghosts R} where
   with_none (Marked rack) cut never = (refl, refl)
   with_none Gone cut never = (refl, refl)
 
-  pub plain_none : (away : Bool) (e : GroupSite R g) (cut : Option CutWrite) → ((laid : Laid R g) → e ≡ Up laid → ⊥) → WithPlain away e cut (let s : GroupSet R g = record { site = e; cut = cut } in OfGroup s) (Err (Refused NoRole))
-  plain_none away (Up laid) cut never = absurd (never laid refl)
-  plain_none away (Deported idle) cut never = (refl, refl)
-  plain_none away (Down idle) cut never = (refl, refl)
-  plain_none away (Marked rack) cut never = (refl, refl)
-  plain_none away Gone cut never = (refl, refl)
+  pub plain_none : (away : Bool) (rested : Option Rested) (e : GroupSite R g) (cut : Option CutWrite) → ((laid : Laid R g) → e ≡ Up laid → ⊥) → WithPlain away rested e cut (let s : GroupSet R g = record { site = e; cut = cut } in OfGroup s) (Err (Refused NoRole))
+  plain_none away rested (Up laid) cut never = absurd (never laid refl)
+  plain_none away rested (Deported idle) cut never = (refl, refl)
+  plain_none away rested (Down idle) cut never = (refl, refl)
+  plain_none away rested (Marked rack) cut never = (refl, refl)
+  plain_none away rested Gone cut never = (refl, refl)

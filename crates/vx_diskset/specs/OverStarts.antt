@@ -8,12 +8,13 @@ use Rattle.vx_grouped.specs.Brings.{BringsAtSite, CameKnown}
 use Rattle.vx_grouped.specs.GroupSites.{AwayNoted, DownNoted, idle_below, idle_disks, laid_below, laid_disks, site_below, site_disks}
 use Rattle.vx_grouped.specs.SiteEnds.{stops_down}
 use Rattle.vx_grouped.specs.SiteMaps.{CameMapped}
-use Rattle.vx_grouped.specs.SiteReturns.{LateDark, LessLeft, ReturnSince, SiteImports, SiteRecovers, as_imported}
+use Rattle.vx_grouped.specs.SiteReturns.{LateDark, LessLeft, ReturnSince, SiteImports, SiteRecovers, as_imported, site_rested}
 use Rattle.vx_grouped.specs.declared.group_site.GroupSite.{GroupSite}
 use Rattle.vx_grouped.specs.declared.group_site.GroupSite.TheVariants.{Up, Deported, Down}
 use Rattle.vx_grouped.specs.declared.idle.Idle.{Idle}
 use Rattle.vx_grouped.specs.declared.laid.Laid.{Laid}
 use Rattle.vx_history.specs.Groups.{GroupNode}
+use Rattle.vx_logimport.specs.declared.rested.Rested.{Rested}
 use Rattle.vx_history.specs.World.{Node}
 use Rattle.vx_model.specs.Sites.{is_origin}
 use Rattle.vx_model.specs.declared.errors.Stop.{Stop}
@@ -154,48 +155,48 @@ module _ {R : Type 0} {g : Ghosts R} where
     pub since : ReturnSince (idle_disks fell) (idle_disks idle)
     pub told : TellsLess (idle_below fell) (idle_below idle)
 
-  -- the disks crash, and tell nothing from then on
-  pub record FellDark (mid : Laid R g) (idle : Idle R g) : Type 0 where
+  -- The disks crash, and tell nothing from then on: of which volumes they told what a clean stop left is void of them, and is what it was before the import.
+  pub record FellDark (rested : Option Rested) (mid : Laid R g) (idle : Idle R g) : Type 0 where
     pub fell : Idle R g
     pub is : LaidFell all_latest mid fell
     pub rack : idle.rack ≡ Dark (rack_of fell.rack)
     pub agreed : idle.agreed ≡ true
-    pub rested : idle.rested ≡ fell.rested
+    pub stays : idle.rested ≡ rested
 
   -- those of a site that was deported are by themselves then
-  abbrev pub DarkBack : (away : Bool) → Laid R g → GroupSite R g → Type 0
-  DarkBack false mid (Down idle) = FellDark mid idle
-  DarkBack true mid (Deported idle) = (fell : Idle R g) × FellDark mid fell × Revived fell idle
-  DarkBack away mid other = ⊥
+  abbrev pub DarkBack : (away : Bool) → Option Rested → Laid R g → GroupSite R g → Type 0
+  DarkBack false rested mid (Down idle) = FellDark rested mid idle
+  DarkBack true rested mid (Deported idle) = (fell : Idle R g) × FellDark rested mid fell × Revived fell idle
+  DarkBack away rested mid other = ⊥
 
   -- What was found of a replicated volume group is taken up only of disks that tell nothing. Else the import is refused, as one for which no serial is left.
   abbrev pub PlainTried : Units → Laid R g → Laid R g → Stop → Type 0
   PlainTried units old mid stop = ((is_dark old.shelf ≡ true) × TriedOn units old mid stop) ⊎ ((mid ≡ old) × (stop ≡ Refused (Limit Numbers MOST_NUMBER)))
 
   -- then the group is as behind an import that was refused, and the write is cut still
-  pub record PlainFails (away : Bool) (units : Units) (old : Laid R g) (cut : Option CutWrite) (s : GroupSet R g) (stop : Stop) : Type 0 where
+  pub record PlainFails (away : Bool) (rested : Option Rested) (units : Units) (old : Laid R g) (cut : Option CutWrite) (s : GroupSet R g) (stop : Stop) : Type 0 where
     pub mid : Laid R g
     pub tried : PlainTried units old mid stop
-    pub fell : DarkBack (away && not (stops_down stop)) mid s.site
+    pub fell : DarkBack (away && not (stops_down stop)) rested mid s.site
     pub cut_is : s.cut ≡ cut
 
   -- so it is behind an import that is refused so
-  abbrev pub PlainBack : (away : Bool) → Laid R g → Option CutWrite → Stop → DiskSet R g → Result (Unit {0}) Stop → Type 0
-  PlainBack away mid cut stop (OfGroup s) r = DarkBack (away && not (stops_down stop)) mid s.site × (s.cut ≡ cut) × (r ≡ Err stop)
-  PlainBack away mid cut stop other r = ⊥
+  abbrev pub PlainBack : (away : Bool) → Option Rested → Laid R g → Option CutWrite → Stop → DiskSet R g → Result (Unit {0}) Stop → Type 0
+  PlainBack away rested mid cut stop (OfGroup s) r = DarkBack (away && not (stops_down stop)) rested mid s.site × (s.cut ≡ cut) × (r ≡ Err stop)
+  PlainBack away rested mid cut stop other r = ⊥
 
-  abbrev pub PlainStarts : (away : Bool) → Units → Laid R g → Option CutWrite → DiskSet R g → Result (Unit {0}) Stop → Type 0
-  PlainStarts away units old cut (Over s) (Ok done) = (is_dark old.shelf ≡ true) × Started units old s
-  PlainStarts away units old cut (OfGroup s) (Err stop) = PlainFails away units old cut s stop
-  PlainStarts away units old cut other r = ⊥
+  abbrev pub PlainStarts : (away : Bool) → Option Rested → Units → Laid R g → Option CutWrite → DiskSet R g → Result (Unit {0}) Stop → Type 0
+  PlainStarts away rested units old cut (Over s) (Ok done) = (is_dark old.shelf ≡ true) × Started units old s
+  PlainStarts away rested units old cut (OfGroup s) (Err stop) = PlainFails away rested units old cut s stop
+  PlainStarts away rested units old cut other r = ⊥
 
-  abbrev pub PlainUnits : (away : Bool) → Option Units → Laid R g → Option CutWrite → DiskSet R g → Result (Unit {0}) Stop → Type 0
-  PlainUnits away None laid cut new r = (new ≡ (let s : GroupSet R g = record { site = Up laid; cut = None } in OfGroup s)) × (r ≡ Ok tt)
-  PlainUnits away (Some units) laid cut new r = PlainStarts away units laid cut new r
+  abbrev pub PlainUnits : (away : Bool) → Option Rested → Option Units → Laid R g → Option CutWrite → DiskSet R g → Result (Unit {0}) Stop → Type 0
+  PlainUnits away rested None laid cut new r = (new ≡ (let s : GroupSet R g = record { site = Up laid; cut = None } in OfGroup s)) × (r ≡ Ok tt)
+  PlainUnits away rested (Some units) laid cut new r = PlainStarts away rested units laid cut new r
 
-  abbrev pub WithPlain : (away : Bool) → GroupSite R g → Option CutWrite → DiskSet R g → Result (Unit {0}) Stop → Type 0
-  WithPlain away (Up laid) cut new r = PlainUnits away laid.core.inner.config.rvg laid cut new r
-  WithPlain away other cut new r = (new ≡ (let s : GroupSet R g = record { site = other; cut = cut } in OfGroup s)) × (r ≡ Err (Refused NoRole))
+  abbrev pub WithPlain : (away : Bool) → Option Rested → GroupSite R g → Option CutWrite → DiskSet R g → Result (Unit {0}) Stop → Type 0
+  WithPlain away rested (Up laid) cut new r = PlainUnits away rested laid.core.inner.config.rvg laid cut new r
+  WithPlain away rested other cut new r = (new ≡ (let s : GroupSet R g = record { site = other; cut = cut } in OfGroup s)) × (r ≡ Err (Refused NoRole))
 
   -- ---- behind an import of the group
 
@@ -204,9 +205,9 @@ module _ {R : Type 0} {g : Ghosts R} where
   BehindImport mid cut new (Ok done) r = WithRvg mid cut new r
   BehindImport mid cut new (Err stop) r = AtSite (λ e. e ≡ mid) new × (cut_in new ≡ cut_value cut) × (r ≡ Err stop)
 
-  abbrev pub BehindPlain : (away : Bool) → GroupSite R g → Option CutWrite → DiskSet R g → Result (Unit {0}) Stop → Result (Unit {0}) Stop → Type 0
-  BehindPlain away mid cut new (Ok done) r = WithPlain away mid cut new r
-  BehindPlain away mid cut new (Err stop) r = (new ≡ (let s : GroupSet R g = record { site = mid; cut = cut } in OfGroup s)) × (r ≡ Err stop)
+  abbrev pub BehindPlain : (away : Bool) → Option Rested → GroupSite R g → Option CutWrite → DiskSet R g → Result (Unit {0}) Stop → Result (Unit {0}) Stop → Type 0
+  BehindPlain away rested mid cut new (Ok done) r = WithPlain away rested mid cut new r
+  BehindPlain away rested mid cut new (Err stop) r = (new ≡ (let s : GroupSet R g = record { site = mid; cut = cut } in OfGroup s)) × (r ≡ Err stop)
 
   -- the import itself
   pub record BroughtBy (old mid : GroupSite R g) (answer : Result (Unit {0}) Stop) : Type 0 where
@@ -224,7 +225,7 @@ module _ {R : Type 0} {g : Ghosts R} where
     pub mid : GroupSite R g
     pub answer : Result (Unit {0}) Stop
     pub by : BroughtBy old mid answer
-    pub behind : BehindPlain away mid cut new answer r
+    pub behind : BehindPlain away (site_rested old) mid cut new answer r
 
   -- the same of a site that crashed, which hands out the write that its crash cut
   pub record RaisesBy (old : GroupSite R g) (cut : Option CutWrite) (new : DiskSet R g) (r : Result (Option CutWrite) Stop) : Type 0 where

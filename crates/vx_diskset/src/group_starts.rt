@@ -139,9 +139,10 @@ fn import_in<R: Rack>(group: GroupSet<R>, alloc: Global) -> (DiskSet<R>, Result<
     ensures told { AtSite (λ e. TellsLess (site_below group.site) (site_below e)) result.0 }
 {
     let cut = group.cut;
+    let tells = group.site.rested();
     let (site, answer) = group.site.import(alloc);
     match answer {
-        Ok(()) => with_plain(alloc, site, cut, true),
+        Ok(()) => with_plain(alloc, site, cut, true, tells),
         Err(stop) => (DiskSet::OfGroup(GroupSet { site, cut }), Err(stop)),
     }
 }
@@ -169,10 +170,11 @@ fn raise_in<R: Rack>(
 {
     let cut = group.cut;
     let kept = group.cut;
+    let tells = group.site.rested();
     let (site, answer) = group.site.import(alloc);
     match answer {
         Ok(()) => {
-            let (disk_set, started) = with_plain(alloc, site, cut, false);
+            let (disk_set, started) = with_plain(alloc, site, cut, false, tells);
             (disk_set, hands_out(started, kept))
         }
         Err(stop) => (DiskSet::OfGroup(GroupSet { site, cut }), Err(stop)),

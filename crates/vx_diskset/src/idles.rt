@@ -8,6 +8,7 @@ ghost use Rattle.vx_untold.specs.declared.shade.Shade.TheVariants.{Dark as DarkR
 
 use vx_disk::Rack;
 use vx_grouped::{GroupSite, Idle, Laid};
+use vx_logimport::Rested;
 use vx_untold::Shade;
 
 // Whether the newest configuration is committed, and no plex is held back.
@@ -50,12 +51,11 @@ pub(crate) fn is_dark<R: Rack>(rack: &Shade<R>) -> bool
 }
 
 // Disks that tell nothing from then on: imports of them are held to agree, which is void.
-fn dark_idle<R: Rack>(idle: Idle<R>) -> Idle<R>
+fn dark_idle<R: Rack>(idle: Idle<R>, rested: Option<Rested>) -> Idle<R>
     ensures rack { result.rack ≡ DarkRack (rack_of idle.rack) }
     ensures agreed { result.agreed ≡ true }
-    ensures rested { result.rested ≡ idle.rested }
+    ensures rested { result.rested ≡ rested }
 {
-    let rested = idle.rested;
     Idle::of(idle.rack.darkened(), true, rested)
 }
 
@@ -64,22 +64,27 @@ pub(crate) fn fell_back<R: Rack>(laid: Laid<R>) -> Idle<R>
     ensures { FellBack laid result }
 {
     let idle = fell_idle(laid, u64::MAX);
-    if is_dark(&idle.rack) { dark_idle(idle) } else { idle }
+    if is_dark(&idle.rack) {
+        let rested = idle.rested;
+        dark_idle(idle, rested)
+    } else {
+        idle
+    }
 }
 
-// The same, and they tell nothing from then on.
-fn fell_dark<R: Rack>(laid: Laid<R>) -> Idle<R>
-    ensures { FellDark laid result }
+// The same, and they tell nothing from then on. What they told of volumes before the import is kept.
+fn fell_dark<R: Rack>(laid: Laid<R>, rested: Option<Rested>) -> Idle<R>
+    ensures { FellDark rested laid result }
 {
     let idle = fell_idle(laid, u64::MAX);
-    dark_idle(idle)
+    dark_idle(idle, rested)
 }
 
 /// The disks of a site that had no replicated volume group, behind one that was found and is not taken up: those of a site that was deported are by themselves.
-pub(crate) fn dark_back<R: Rack>(laid: Laid<R>, away: bool) -> GroupSite<R>
-    ensures { DarkBack away laid result }
+pub(crate) fn dark_back<R: Rack>(laid: Laid<R>, away: bool, rested: Option<Rested>) -> GroupSite<R>
+    ensures { DarkBack away rested laid result }
 {
-    let idle = fell_dark(laid);
+    let idle = fell_dark(laid, rested);
     if away {
         GroupSite::Deported(idle.revive())
     } else {

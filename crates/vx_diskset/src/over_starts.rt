@@ -20,8 +20,11 @@ use vx_config::Config;
 use vx_disk::Rack;
 use vx_ground::work_over;
 use vx_grouped::{GroupSite, Laid, is_down_stop};
+use vx_logimport::Rested;
 use vx_model::limits::{LEAST_BLOCKS, LINK_PLACES, MOST_NUMBER};
-use vx_model::{Counted, KeptLink, No, OutOfMemory, SPhase, State, Stop, Units, is_origin, map_blocks};
+use vx_model::{
+    Counted, KeptLink, No, OutOfMemory, SPhase, State, Stop, Units, is_origin, map_blocks,
+};
 use vx_rvg::{RvgCore, StartRoom};
 
 fn is_idle(phase: SPhase) -> bool
@@ -163,12 +166,13 @@ fn plain_back<R: Rack>(
     laid: Laid<R>,
     cut: Option<CutWrite>,
     away: bool,
+    rested: Option<Rested>,
     stop: Stop,
 ) -> (DiskSet<R>, Result<(), Stop>)
-    ensures { PlainBack away laid cut stop result.0 result.1 }
+    ensures { PlainBack away rested laid cut stop result.0 result.1 }
 {
     let rests = rests_away(away, &stop);
-    let site = dark_back(laid, rests);
+    let site = dark_back(laid, rests, rested);
     (DiskSet::OfGroup(GroupSet { site, cut }), Err(stop))
 }
 
@@ -179,10 +183,11 @@ fn start_dark<R: Rack>(
     cut: Option<CutWrite>,
     units: &Units,
     away: bool,
+    rested: Option<Rested>,
 ) -> (DiskSet<R>, Result<(), Stop>)
     requires there { UnitsPlaced units.now (laid_volumes laid) }
     requires large { LEAST_BLOCKS ≤ (laid_volumes laid).size units.now.srl }
-    ensures starts { is_dark_of laid.shelf ≡ true → PlainStarts away units.now laid cut result.0 result.1 }
+    ensures starts { is_dark_of laid.shelf ≡ true → PlainStarts away rested units.now laid cut result.0 result.1 }
 {
     let (laid, started) = start_in(alloc, laid, units);
     match started {
@@ -190,7 +195,7 @@ fn start_dark<R: Rack>(
             DiskSet::Over(OverSet::of(GroupSite::Up(laid), Above::Origin(core), None)),
             Ok(()),
         ),
-        Err(stop) => plain_back(laid, cut, away, stop),
+        Err(stop) => plain_back(laid, cut, away, rested, stop),
     }
 }
 
@@ -211,15 +216,16 @@ fn start_found<R: Rack>(
     cut: Option<CutWrite>,
     units: &Units,
     away: bool,
+    rested: Option<Rested>,
 ) -> (DiskSet<R>, Result<(), Stop>)
     requires there { UnitsPlaced units.now (laid_volumes laid) }
     requires large { LEAST_BLOCKS ≤ (laid_volumes laid).size units.now.srl }
-    ensures starts { PlainStarts away units.now laid cut result.0 result.1 }
+    ensures starts { PlainStarts away rested units.now laid cut result.0 result.1 }
 {
     if is_dark(&laid.shelf) {
-        start_dark(alloc, laid, cut, units, away)
+        start_dark(alloc, laid, cut, units, away, rested)
     } else {
-        plain_back(laid, cut, away, too_few())
+        plain_back(laid, cut, away, rested, too_few())
     }
 }
 
@@ -259,11 +265,12 @@ fn plain_units<R: Rack>(
     laid: Laid<R>,
     cut: Option<CutWrite>,
     away: bool,
+    rested: Option<Rested>,
 ) -> (DiskSet<R>, Result<(), Stop>)
-    ensures over { PlainUnits away laid.core.inner.config.rvg laid cut result.0 result.1 }
+    ensures over { PlainUnits away rested laid.core.inner.config.rvg laid cut result.0 result.1 }
 {
     match units_in(laid.config()) {
-        Some(units) => start_found(alloc, laid, cut, &units, away),
+        Some(units) => start_found(alloc, laid, cut, &units, away, rested),
         None => (
             DiskSet::OfGroup(GroupSet {
                 site: GroupSite::Up(laid),
@@ -291,17 +298,18 @@ pub(crate) fn with_rvg<R: Rack>(
     }
 }
 
-/// The same of a site that had none.
+/// The same of a site that had none. What its disks told of volumes before the import is kept where what is found is not taken up.
 pub(crate) fn with_plain<R: Rack>(
     alloc: Global,
     site: GroupSite<R>,
     cut: Option<CutWrite>,
     away: bool,
+    rested: Option<Rested>,
 ) -> (DiskSet<R>, Result<(), Stop>)
-    ensures over { WithPlain away site cut result.0 result.1 }
+    ensures over { WithPlain away rested site cut result.0 result.1 }
 {
     match site {
-        GroupSite::Up(laid) => plain_units(alloc, laid, cut, away),
+        GroupSite::Up(laid) => plain_units(alloc, laid, cut, away, rested),
         site => (
             DiskSet::OfGroup(GroupSet { site, cut }),
             Err(Stop::No(No::Role)),

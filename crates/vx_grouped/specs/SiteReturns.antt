@@ -1,5 +1,5 @@
 -- How a recovery or an import of a group leaves the disks of its site.
-use Rattle.std.specs.Prelude.{◌≡◌, ◌⊎◌, ℕ, ◌<◌, ◌≤◌, Bool, true, false, not, [], length, slice_get, Some, None, IsTrue, IsFalse, List, Result, Ok, Err}
+use Rattle.std.specs.Prelude.{◌≡◌, ◌⊎◌, ℕ, ◌<◌, ◌≤◌, Bool, true, false, not, [], length, slice_get, Option, Some, None, IsTrue, IsFalse, List, Result, Ok, Err}
 use Rattle.vx_model.specs.declared.errors.Stop.{Stop}
 use Rattle.vx_model.specs.declared.errors.Stop.TheVariants.{No as Refused, OutOfMemory}
 use Rattle.vx_model.specs.declared.no.Counted.TheVariants.{Number as Numbers}
@@ -18,6 +18,7 @@ use Rattle.vx_config.specs.Checks.{blocks_of}
 use Rattle.vx_config.specs.Table.{greatest}
 use Rattle.vx_config.specs.declared.config.Config.{Config}
 use Rattle.vx_group.specs.Imports.{ImportStops}
+use Rattle.vx_logimport.specs.declared.rested.Rested.{Rested}
 use Rattle.vx_untold.specs.Shades.{shade_meaning}
 use Rattle.vx_untold.specs.declared.shade.Shade.{Shade}
 use Rattle.vx_watched.specs.Since.{FuseGoes, fuse_calls, is_rack}
@@ -113,6 +114,12 @@ module _ {R : Type 0} {g : Ghosts R} where
   as_imported (Deported idle) = shade_meaning g.meaning (ready_of idle.agreed idle.rack)
   as_imported (Down idle) = shade_meaning g.meaning (ready_of idle.agreed idle.rack)
   as_imported other = site_disks other
+
+  -- of which volumes disks by themselves tell what a clean stop left
+  abbrev pub site_rested : GroupSite R g → Option Rested
+  site_rested (Deported idle) = idle.rested
+  site_rested (Down idle) = idle.rested
+  site_rested other = None
 
   -- whether it is not known from then on what they hold
   abbrev pub is_dimmed : GroupSite R g → Bool

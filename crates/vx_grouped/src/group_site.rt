@@ -10,6 +10,7 @@ use crate::{Idle, Laid};
 use std::mem;
 use vx_config::Config;
 use vx_disk::{Rack, Shelf};
+use vx_logimport::Rested;
 
 /// The rack of a site number, under a group of its disks or by itself.
 #[derive(Drop)]
@@ -30,6 +31,7 @@ impl<R: Rack> GroupSite<R> {
     ghost use Rattle.vx_config.specs.declared.config.Config.{Config as ConfigValue};
     ghost use Rattle.vx_grouped.specs.GroupSites.{CutNoted, DownNoted, GroupSiteStands, UpNoted, site_agrees, site_below, site_config, site_disks};
     ghost use Rattle.vx_grouped.specs.SiteMaps.{StaysMapped};
+    ghost use Rattle.vx_grouped.specs.SiteReturns.{site_rested};
     ghost use Rattle.vx_watched.specs.Traces.{TellsLess};
     ghost use Rattle.vx_grouped.specs.SiteEnds.{CountsAlike, MayCrashSite, StaysAlike};
     ghost use Rattle.vx_grouped.specs.Volumes.{GoesOff};
@@ -76,6 +78,16 @@ impl<R: Rack> GroupSite<R> {
             GroupSite::Up(group) => group.core.inner.agreed,
             GroupSite::Deported(_) | GroupSite::Down(_) | GroupSite::Marked(_) | GroupSite::Gone =>
                 false,
+        }
+    }
+
+    /// Of which volumes disks by themselves tell what a clean stop left.
+    pub fn rested(&self) -> Option<Rested>
+        ensures { result ≡ site_rested self.now }
+    {
+        match self {
+            GroupSite::Deported(idle) | GroupSite::Down(idle) => idle.rested,
+            GroupSite::Up(_) | GroupSite::Marked(_) | GroupSite::Gone => None,
         }
     }
 

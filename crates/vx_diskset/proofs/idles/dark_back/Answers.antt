@@ -11,11 +11,11 @@ revive-requires g c =
     ap (λ s. (shade_meaning g.R.Shelf.meaning s).down) it.rack ∙ dark_down g.R.Shelf.meaning it.fell.rack ∙ it.is.stopped.down
 
 pub returns-then-away : goal.returns-then-away
-returns-then-away g c = subst (λ b. DarkBack b c.args.laid _) (sym c.if-away.true) (
+returns-then-away g c = subst (λ b. DarkBack b c.args.rested c.args.laid _) (sym c.if-away.true) (
   c.fell_dark-idle.result,
   c.fell_dark-idle.ensures,
   record { agreed = c.revive.ensures.agreed; rested = c.revive.ensures.rested; alike = c.revive.ensures.alike; up = c.revive.ensures.up; armed = c.revive.ensures.armed; since = c.revive.ensures.since; told = c.revive.ensures.told },
 )
 
 pub returns-else-away : goal.returns-else-away
-returns-else-away g c = subst (λ b. DarkBack b c.args.laid _) (sym c.if-away.false) c.fell_dark-idle.ensures
+returns-else-away g c = subst (λ b. DarkBack b c.args.rested c.args.laid _) (sym c.if-away.false) c.fell_dark-idle.ensures

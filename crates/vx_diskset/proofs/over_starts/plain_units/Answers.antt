@@ -13,8 +13,8 @@ start_found-requires-clause-large g c = λ κs lives. laid_large c.args.laid c.i
 
 pub returns-in-Some : goal.returns-in-Some
 returns-in-Some g c = record {
-  over = subst (λ o. PlainUnits c.args.away o c.args.laid c.args.cut c.start_found.result.0 c.start_found.result.1) (sym c.in-Some.is ∙ c.units_in.ensures ∙ ap (λ k. k.rvg) c.config.ensures) c.start_found.ensures.starts;
+  over = subst (λ o. PlainUnits c.args.away c.args.rested o c.args.laid c.args.cut c.start_found.result.0 c.start_found.result.1) (sym c.in-Some.is ∙ c.units_in.ensures ∙ ap (λ k. k.rvg) c.config.ensures) c.start_found.ensures.starts;
 }
 
 pub returns-in-None : goal.returns-in-None
-returns-in-None g c = record { over = subst (λ o. PlainUnits c.args.away o c.args.laid c.args.cut _ (Ok tt)) (sym c.in-None.is ∙ c.units_in.ensures ∙ ap (λ k. k.rvg) c.config.ensures) (refl, refl) }
+returns-in-None g c = record { over = subst (λ o. PlainUnits c.args.away c.args.rested o c.args.laid c.args.cut _ (Ok tt)) (sym c.in-None.is ∙ c.units_in.ensures ∙ ap (λ k. k.rvg) c.config.ensures) (refl, refl) }

@@ -11,5 +11,5 @@ returns-then-is_dark g c = record { starts = c.start_dark.ensures.starts (sym c.
 
 pub returns-else-is_dark : goal.returns-else-is_dark
 returns-else-is_dark g c = record {
-  starts = plain_fails c.args.away c.args.units.now c.args.laid c.args.laid c.args.cut c.too_few.result c.plain_back.result.0 c.plain_back.result.1 (inr (refl, c.too_few.ensures)) c.plain_back.ensures;
+  starts = plain_fails c.args.away c.args.rested c.args.units.now c.args.laid c.args.laid c.args.cut c.too_few.result c.plain_back.result.0 c.plain_back.result.1 (inr (refl, c.too_few.ensures)) c.plain_back.ensures;
 }
