@@ -47,7 +47,7 @@ use Rattle.vx_above.proofs.Losing.{Names, facts_move}
 use Rattle.vx_above.proofs.OverSites.{down_not_up, site_noted, up_not_down}
 use Rattle.vx_above.proofs.Quiet.{quiet_by, rose_disk, works_note}
 use Rattle.vx_above.proofs.SiteCalls.{all_later, calls, count_new, count_old, names_below, rose_below}
-use Rattle.vx_above.proofs.Tables.{data_again, table_like}
+use Rattle.vx_above.proofs.Tables.{all_again, data_again, has_again, table_like}
 
 module _ {R : Type 0} {g : Ghosts R} where
   -- a call on the replicated volume group of a site that is up
@@ -113,14 +113,15 @@ module _ {R : Type 0} {g : Ghosts R} where
     pub call_named : IsNamed n → (m : Node) → m.volumes ≡ n.volumes → m.group ≡ Some call_note → IsNamed m
     call_named it m volumes group =
         let first : it.0 ≡ at_serial 0 moved.2.was = some_same (sym it.2 ∙ was_config) in
+        let same : map plain_fact it.0.volumes ≡ map plain_fact moved.2.now.volumes =
+        ap (λ (o : Option Config). map plain_fact (volumes_of o)) (sym it.2) ∙ sym seen_same ∙ ap (λ (o : Option Config). map plain_fact (volumes_of o)) now_config in
         (
           at_serial 0 moved.2.now,
           it.1,
           ap (λ (o : Option GroupNode). config_of (unwrap_or o no_note).config) group ∙ now_config,
           moved.2.change.parts.rvg ∙ ap (λ (c : Config). c.rvg) (sym first) ∙ it.3,
-          volumes ∙ it.4 ∙ ap (λ (xs : List DataVolume). map as_volume xs)
-              (data_again it.0.volumes moved.2.now.volumes it.1.vols
-              (ap (λ (o : Option Config). map plain_fact (volumes_of o)) (sym it.2) ∙ sym seen_same ∙ ap (λ (o : Option Config). map plain_fact (volumes_of o)) now_config)),
+          volumes ∙ it.4 ∙ ap (λ (xs : List DataVolume). map as_volume xs) (data_again it.0.volumes moved.2.now.volumes it.1.vols same),
+          record { srl = has_again it.0.volumes moved.2.now.volumes it.1.srl same it.5.srl; vols = all_again it.0.volumes moved.2.now.volumes it.1.vols same it.5.vols },
         )
 
     pub call_units : config_units (config_of call_note.config) ≡ config_units (config_of note.config)

@@ -1,5 +1,6 @@
 -- What the tests see of the volumes of a site with a replicated volume group over its group does not change as disks fail: they see how many plexes a volume has, not their states.
-use Rattle.std.proofs.Common.{◌≡◌, ◌∙◌, ◌+◌, ◌++◌, ℕ, List, [], ◌∷◌, map, ap, sym, refl}
+use Rattle.std.proofs.Common.{◌≡◌, ◌∙◌, ◌+◌, ◌++◌, ℕ, zero, suc, List, [], ◌∷◌, map, ap, sym, refl}
+use Rattle.std.specs.List.{AllByRecursion}
 use Rattle.std.specs.Prelude.{Option, Some, None, option_map, slice_get}
 use Rattle.std.proofs.lemmas.Option.{slice_get-map}
 use Rattle.vx_model.specs.declared.units.Units.{Units}
@@ -12,7 +13,7 @@ use Rattle.vx_history.specs.declared.volumes.DataVolume.{DataVolume}
 use Rattle.vx_order.specs.declared.facts.VolumeFacts.{VolumeFacts}
 use Rattle.vx_events.specs.Facts.{volume_fact}
 use Rattle.vx_events.specs.GroupViews.{config_of, plain_fact, volumes_of}
-use Rattle.vx_events.specs.RvgFits.{config_rvg, data_at, entries_noted, entry_name, rvg_noted}
+use Rattle.vx_events.specs.RvgFits.{HasVolume, config_rvg, data_at, entries_noted, entry_name, rvg_noted}
 use Rattle.vx_events.specs.RvgViews.{data_facts, data_units, is_data_unit, kind_at, kinded, others_by, others_from, others_of, over_table, plexes_in, unless_data}
 
 -- ---- the volumes that are no data volumes, by what the tests see of them in another kind
@@ -105,6 +106,20 @@ data_as : (vs : List VolumeEntry) (p : ℕ) → data_at vs p ≡ data_seen (map 
 data_as vs p =
     ap (λ (name : List ℕ). (let x : DataVolume = record { place = p; name = name; blocks = blocks_or_none (slice_get vs p) } in x)) (name_as (slice_get vs p) ∙ ap name_seen (sym (slice_get-map plain_fact vs p)))
     ∙ ap (λ (k : ℕ). (let x : DataVolume = record { place = p; name = name_seen (slice_get (map plain_fact vs) p); blocks = k } in x)) (blocks_as (slice_get vs p) ∙ ap blocks_seen (sym (slice_get-map plain_fact vs p)))
+
+-- what is seen in a place stands there
+stands_seen : (vs : List VolumeEntry) (p : ℕ) (f : VolumeFacts) → slice_get (map plain_fact vs) p ≡ Some f → HasVolume vs p
+stands_seen [] p f at = absurd (cc)
+stands_seen (v ∷ vs) zero f at = (v, refl)
+stands_seen (v ∷ vs) (suc p) f at = stands_seen vs p f at
+
+pub has_again : (us vs : List VolumeEntry) (p : ℕ) → map plain_fact us ≡ map plain_fact vs → HasVolume us p → HasVolume vs p
+has_again us vs p same (e, at) =
+    stands_seen vs p (plain_fact e) (ap (λ (fs : List VolumeFacts). slice_get fs p) (sym same) ∙ slice_get-map plain_fact us p ∙ ap (λ (o : Option VolumeEntry). option_map plain_fact o) at)
+
+pub all_again : (us vs : List VolumeEntry) (places : List ℕ) → map plain_fact us ≡ map plain_fact vs → AllByRecursion (HasVolume us) places → AllByRecursion (HasVolume vs) places
+all_again us vs [] same all = tt
+all_again us vs (p ∷ places) same (here, rest) = (has_again us vs p same here, all_again us vs places same rest)
 
 -- those of volumes that look the same are the same
 pub data_again : (us vs : List VolumeEntry) (places : List ℕ) → map plain_fact us ≡ map plain_fact vs → map (data_at us) places ≡ map (data_at vs) places

@@ -31,7 +31,7 @@ use Rattle.vx_group_lines.proofs.MapReturns.{clean_to}
 plex_stays : (v : VolumeEntry) (p q : PlexEntry) → PlexMoves (AnyState v) p q → PlexStays p q
 plex_stays v p q it = record { subdisks = it.subdisks }
 
-volume_stays : (v u : VolumeEntry) → VolumeMoves AnyState v u → VolumeStays v u
+pub volume_stays : (v u : VolumeEntry) → VolumeMoves AnyState v u → VolumeStays v u
 volume_stays v u it = record {
   name = it.name;
   blocks = it.blocks;

@@ -31,7 +31,7 @@ use Rattle.vx_diskset.specs.declared.disk_set.DiskSet.TheVariants.{Bare, Spoiled
 use Rattle.vx_events.proofs.Places.{never_some, some_same}
 use Rattle.vx_events.specs.GroupLines.{noting}
 use Rattle.vx_events.specs.GroupNotes.{note_at}
-use Rattle.vx_events.specs.RvgFits.{data_at, data_of, entries_noted, FitsSome}
+use Rattle.vx_events.specs.RvgFits.{data_at, data_of, entries_noted, FitsSome, HasUnits}
 use Rattle.vx_events.specs.RvgNotes.{note_gained, srl_blocks, units_named}
 use Rattle.vx_events.specs.RvgViews.{is_over_rvg}
 use Rattle.vx_events.specs.StepsOver.{fact_of_group, fact_over}
@@ -134,7 +134,7 @@ module _ {R : Type 0} {g : Ghosts R} (d : Doubted) (old new : Yard R g) (name sr
 
     -- the site has the replicated volume group of what it notes
     module _ (made : StandsUnlinked (rvg_made config units middle gained (d.world.nodes s)) after) (noted : SiteNoted (rvg_made config units middle gained (d.world.nodes s)) gained after)
-        (fits : (c : Config) → config_of gained.config ≡ Some c → FitsSome (rvg_next.world.nodes s) c) where
+        (fits : (c : Config) → config_of gained.config ≡ Some c → FitsSome (rvg_next.world.nodes s) c) (has : (c : Config) → config_of gained.config ≡ Some c → (c.rvg ≡ Some units) × HasUnits c.volumes units) where
       here : SiteStands (beside_of rvg_next s) k after
       here = subst (λ (x : Node). StandsUnlinked x after) same_made made (beside_of rvg_next s) arrives.links (ap (λ (o : Option After). doubt_of rvg_next.world s o) arrives.sure)
 
@@ -163,7 +163,17 @@ module _ {R : Type 0} {g : Ghosts R} (d : Doubted) (old new : Yard R g) (name sr
       fits_here = subst (λ (x : Node). FitsSome x (at_serial 0 sits.config)) arrives.node (fits (at_serial 0 sits.config) (notes_config gained sits.config sits.noted))
 
       here_named : IsNamed k
-      here_named = (at_serial 0 sits.config, fits_here.0, notes_config gained sits.config sits.noted, fits_here.1.rvg, fits_here.1.volumes)
+      here_named =
+          let noted : config_of gained.config ≡ Some (at_serial 0 sits.config) = notes_config gained sits.config sits.noted in
+          let it = has (at_serial 0 sits.config) noted in
+          (
+            at_serial 0 sits.config,
+            fits_here.0,
+            noted,
+            fits_here.1.rvg,
+            fits_here.1.volumes,
+            subst (λ (u : Units). HasUnits sits.config.volumes u) (some_same (sym it.0 ∙ fits_here.1.rvg)) it.1,
+          )
 
       -- and it is so noted
       here_noted : NotedAt k after

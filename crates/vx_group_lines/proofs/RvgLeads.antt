@@ -21,6 +21,7 @@ use Rattle.vx_diskset.specs.Makings.{NarrowsNote, StandsUnlinked, below_in, rvg_
 use Rattle.vx_diskset.specs.Noted.{SiteNoted}
 use Rattle.vx_diskset.specs.Stands.{faults_at}
 use Rattle.vx_diskset.specs.declared.disk_set.DiskSet.{DiskSet}
+use Rattle.vx_events.proofs.Places.{some_same}
 use Rattle.vx_events.specs.Fails.{Fails}
 use Rattle.vx_events.specs.GroupNotes.{note_at}
 use Rattle.vx_events.specs.RvgMakes.{MakesRvg, RvgDone, noting_in}
@@ -43,10 +44,10 @@ use Rattle.vx_group_lines.proofs.RvgCalls.{below_faults}
 use Rattle.vx_group_lines.proofs.RvgGained.{gained_carries, gained_stands, rvg_next, sits}
 use Rattle.vx_group_lines.proofs.RvgNotes.{notes_rvg}
 use Rattle.vx_group_lines.specs.Noting.{made_facts}
-use Rattle.vx_events.specs.RvgFits.{FitsSome}
+use Rattle.vx_events.specs.RvgFits.{FitsSome, HasUnits}
 use Rattle.vx_diskset.specs.Holds.{beside_of}
 use Rattle.vx_events.specs.GroupViews.{config_of}
-use Rattle.vx_events.proofs.RvgTests.{gained_note}
+use Rattle.vx_events.proofs.RvgTests.{gained_note, gained_units}
 use Rattle.vx_events.proofs.RvgGains.{made_fits}
 use Rattle.vx_events.specs.Doubts.{run_as}
 use Rattle.vx_yard.proofs.OverGroup.{set_notes}
@@ -110,16 +111,24 @@ module _ {R : Type 0} {g : Ghosts R} (d : Doubted) (old new : Yard R g) (name sr
         (record { below = at.group.below; up = at.up; running = none.running; role = none.role; volumes = none.volumes; log = none.log }) makes refl
         (ap (λ (x : GroupNode). config_of x.config) (gained_note s (note_gained units settled) (run_as false (noting_in d s middle) (volume_events note s units)) next (record { world = refl; after = λ i. refl; strayed = refl })) ∙ is)
 
+    units_so : (c : Config) → config_of (note_gained units settled).config ≡ Some c → (c.rvg ≡ Some units) × HasUnits c.volumes units
+    units_so c is =
+        let same : notes.moves.now ≡ c = some_same (sym (ap (λ (x : GroupNode). config_of x.config) notes.is ∙ notes.moves.is) ∙ is) in
+        (
+          ap (λ (x : Config). x.rvg) (sym same) ∙ notes.moves.change.rvg,
+          subst (λ (x : Config). HasUnits x.volumes units) same (gained_units (IsTold new) s fails units note middle (note_gained units settled) notes at.may.has),
+        )
+
     pub gained_leads : ((core : Core) (c : Config) → core_in after ≡ Some core → AtSite (λ x. site_config x ≡ Some c) after → new.facts.items ≡ slice_set old.facts.items s (made_facts core c (fact_of_group (d.world.nodes s) (note_at (d.world.nodes s)))))
         → SameLoad old new → LeadsRvg d name srl maps volumes Done old new
     gained_leads shown load =
-        let there = sits d old new name srl maps volumes s before after stands at changed failing since middle settled made noted fits in
+        let there = sits d old new name srl maps volumes s before after stands at changed failing since middle settled made noted fits units_so in
         record {
           next = next;
           fails = fails;
           makes = subst (λ (k : ℕ). MakesRvg (IsTold new) d (Rvg name srl maps volumes) k fails Done next) (sym at.number) makes;
-          stands = gained_stands d old new name srl maps volumes s before after stands at changed failing since middle settled made noted fits (shown there.core there.config there.has_core there.has);
+          stands = gained_stands d old new name srl maps volumes s before after stands at changed failing since middle settled made noted fits units_so (shown there.core there.config there.has_core there.has);
           none = λ other. absurd (other refl);
-          carries = gained_carries d old new name srl maps volumes s before after stands at changed failing since middle settled made noted fits load;
+          carries = gained_carries d old new name srl maps volumes s before after stands at changed failing since middle settled made noted fits units_so load;
           rose = rose_below old new s before after changed many;
         }
