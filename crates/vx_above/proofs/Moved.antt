@@ -122,6 +122,7 @@ module _ {R : Type 0} {g : Ghosts R} where
           moved.2.change.parts.rvg ∙ ap (λ (c : Config). c.rvg) (sym first) ∙ it.3,
           volumes ∙ it.4 ∙ ap (λ (xs : List DataVolume). map as_volume xs) (data_again it.0.volumes moved.2.now.volumes it.1.vols same),
           record { srl = has_again it.0.volumes moved.2.now.volumes it.1.srl same it.5.srl; vols = all_again it.0.volumes moved.2.now.volumes it.1.vols same it.5.vols },
+          ap (λ (o : Option GroupNode). (unwrap_or o no_note).cut) group ∙ moved.1.same.cut ∙ it.6,
         )
 
     pub call_units : config_units (config_of call_note.config) ≡ config_units (config_of note.config)

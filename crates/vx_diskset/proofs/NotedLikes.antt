@@ -52,7 +52,7 @@ module _ (n m : Node) (like : NotesAs n m) where
   }
 
   pub named_as : IsNamed n → IsNamed m
-  named_as it = (it.0, it.1, ap (λ (o : Option GroupNode). config_of (unwrap_or o no_note).config) like.group ∙ it.2, it.3, like.volumes ∙ it.4, it.5)
+  named_as it = (it.0, it.1, ap (λ (o : Option GroupNode). config_of (unwrap_or o no_note).config) like.group ∙ it.2, it.3, like.volumes ∙ it.4, it.5, ap (λ (o : Option GroupNode). (unwrap_or o no_note).cut) like.group ∙ it.6)
 
   units_as : units_of n ≡ units_of m
   units_as = ap (λ (o : Option GroupNode). units_by o n.disks) (sym like.group) ∙ ap (λ (d : ℕ). units_by m.group d) (sym like.disks)

@@ -54,9 +54,9 @@ pub record TidyNote (units : Units) (note : GroupNode) : Type 0 where
 pub record FoundNamed (units : Units) (m : Meaning) : Type 0 where
   pub each : (i : Image) (x : Config) → Each m.leaves i → finds m i ≡ Found x → x.rvg ≡ Some units
 
--- the data volumes of a site are those of the replicated volume group of the configuration that it notes, which are volumes of it
+-- the data volumes of a site are those of the replicated volume group of the configuration that it notes, which are volumes of it; no write to a volume of the group is cut
 abbrev pub IsNamed : Node → Type 0
-IsNamed n = (c : Config) × (units : Units) × (config_of (note_at n).config ≡ Some c) × (c.rvg ≡ Some units) × (n.volumes ≡ map as_volume (data_of c.volumes units)) × HasUnits c.volumes units
+IsNamed n = (c : Config) × (units : Units) × (config_of (note_at n).config ≡ Some c) × (c.rvg ≡ Some units) × (n.volumes ≡ map as_volume (data_of c.volumes units)) × HasUnits c.volumes units × ((note_at n).cut ≡ None)
 
 -- where imports agreed, and nothing was begun, it is so behind the calls, or one of them failed
 abbrev pub AgreesStill : GroupNode → GroupNode → Meaning → Meaning → Type 0

@@ -134,7 +134,7 @@ module _ {R : Type 0} {g : Ghosts R} (d : Doubted) (old new : Yard R g) (name sr
 
     -- the site has the replicated volume group of what it notes
     module _ (made : StandsUnlinked (rvg_made config units middle gained (d.world.nodes s)) after) (noted : SiteNoted (rvg_made config units middle gained (d.world.nodes s)) gained after)
-        (fits : (c : Config) → config_of gained.config ≡ Some c → FitsSome (rvg_next.world.nodes s) c) (has : (c : Config) → config_of gained.config ≡ Some c → (c.rvg ≡ Some units) × HasUnits c.volumes units) where
+        (fits : (c : Config) → config_of gained.config ≡ Some c → FitsSome (rvg_next.world.nodes s) c) (has : (c : Config) → config_of gained.config ≡ Some c → (c.rvg ≡ Some units) × HasUnits c.volumes units) (clear : gained.cut ≡ None) where
       here : SiteStands (beside_of rvg_next s) k after
       here = subst (λ (x : Node). StandsUnlinked x after) same_made made (beside_of rvg_next s) arrives.links (ap (λ (o : Option After). doubt_of rvg_next.world s o) arrives.sure)
 
@@ -173,6 +173,7 @@ module _ {R : Type 0} {g : Ghosts R} (d : Doubted) (old new : Yard R g) (name sr
             fits_here.1.rvg,
             fits_here.1.volumes,
             subst (λ (u : Units). HasUnits sits.config.volumes u) (some_same (sym it.0 ∙ fits_here.1.rvg)) it.1,
+            clear,
           )
 
       -- and it is so noted

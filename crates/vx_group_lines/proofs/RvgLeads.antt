@@ -1,6 +1,7 @@
 -- What a line that makes a replicated volume group leads its yard to, where it is done.
 use Rattle.std.proofs.Common.{◌≡◌, ◌∙◌, ◌⊎◌, ◌+◌, ℕ, false, List, length, ap, sym, subst, refl, arith}
-use Rattle.std.specs.Prelude.{Some, slice_set}
+use Rattle.std.specs.Prelude.{Option, Some, slice_set}
+use Rattle.vx_model.specs.declared.site.SiteState.TheVariants.{Up as IsUp, Down as IsDown}
 use Rattle.vx_model.specs.declared.units.Units.{Units}
 use Rattle.vx_disk.specs.Shelf.{Meaning}
 use Rattle.vx_disk.specs.declared.shelf.Shelf.{Ghosts}
@@ -16,6 +17,7 @@ use Rattle.vx_grouped.specs.GroupSites.{site_config, site_disks, HasNoRvg}
 use Rattle.vx_grouped.specs.SiteEnds.{ConfigGoes}
 use Rattle.vx_grouped.specs.declared.group_site.GroupSite.{GroupSite}
 use Rattle.vx_diskset.specs.Asked.{SameFailing}
+use Rattle.vx_diskset.specs.GroupSets.{noted_cut}
 use Rattle.vx_diskset.specs.GroupCalls.{AtSite, CalledOn, core_in}
 use Rattle.vx_diskset.specs.Makings.{NarrowsNote, StandsUnlinked, below_in, rvg_made}
 use Rattle.vx_diskset.specs.Noted.{SiteNoted}
@@ -39,6 +41,8 @@ use Rattle.vx_above.proofs.Quiet.{quiet_by, rose_disk}
 use Rattle.vx_above.proofs.SiteCalls.{calls, names_below, rose_below}
 use Rattle.vx_above.proofs.Fails.{calls_of}
 use Rattle.vx_above.proofs.Losing.{Names}
+use Rattle.vx_group_lines.proofs.GroupAt.{uncut}
+use Rattle.vx_group_lines.proofs.GroupMarks.{group_noted_at}
 use Rattle.vx_group_lines.proofs.RvgAt.{RvgAt, asks_config}
 use Rattle.vx_group_lines.proofs.RvgCalls.{below_faults}
 use Rattle.vx_group_lines.proofs.RvgGained.{gained_carries, gained_stands, rvg_next, sits}
@@ -119,16 +123,23 @@ module _ {R : Type 0} {g : Ghosts R} (d : Doubted) (old new : Yard R g) (name sr
           subst (λ (x : Config). HasUnits x.volumes units) same (gained_units (IsTold new) s fails units note middle (note_gained units settled) notes at.may.has),
         )
 
+    -- no write is cut at a site that is up
+    clear : settled.cut ≡ None
+    clear =
+        works.same.cut ∙ ap (λ (x : GroupNode). x.cut) narrows.same
+        ∙ sym (at.group.stands.cut ∙ ap (λ (x : Option GroupNode). noted_cut x) (group_noted_at d old name s before at.group))
+        ∙ uncut (beside_of d s) n at.group.set at.group.stands (λ down. let w : IsUp ≡ IsDown = sym at.up ∙ down in absurd (cc))
+
     pub gained_leads : ((core : Core) (c : Config) → core_in after ≡ Some core → AtSite (λ x. site_config x ≡ Some c) after → new.facts.items ≡ slice_set old.facts.items s (made_facts core c (fact_of_group (d.world.nodes s) (note_at (d.world.nodes s)))))
         → SameLoad old new → LeadsRvg d name srl maps volumes Done old new
     gained_leads shown load =
-        let there = sits d old new name srl maps volumes s before after stands at changed failing since middle settled made noted fits units_so in
+        let there = sits d old new name srl maps volumes s before after stands at changed failing since middle settled made noted fits units_so clear in
         record {
           next = next;
           fails = fails;
           makes = subst (λ (k : ℕ). MakesRvg (IsTold new) d (Rvg name srl maps volumes) k fails Done next) (sym at.number) makes;
-          stands = gained_stands d old new name srl maps volumes s before after stands at changed failing since middle settled made noted fits units_so (shown there.core there.config there.has_core there.has);
+          stands = gained_stands d old new name srl maps volumes s before after stands at changed failing since middle settled made noted fits units_so clear (shown there.core there.config there.has_core there.has);
           none = λ other. absurd (other refl);
-          carries = gained_carries d old new name srl maps volumes s before after stands at changed failing since middle settled made noted fits units_so load;
+          carries = gained_carries d old new name srl maps volumes s before after stands at changed failing since middle settled made noted fits units_so clear load;
           rose = rose_below old new s before after changed many;
         }
