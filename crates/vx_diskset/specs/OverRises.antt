@@ -23,8 +23,8 @@ use Rattle.vx_model.specs.declared.errors.Stop.{Stop}
 use Rattle.vx_model.specs.declared.errors.Stop.TheVariants.{No as Refused, OutOfMemory}
 use Rattle.vx_model.specs.declared.no.No.TheVariants.{Device, Limit}
 use Rattle.vx_model.specs.declared.site.SPhase.TheVariants.{Quiet}
-use Rattle.vx_model.specs.declared.site.SiteState.TheVariants.{Up as IsUp}
-use Rattle.vx_model.specs.declared.site.SiteState.TheVariants.{Up as IsUp}
+use Rattle.vx_model.specs.declared.site.SiteState.TheVariants.{Down as IsDown, Up as IsUp}
+use Rattle.vx_model.specs.declared.site.SiteState.TheVariants.{Down as IsDown, Up as IsUp}
 use Rattle.vx_model.specs.declared.units.Units.{Units}
 use Rattle.vx_srl.specs.Views.{most_number}
 use Rattle.vx_diskset.specs.Aboves.{site_in}
@@ -32,6 +32,7 @@ use Rattle.vx_diskset.specs.DiskSets.{CrashedAt, no_number}
 use Rattle.vx_diskset.specs.Holds.{KeptBeside, most_header}
 use Rattle.vx_diskset.specs.Layouts.{units_of}
 use Rattle.vx_diskset.specs.Noted.{AgreesStill, SiteNoted, below_rvg}
+use Rattle.vx_diskset.specs.OverStarts.{HandsOut}
 use Rattle.vx_diskset.specs.Recovers.{CutFits, KeptIs, still_cut}
 use Rattle.vx_diskset.specs.Recovers.{CutFits, KeptIs, still_cut}
 use Rattle.vx_diskset.specs.Stands.{SiteStands}
@@ -199,29 +200,15 @@ module _ {R : Type 0} {g : Ghosts R} where
   LooksOver cut (Over old) other r = ⊥
   LooksOver cut old new r = Unit {0}
 
-  -- ---- what is read of a write that was cut, where the replicated volume group came up
+  -- ---- a recovery of the disks of a site that is down, whose group has a replicated volume group
 
-  pub record LooksFor (beside : KeptBeside) (n : Node) (note : GroupNode) (cut : Option CutWrite) (old : GroupSite R g) (s : OverSet R g) (kept : Option KeptWrite) : Type 0 where
-    pub is : KeptIs note (site_disks old) cut kept
-    pub noted : SiteNoted (worked n) note (Over s)
-    pub stands : SiteStands beside (worked n) (Over s)
+  pub record RaisedOver (beside : KeptBeside) (n : Node) (note : GroupNode) (o : OverSet R g) (new : DiskSet R g) (r : Result (Option CutWrite) Stop) : Type 0 where
+    pub answer : Result (Unit {0}) Stop
+    pub hands : HandsOut o.cut answer r
+    pub rises : OverRises beside n note (site_in o) new answer
 
-  -- a disk failed in it: the site is down again, with what its log kept, and the write is cut still
-  pub record LooksLost (beside : KeptBeside) (n : Node) (note : GroupNode) (cut : Option CutWrite) (old : GroupSite R g) (s : OverSet R g) (stop : Stop) : Type 0 where
-    pub disk : ℕ
-    pub why : stop ≡ Refused (Device disk)
-    pub fits : CutFits note cut
-    pub rose : Rose ((site_disks old).disk_faults disk) ((site_disks (site_in s)).disk_faults disk)
-    pub noted : SiteNoted (crashed (with_note (still_cut cut note) n) n.safe) (still_cut cut note) (Over s)
-    pub stands : SiteStands beside (crashed (with_note (still_cut cut note) n) n.safe) (Over s)
-
-  abbrev pub LooksOver : KeptBeside → Node → GroupNode → Option CutWrite → GroupSite R g → DiskSet R g → Result (Option KeptWrite) Stop → Type 0
-  LooksOver beside n note cut old (Over s) (Ok kept) = LooksFor beside n note cut old s kept
-  LooksOver beside n note cut old (Over s) (Err stop) = LooksLost beside n note cut old s stop
-  LooksOver beside n note cut old other r = ⊥
-
-  -- so it is of disks below a replicated volume group, of a site that is up; of others nothing is said here
-  abbrev pub LooksAbove : Option CutWrite → DiskSet R g → DiskSet R g → Result (Option KeptWrite) Stop → Type 0
-  LooksAbove cut (Over o) new r =
-      (beside : KeptBeside) (n : Node) (note : GroupNode) → SiteStands beside n (Over o) → n.state ≡ IsUp → n.halted ≡ None → SiteNoted n note (Over o) → LooksOver beside n note cut (site_in o) new r
-  LooksAbove cut old new r = Unit {0}
+  -- of others nothing is said here
+  abbrev pub RaisesAbove : DiskSet R g → DiskSet R g → Result (Option CutWrite) Stop → Type 0
+  RaisesAbove (Over o) new r =
+      (beside : KeptBeside) (n : Node) (note : GroupNode) → n.group ≡ Some note → n.state ≡ IsDown → n.phase ≡ Quiet → SiteStands beside n (Over o) → SiteNoted n note (Over o) → RaisedOver beside n note o new r
+  RaisesAbove old new r = Unit {0}
