@@ -70,6 +70,7 @@ pub mod NeedLemmas
 pub mod NotedLikes
 pub mod OverGroups
 pub mod OverImports
+pub mod PlainBacks
 pub mod PlainImports
 pub mod OverSets
 pub mod PumpGroup

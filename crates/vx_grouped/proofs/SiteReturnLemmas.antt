@@ -125,7 +125,7 @@ frame_blocks None = refl
 frame_blocks (Some v) = refl
 
 -- the same blocks, where the frames are the same
-frames_blocks : (c d : Config) → ((v : ℕ) → frame_at c v ≡ frame_at d v) → (v : ℕ) → blocks_of c.volumes v ≡ blocks_of d.volumes v
+pub frames_blocks : (c d : Config) → ((v : ℕ) → frame_at c v ≡ frame_at d v) → (v : ℕ) → blocks_of c.volumes v ≡ blocks_of d.volumes v
 frames_blocks c d frames v = sym (frame_blocks (slice_get c.volumes v)) ∙ ap blocks_or_none (frames v) ∙ frame_blocks (slice_get d.volumes v)
 
 -- a list with the frames of another one is as long
@@ -135,7 +135,7 @@ frames_long [] (u ∷ us) same = absurd (let no_one : Some (frame u) ≡ None = 
 frames_long (v ∷ vs) [] same = absurd (let no_one : None ≡ Some (frame v) = same 0 in cc)
 frames_long (v ∷ vs) (u ∷ us) same = let rest = frames_long vs us (λ k. same (suc k)) in omega (arith, rest)
 
-unarmed_any : (f : Fuse) (m : Meaning) → IsFalse m.armed → HasFuse (burned f) m
+pub unarmed_any : (f : Fuse) (m : Meaning) → IsFalse m.armed → HasFuse (burned f) m
 unarmed_any NoFuse m none = none
 unarmed_any (FuseSet calls) m none = tt
 unarmed_any (FuseLit most) m none = tt
