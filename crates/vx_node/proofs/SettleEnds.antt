@@ -47,7 +47,7 @@ module _ {R : Type 0} {g : Ghosts R} where
 
   note_carries : (d : Doubted) (y : Yard R g) (s : ℕ) → Carries d y → Carries (record d { world = worked_on d.world s }) y
   note_carries d y s carries =
-      carries_on d (record d { world = worked_on d.world s }) y y carries (record { flight = refl; assemblies = refl; feeders = refl }) refl (λ i. refl) (λ i. by i (eqb i s) refl) (λ told. told)
+      carries_on d (record d { world = worked_on d.world s }) y y carries (record { flight = refl; assemblies = refl; feeders = refl }) refl (λ i. refl) (λ i. by i (eqb i s) refl) (λ told. told) (λ calm. calm)
     where
       by : (i : ℕ) (c : Bool) → eqb i s ≡ c → Feeds (d.world.nodes i) (if c then worked (d.world.nodes s) else d.world.nodes i)
       by i true is = subst (λ (j : ℕ). Feeds (d.world.nodes j) (worked (d.world.nodes s))) (sym (eqb_equal i s is)) (feeds_like (d.world.nodes s) (worked (d.world.nodes s)) refl refl refl)

@@ -284,7 +284,7 @@ module _ {R : Type 0} {g : Ghosts R} where
             (λ told. record { site = omega (arith, read.seat.below, read.seat.number); up = can.up; running = can.running; primary = led; known = can.volume_exists; some = read.some; few = read.few; within = can.within })
             (λ told. shows (raw_told after (raw_site (beside_of d s) (d.world.nodes s) after read.none gave.stands) (told.each s after there))));
         carries = λ was. read_world d k v start count (λ (e : Doubted). Carries e new)
-            (carries_on d (recounted d d.world) old new was load refl (λ i. refl) (λ i. feeds_same (d.world.nodes i) (d.world.nodes i) refl) (told_by old new s before after changed));
+            (carries_on d (recounted d d.world) old new was load refl (λ i. refl) (λ i. feeds_same (d.world.nodes i) (d.world.nodes i) refl) (told_by old new s before after changed) (λ calm. calm));
         stands = read_for d old new s before after stands read.seat.below changed alone keeps gave.stands read.none facts k v start count;
         rose = rose_still old new s before after changed.there changed.later changed.disk_sets;
       }

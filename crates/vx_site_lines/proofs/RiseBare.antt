@@ -144,7 +144,7 @@ module _ {R : Type 0} {g : Ghosts R} where
             (one_left (IsTold new) d (Recover name) s first_choice (RecoverAt s None) (refused d.world NoConfig) (Refused NoConfig) (recounted d d.world).world (bare_events d s name number bare) refl
             (bare_step d.world s None below bare) refl refl);
         stands = stands_still d (recounted d d.world) old new s before after stands below changed (comes_counted d s after still) (λ first. first) (λ _. noted_none (beside_of d s) n n after at none_noted) refl facts_still;
-        carries = λ carries. carries_on d (recounted d d.world) old new carries load refl (λ i. refl) (λ i. feeds_same (d.world.nodes i) (d.world.nodes i) refl) told_was;
+        carries = λ carries. carries_on d (recounted d d.world) old new carries load refl (λ i. refl) (λ i. feeds_same (d.world.nodes i) (d.world.nodes i) refl) told_was (λ calm. calm);
         rose = rose_here;
       }
 

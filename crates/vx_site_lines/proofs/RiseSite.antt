@@ -198,11 +198,11 @@ module _ {R : Type 0} {g : Ghosts R} where
     up_carries session last session_is last_is flight assemblies feeders inside carries = record {
       flight = subst (λ (ps : List Packet). FlightStands ps new.flight) (sym sent) (flight mid.world.packets carries.flight);
       places = ap (λ xs. length xs.items) assemblies ∙ carries.places;
-      assemblies = λ told i a at.
+      assemblies = λ told calm i a at.
           subst (λ (ps : List Packet). AssemblyStands ps i (e.world.gathering i) a) (sym sent)
           (stands_later mid.world.packets (hello_by s state session last) i (e.world.gathering i) a
           (subst (λ (o : Option Gathering). AssemblyStands mid.world.packets i o a) (sym (gathers i))
-          (carries.assemblies (told_by old new s before after changed told) i a (sym (ap (λ xs. slice_get xs.items i) assemblies) ∙ at))));
+          (carries.assemblies (told_by old new s before after changed told) (up.effect.site.strayed calm) i a (sym (ap (λ xs. slice_get xs.items i) assemblies) ∙ at))));
       numbers = ap (λ (fs : List ℕ). length fs) feeders ∙ length-set old.feeders.items s state.other ∙ carries.numbers;
       feeders = λ i feeder at. ⊎_elim
           (λ (same : i ≡ s) is_up receives.

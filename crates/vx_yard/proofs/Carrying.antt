@@ -84,14 +84,14 @@ module _ {R : Type 0} {g : Ghosts R} where
 
   -- A yard that sends, puts together and feeds nothing goes on carrying what it did.
   pub carries_on : (d e : Doubted) (old new : Yard R g) → Carries d old → SameLoad old new → e.world.packets ≡ d.world.packets → ((i : ℕ) → e.world.gathering i ≡ d.world.gathering i)
-      → ((i : ℕ) → Feeds (d.world.nodes i) (e.world.nodes i)) → (IsTold new → IsTold old) → Carries e new
-  carries_on d e old new carries load packets gathering feeds told = record {
+      → ((i : ℕ) → Feeds (d.world.nodes i) (e.world.nodes i)) → (IsTold new → IsTold old) → (e.strayed ≡ false → d.strayed ≡ false) → Carries e new
+  carries_on d e old new carries load packets gathering feeds told was_calm = record {
     flight = subst (λ (ps : List Packet). FlightStands ps new.flight) (sym packets) (subst (λ (f : Flying). FlightStands d.world.packets f) (sym load.flight) carries.flight);
     places = ap (λ (xs : List Assembled). length xs) load.assemblies ∙ carries.places;
-    assemblies = λ tells s a is.
+    assemblies = λ tells calm s a is.
         subst (λ (ps : List Packet). AssemblyStands ps s (e.world.gathering s) a) (sym packets)
         (subst (λ (o : Option Gathering). AssemblyStands d.world.packets s o a) (sym (gathering s))
-        (carries.assemblies (told tells) s a (sym (ap (λ (xs : List Assembled). slice_get xs s) load.assemblies) ∙ is)));
+        (carries.assemblies (told tells) (was_calm calm) s a (sym (ap (λ (xs : List Assembled). slice_get xs s) load.assemblies) ∙ is)));
     numbers = ap (λ (fs : List ℕ). length fs) load.feeders ∙ carries.numbers;
     feeders = λ s feeder is up receives.
         let was = (feeds s).each up receives in
@@ -105,7 +105,7 @@ module _ {R : Type 0} {g : Ghosts R} where
       (λ i. ⊎_elim (λ (same : i ≡ s). subst (λ (k : ℕ). e.world.gathering k ≡ d.world.gathering k) (sym same) changes.gathering) (λ apart. changes.site.gathering i apart) (cases_eq i s))
       (λ i. ⊎_elim (λ (same : i ≡ s). subst (λ (k : ℕ). Feeds (d.world.nodes k) (e.world.nodes k)) (sym same) feeds)
       (λ apart. feeds_same (d.world.nodes i) (e.world.nodes i) (changes.site.nodes i apart)) (cases_eq i s))
-      told
+      told changes.site.strayed
 
   -- The same where that site is another node, which is up, receives and is fed as the one before.
   pub carries_node : (s : ℕ) (d e : Doubted) (n : Node) (old new : Yard R g) → SameLoad old new → ChangesNode s d e → e.world.packets ≡ d.world.packets → e.world.gathering s ≡ d.world.gathering s
@@ -116,7 +116,7 @@ module _ {R : Type 0} {g : Ghosts R} where
 
   -- The same where no site changed.
   pub carries_same : (d : Doubted) (old new : Yard R g) → SameLoad old new → (IsTold new → IsTold old) → Carries d old → Carries d new
-  carries_same d old new load told carries = carries_on d d old new carries load refl (λ i. refl) (λ i. feeds_same (d.world.nodes i) (d.world.nodes i) refl) told
+  carries_same d old new load told carries = carries_on d d old new carries load refl (λ i. refl) (λ i. feeds_same (d.world.nodes i) (d.world.nodes i) refl) told (λ calm. calm)
 
   -- The same where a site that is not up was added.
   pub carries_more : (d e : Doubted) (n : Node) (old new : Yard R g) → SameLoad old new → AddsSite d e n → (n.state ≡ Up → ⊥) → (IsTold new → IsTold old) → Carries d old → Carries e new
@@ -126,7 +126,7 @@ module _ {R : Type 0} {g : Ghosts R} where
       (λ (same : i ≡ d.world.sites).
       feeds_none (d.world.nodes i) (e.world.nodes i) (λ up receives. down (ap (λ (m : Node). m.state) (sym adds.node) ∙ ap (λ (k : ℕ). (e.world.nodes k).state) (sym same) ∙ up)))
       (λ apart. feeds_same (d.world.nodes i) (e.world.nodes i) (adds.nodes i apart)) (cases_eq i d.world.sites))
-      told
+      told adds.strayed
 
   -- The same of a site that goes down or comes to a line: what it had in assembly is let go.
   pub record Cleared (old new : Yard R g) (s : ℕ) : Type 0 where
@@ -141,7 +141,7 @@ module _ {R : Type 0} {g : Ghosts R} where
   carries_cleared s feeder d e old new carries cleared below fed changes packets empty feeds told = record {
     flight = subst (λ (ps : List Packet). FlightStands ps new.flight) (sym packets) (subst (λ (f : Flying). FlightStands d.world.packets f) (sym cleared.flight) carries.flight);
     places = ap (λ (xs : List Assembled). length xs) cleared.assemblies ∙ length-set old.assemblies.items s cleared.assembly ∙ carries.places;
-    assemblies = λ tells i a is. ⊎_elim
+    assemblies = λ tells calm i a is. ⊎_elim
         (λ (same : i ≡ s).
         let here : cleared.assembly ≡ a = some_same (sym (get-set_same old.assemblies.items s cleared.assembly (omega (arith, below, carries.places)))
         ∙ ap (λ (k : ℕ). slice_get (slice_set old.assemblies.items s cleared.assembly) k) (sym same) ∙ at i a is) in
@@ -150,7 +150,7 @@ module _ {R : Type 0} {g : Ghosts R} where
         (λ apart.
         subst (λ (ps : List Packet). AssemblyStands ps i (e.world.gathering i) a) (sym packets)
         (subst (λ (o : Option Gathering). AssemblyStands d.world.packets i o a) (sym (changes.gathering i apart))
-        (carries.assemblies (told tells) i a (sym (get-set_other old.assemblies.items s i cleared.assembly apart) ∙ at i a is))))
+        (carries.assemblies (told tells) (changes.strayed calm) i a (sym (get-set_other old.assemblies.items s i cleared.assembly apart) ∙ at i a is))))
         (cases_eq i s);
     numbers = ap (λ (fs : List ℕ). length fs) fed ∙ length-set old.feeders.items s feeder ∙ carries.numbers;
     feeders = λ i f is. ⊎_elim
@@ -202,7 +202,7 @@ module _ {R : Type 0} {g : Ghosts R} where
   carries_none y flight places none numbers = record {
     flight = none_flying y.flight flight;
     places = places;
-    assemblies = λ tells s a is. empty_stands [] s a (none s a is);
+    assemblies = λ tells calm s a is. empty_stands [] s a (none s a is);
     numbers = numbers;
     feeders = λ s feeder is up receives. absurd (bare_up up);
   }

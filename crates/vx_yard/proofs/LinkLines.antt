@@ -202,11 +202,11 @@ module _ {R : Type 0} {g : Ghosts R} where
   carries_kept d v old new more carries left sends relinks flight = record {
     flight = flight;
     places = ap (λ xs. length xs.items) relinks.assemblies ∙ carries.places;
-    assemblies = λ told s a is.
+    assemblies = λ told calm s a is.
         subst (λ (ps : List Packet). AssemblyStands ps s (v.gathering s) a) (sym sends)
         (stands_later d.world.packets more s (v.gathering s) a
         (subst (λ (o : Option Gathering). AssemblyStands d.world.packets s o a) (sym (left.gathering s))
-        (carries.assemblies (subst (λ es. AreTold es) (relinked_disks old new relinks) told) s a (sym (ap (λ xs. slice_get xs.items s) relinks.assemblies) ∙ is))));
+        (carries.assemblies (subst (λ es. AreTold es) (relinked_disks old new relinks) told) calm s a (sym (ap (λ xs. slice_get xs.items s) relinks.assemblies) ∙ is))));
     numbers = ap (λ fs. length fs.items) relinks.feeders ∙ carries.numbers;
     feeders = λ s feeder is up receives.
         let was = (feeds_same (d.world.nodes s) (v.nodes s) (left.nodes s)).each up receives in

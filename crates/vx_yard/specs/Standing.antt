@@ -88,11 +88,11 @@ module _ {R : Type 0} {g : Ghosts R} where
     pub none : y.racks.items ≡ []
     pub room : MOST_SITES ≤ vec_capacity y.racks
 
-  -- what the laws of all worlds say of this one, where contents are told
+  -- what the laws of all worlds say of this one, where contents are told and it has not strayed
   abbrev pub GoodFor : Doubted → Yard R g → Type 0
-  GoodFor d y = IsTold y → GoodDoubted d
+  GoodFor d y = IsTold y → d.strayed ≡ false → GoodDoubted d
 
-  -- The yard stands for this world and carries it, and the world is good where contents are told.
+  -- The yard stands for this world and carries it, and the world is good where contents are told, as long as it has not strayed.
   pub record Serves (d : Doubted) (y : Yard R g) : Type 0 where
     pub stands : StandsFor d y
     pub carries : Carries d y
