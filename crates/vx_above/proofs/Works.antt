@@ -7,9 +7,7 @@ use Rattle.vx_model.specs.declared.errors.OutOfMemory.{OutOfMemory}
 use Rattle.vx_disk.specs.declared.shelf.Shelf.{Ghosts}
 use Rattle.vx_script.specs.declared.line.ScriptLine.{ScriptLine}
 use Rattle.vx_script.specs.declared.line.ScriptLine.TheVariants.{Rvg}
-use Rattle.vx_events.specs.Strays.{told_for}
 use Rattle.vx_events.specs.Fails.{Fails}
-use Rattle.vx_events.specs.Lines.{is_of_links}
 use Rattle.vx_events.specs.OpenLines.{is_open}
 use Rattle.vx_events.specs.RvgOver.{OverRvg}
 use Rattle.vx_events.specs.RvgSteps.{AsBefore, FoundPlain, MakesNoRvg, WorksAbove, WorksBeside, WorksFull, is_for_rvg, rvg_place}
@@ -17,7 +15,6 @@ use Rattle.vx_events.specs.StepsOver.{WorksOver, group_place, is_for_group}
 use Rattle.vx_events.specs.declared.said.Said.{Said}
 use Rattle.vx_events.specs.Parts.{StopsInPart}
 use Rattle.vx_events.proofs.Parts.{none_done}
-use Rattle.vx_events.proofs.Tolds.{told_less, works_told}
 use Rattle.vx_yard.specs.AboveLines.{LeadsAboveIs, LeadsBesideIs, WorksIs}
 use Rattle.vx_yard.specs.Gaining.{LeadsRvgIs}
 use Rattle.vx_yard.proofs.OverGroup.{over_plain}
@@ -81,8 +78,7 @@ module _ {R : Type 0} {g : Ghosts R} where
       next = leads.next;
       fails = leads.fails;
       works = beside_full (IsTold new) d line leads.fails said leads.next none closed off
-          (AsBefore (works_told (λ (t : told_for (IsTold new) d line). told_less (IsTold new) d (is_of_links line) t) (is_for_group d.world line) d line leads.fails said leads.next
-          (subst (λ (b : Bool). WorksOver b (IsTold new) d line leads.fails said leads.next) (sym plain) (inl leads.done))) (found_plain line (group_place d.world line) leads.next new leads.stands));
+          (AsBefore (subst (λ (b : Bool). WorksOver b (IsTold new) d line leads.fails said leads.next) (sym plain) (inl leads.done)) (found_plain line (group_place d.world line) leads.next new leads.stands));
       stands = leads.stands;
       carries = leads.carries;
       rose = leads.rose;
@@ -98,8 +94,7 @@ module _ {R : Type 0} {g : Ghosts R} where
       next = leads.next;
       fails = leads.fails;
       works = beside_full (IsTold new) d line leads.fails said leads.next none closed off
-          (AsBefore (works_told (λ (t : told_for (IsTold new) d line). told_less (IsTold new) d (is_of_links line) t) (is_for_group d.world line) d line leads.fails said leads.next
-          (subst (λ (b : Bool). WorksOver b (IsTold new) d line leads.fails said leads.next) (sym plain) leads.done)) (found_plain line (group_place d.world line) leads.next new leads.stands));
+          (AsBefore (subst (λ (b : Bool). WorksOver b (IsTold new) d line leads.fails said leads.next) (sym plain) leads.done) (found_plain line (group_place d.world line) leads.next new leads.stands));
       stands = leads.stands;
       carries = leads.carries;
       rose = leads.rose;
@@ -112,8 +107,7 @@ module _ {R : Type 0} {g : Ghosts R} where
       next = leads.next;
       fails = leads.fails;
       works = beside_full (IsTold new) d line leads.fails said leads.next none closed off
-          (AsBefore (works_told (λ (t : told_for (IsTold new) d line). told_less (IsTold new) d (is_of_links line) t) (is_for_group d.world line) d line leads.fails said leads.next
-          (subst (λ (b : Bool). WorksOver b (IsTold new) d line leads.fails said leads.next) (sym over) leads.done)) (found_plain line (group_place d.world line) leads.next new leads.stands));
+          (AsBefore (subst (λ (b : Bool). WorksOver b (IsTold new) d line leads.fails said leads.next) (sym over) leads.done) (found_plain line (group_place d.world line) leads.next new leads.stands));
       stands = leads.stands;
       carries = leads.carries;
       rose = leads.rose;

@@ -11,10 +11,8 @@ use Rattle.vx_events.specs.Ends.{place_of}
 use Rattle.vx_events.specs.Facts.{site_number}
 use Rattle.vx_events.specs.Fails.{Fails}
 use Rattle.vx_events.specs.GroupNotes.{note_at}
-use Rattle.vx_events.specs.Lines.{is_of_links}
 use Rattle.vx_events.specs.Parts.{StopsBetween, StopsDown, StopsInPart, StopsRead, StopsShort}
 use Rattle.vx_events.specs.RvgBack.{GroupHeld, GroupUnfound, LogFails, LogLacks, FindsNoRvg, FindsPlain, FindsRvg, RvgBack, RvgFinds, RvgUp}
-use Rattle.vx_events.specs.Strays.{told_for}
 use Rattle.vx_events.specs.OpenLines.{is_open}
 use Rattle.vx_events.specs.RvgMakes.{MakesRvg, RvgCut, RvgDone, RvgFails, RvgLacks}
 use Rattle.vx_events.specs.RvgNotes.{NotesLacking, NotesNarrowed, NotesNoRvg, NotesRvg}
@@ -25,7 +23,7 @@ use Rattle.vx_events.specs.StepsOver.{group_place, is_for_group}
 use Rattle.vx_events.specs.declared.said.Said.{Said}
 use Rattle.vx_events.proofs.GroupTold.{back_told, known_told, nothing_told, shows_told}
 use Rattle.vx_events.proofs.LineTold.{ends_told}
-use Rattle.vx_events.proofs.Tolds.{for_more, works_told}
+use Rattle.vx_events.proofs.Tolds.{works_told}
 
 module _ {T U : Type 0} (f : U → T) where
   -- ---- a line that makes one
@@ -95,7 +93,7 @@ module _ {T U : Type 0} (f : U → T) where
 
   beside_told : (d : Doubted) (line : ScriptLine) (fails : Fails) (said : Said) (new : Doubted) → WorksBeside T d line fails said new → WorksBeside U d line fails said new
   beside_told d line fails said new (AsBefore works found) =
-      AsBefore (works_told (λ (u : told_for U d line). for_more f d (is_of_links line) u) (is_for_group d.world line) d line fails said new works) found
+      AsBefore (works_told f (is_for_group d.world line) d line fails said new works) found
   beside_told d line fails said new (FoundOne x) = FoundOne (found_told d line (group_place d.world line) fails said new x)
 
   above_told : (halts above : Bool) (d : Doubted) (line : ScriptLine) (fails : Fails) (said : Said) (new : Doubted) → WorksAbove halts above T d line fails said new → WorksAbove halts above U d line fails said new
@@ -117,7 +115,7 @@ module _ {T U : Type 0} (f : U → T) where
   stops_told d line new (StopsInPart part) = StopsInPart part
   stops_told d line new (StopsDown fell) = StopsDown fell
   stops_told d line new (StopsRead read) = StopsRead read
-  stops_told d line new (StopsBetween never p s middle is moves left) = StopsBetween (λ u. never (f u)) p s middle is moves left
+  stops_told d line new (StopsBetween never p s middle is moves left) = StopsBetween (λ u calm. never (f u) calm) p s middle is moves left
 
   part_told : (d : Doubted) (line : ScriptLine) (s : ℕ) (new : Doubted) → RvgShort T d line s new → RvgShort U d line s new
   part_told d line s new (ShortGroup site kept taken lost next has is notes left) = ShortGroup site kept taken lost next has is notes left

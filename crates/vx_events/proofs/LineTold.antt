@@ -47,7 +47,7 @@ module _ {T U : Type 0} (f : U → T) where
   links_told d line fails said new (LinksCut e site kept taken middle comes fused none says leads) = LinksCut e site kept taken middle comes fused none says leads
   links_told d line fails said new (LogUnread before rest e site disk middle split reads runs none here is says leads) = LogUnread before rest e site disk middle split reads runs none here is says leads
   links_told d line fails said new (NoHeader before rest e site middle split takes runs none most is says leads) = NoHeader before rest e site middle split takes runs none (λ u. most (f u)) is says leads
-  links_told d line fails said new (LinksFind never last finds leads) = LinksFind (λ u. never (f u)) last finds leads
+  links_told d line fails said new (LinksFind never last finds leads) = LinksFind (λ u calm. never (f u) calm) last finds leads
 
   pub kind_told : (links : Bool) (d : Doubted) (line : ScriptLine) (fails : Fails) (said : Said) (new : Doubted) → EndsBy links T d line fails said new → EndsBy links U d line fails said new
   kind_told true d line fails said new x = links_told d line fails said new x

@@ -61,9 +61,9 @@ whole_short told d line new whole short =
     by parts raises reads (StopsRead read) = absurd (never_both (sym read.reads ∙ reads))
     by parts raises reads (StopsBetween untold p s middle is moves left) = absurd (never_both (subst (λ (l : ScriptLine). goes_in_parts l ≡ false) is parts))
 
--- over disks that tell their contents it is a first part of the events, the crash before a recovery, or the reads of an import
-pub told_part : (told : Type 0) (d : Doubted) (line : ScriptLine) (new : Doubted) → told → StopsShort told d line new → DonePart d line new ⊎ FellFirst d line new ⊎ ReadFirst d line new
-told_part told d line new tells (StopsInPart part) = inl part
-told_part told d line new tells (StopsDown fell) = inr (inl fell)
-told_part told d line new tells (StopsRead read) = inr (inr read)
-told_part told d line new tells (StopsBetween untold p s middle is moves left) = absurd (untold tells)
+-- over disks that tell their contents, where the world has not strayed, it is a first part of the events, the crash before a recovery, or the reads of an import
+pub told_part : (told : Type 0) (d : Doubted) (line : ScriptLine) (new : Doubted) → told → d.strayed ≡ false → StopsShort told d line new → DonePart d line new ⊎ FellFirst d line new ⊎ ReadFirst d line new
+told_part told d line new tells calm (StopsInPart part) = inl part
+told_part told d line new tells calm (StopsDown fell) = inr (inl fell)
+told_part told d line new tells calm (StopsRead read) = inr (inr read)
+told_part told d line new tells calm (StopsBetween untold p s middle is moves left) = absurd (untold tells calm)

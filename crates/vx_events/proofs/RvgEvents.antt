@@ -27,9 +27,7 @@ use Rattle.vx_events.specs.RvgOver.{OpensFor}
 use Rattle.vx_events.specs.RvgSteps.{AsBefore, FoundOne, FullBy, StepFull, WorksAbove, WorksBeside, WorksFull, is_for_rvg, rvg_place}
 use Rattle.vx_events.specs.RvgViews.{is_over_rvg}
 use Rattle.vx_events.specs.StepsOver.{WorksOver, facts_over, group_place, is_for_group, refused_over}
-use Rattle.vx_events.specs.Strays.{told_for}
 use Rattle.vx_events.specs.declared.said.Said.{Said}
-use Rattle.vx_events.proofs.Tolds.{told_now}
 
 -- a site with a replicated volume group is over no group without one
 apart_of : (group : Bool) (none : Bool) → (group && not none) ≡ true → (group && none) ≡ false
@@ -56,11 +54,11 @@ module _ (told : Type 0) (is_told : told) (files : Bool) (d : Doubted) (fails : 
       record { before = d; like = same_doubted d; events = stops.events; ending = []; stops = stops.stops }
 
   -- a line on no group
-  done_by_kind : (links : Bool) (line : ScriptLine) → OpensFor d.world line → EndsBy links told d line fails said new → RvgStops d new
-  done_by_kind true line opens ends =
-      let stops = link_stops told is_told d line fails said new ends in
+  done_by_kind : d.strayed ≡ false → (links : Bool) (line : ScriptLine) → OpensFor d.world line → EndsBy links told d line fails said new → RvgStops d new
+  done_by_kind calm true line opens ends =
+      let stops = link_stops told is_told d calm line fails said new ends in
       record { before = d; like = same_doubted d; events = stops.events; ending = fails; stops = stops.stops }
-  done_by_kind false line opens ends =
+  done_by_kind calm false line opens ends =
       let stops = ended told d line (λ untold recovers. untold is_told) (opens_at d.world line opens) fails said new ends in
       record { before = d; like = same_doubted d; events = stops.events; ending = stops.ending; stops = stops.stops }
 
@@ -78,15 +76,15 @@ module _ (told : Type 0) (is_told : told) (files : Bool) (d : Doubted) (fails : 
 
   -- ---- the ways of a line
 
-  before_stops : (group : Bool) (line : ScriptLine) → is_for_group d.world line ≡ group → refused_over d.world files line ≡ None → WorksOver group told d line fails said new → RvgStops d new
-  before_stops true line is free ends = group_too line (group_place d.world line) ends
-  before_stops false line is free (inl step) = done_by_kind (is_of_links line) line (opens_apart line is free) step.ends
-  before_stops false line is free (inr kept) = absurd (kept.untold is_told)
+  before_stops : d.strayed ≡ false → (group : Bool) (line : ScriptLine) → is_for_group d.world line ≡ group → refused_over d.world files line ≡ None → WorksOver group told d line fails said new → RvgStops d new
+  before_stops calm true line is free ends = group_too line (group_place d.world line) ends
+  before_stops calm false line is free (inl step) = done_by_kind calm (is_of_links line) line (opens_apart line is free) step.ends
+  before_stops calm false line is free (inr kept) = absurd (kept.untold is_told)
 
 module _ (told : Type 0) (is_told : told) (files : Bool) (d : Doubted) (fails : Fails) (said : Said) (new : Doubted) (calm : new.strayed ≡ false) (was : d.strayed ≡ false) where
   beside_stops : (line : ScriptLine) → refused_over d.world files line ≡ None → WorksBeside told d line fails said new → RvgStops d new
   beside_stops line free (AsBefore works found) =
-      before_stops (told_for told d line) (told_now told is_told d was (is_of_links line)) files d fails said new (is_for_group d.world line) line refl free works
+      before_stops told is_told files d fails said new was (is_for_group d.world line) line refl free works
   beside_stops line free (FoundOne finds) = finds_stops told d (group_place d.world line) fails said new line calm finds
 
   above_stops : (halts above : Bool) (line : ScriptLine) → is_for_rvg d.world line ≡ above → refused_over d.world files line ≡ None

@@ -1,5 +1,5 @@
 -- In a world in which no site is over a group of disks with a replicated volume group, a line that makes none, and finds none, does what it does there.
-use Rattle.std.proofs.Common.{◌≡◌, ℕ, Bool, false, sym, subst}
+use Rattle.std.proofs.Common.{ℕ, Bool, false, sym, subst}
 use Rattle.std.specs.Prelude.{Option, Some, None}
 use Rattle.vx_model.specs.declared.no.No.{No}
 use Rattle.vx_history.specs.Doubts.{Doubted}
@@ -8,13 +8,11 @@ use Rattle.vx_script.specs.declared.line.ScriptLine.TheVariants.{Rvg}
 use Rattle.vx_events.specs.Fails.{Fails}
 use Rattle.vx_events.specs.GroupEnds.{BringsUp}
 use Rattle.vx_events.specs.RvgBack.{FindsNoRvg, FindsPlain, FindsRvg, RvgFinds}
-use Rattle.vx_events.specs.Lines.{is_of_links}
 use Rattle.vx_events.proofs.Opens.{for_none, open_none}
 use Rattle.vx_events.proofs.StrayFinds.{finds_plain}
-use Rattle.vx_events.proofs.Tolds.{told_less, told_now, works_told}
 use Rattle.vx_events.specs.RvgSteps.{AsBefore, FoundOne, FoundPlain, FullBy, HasNoRvgs, MakesNoRvg, StepFull, WorksAbove, WorksBeside, WorksFull, is_for_rvg}
 use Rattle.vx_events.specs.StepsOver.{OverBy, StepOver, WorksOver, group_place, is_for_group, refused_over}
-use Rattle.vx_events.specs.Strays.{NotesNoRvgs, told_for}
+use Rattle.vx_events.specs.Strays.{NotesNoRvgs}
 use Rattle.vx_events.specs.declared.said.Said.{Said}
 
 -- what finds a replicated volume group brings a group up
@@ -43,16 +41,15 @@ module _ (told : Type 0) (files : Bool) (d : Doubted) (none : HasNoRvgs d.world)
   over_by : (line : ScriptLine) → MakesNoRvg line → FoundPlain line (group_place d.world line) new → (o : Option No) → OverBy o (is_for_group d.world line) told d line fails said new
       → FullBy o told d line fails said new
   over_by line makes found (Some why) step = step
-  over_by line makes found None step =
-      beside_full line makes (AsBefore (works_told (λ (t : told_for told d line). told_less told d (is_of_links line) t) (is_for_group d.world line) d line fails said new step) found)
+  over_by line makes found None step = beside_full line makes (AsBefore step found)
 
-  plain_by : (line : ScriptLine) → d.strayed ≡ false → MakesNoRvg line → NotesNoRvgs new.world → (o : Option No) → FullBy o told d line fails said new
+  plain_by : (line : ScriptLine) → MakesNoRvg line → NotesNoRvgs new.world → (o : Option No) → FullBy o told d line fails said new
       → OverBy o (is_for_group d.world line) told d line fails said new
-  plain_by line calm makes plain (Some why) step = step
-  plain_by line calm makes plain None step = before (full_beside line makes step)
+  plain_by line makes plain (Some why) step = step
+  plain_by line makes plain None step = before (full_beside line makes step)
     where
       before : WorksBeside told d line fails said new → WorksOver (is_for_group d.world line) told d line fails said new
-      before (AsBefore works found) = works_told (λ (t : told). told_now told t d calm (is_of_links line)) (is_for_group d.world line) d line fails said new works
+      before (AsBefore works found) = works
       before (FoundOne finds) =
           let s : ℕ = group_place d.world line in
           absurd (finds_plain told d line s fails said new finds (none s) (plain s))
@@ -61,6 +58,6 @@ module _ (told : Type 0) (files : Bool) (d : Doubted) (none : HasNoRvgs d.world)
       → StepFull told files d line fails said new
   full_over line makes found step = over_by line makes found (refused_over d.world files line) step
 
-  pub over_full : (line : ScriptLine) → d.strayed ≡ false → MakesNoRvg line → NotesNoRvgs new.world → StepFull told files d line fails said new
+  pub over_full : (line : ScriptLine) → MakesNoRvg line → NotesNoRvgs new.world → StepFull told files d line fails said new
       → StepOver told files d line fails said new
-  over_full line calm makes plain step = plain_by line calm makes plain (refused_over d.world files line) step
+  over_full line makes plain step = plain_by line makes plain (refused_over d.world files line) step

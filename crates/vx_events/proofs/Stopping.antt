@@ -308,11 +308,11 @@ module _ (told : Type 0) (d : Doubted) (line : ScriptLine) (finds : (told → �
   ended fails said new (FindsNone untold c taken site mid n why is from other none says leads) = absurd (finds untold (subst (λ (l : ScriptLine). Recovers l) (sym is) tt))
 
 -- a line of any kind
-ended_by_kind : (told : Type 0) → told → (d : Doubted) (line : ScriptLine)
+ended_by_kind : (told : Type 0) → told → (d : Doubted) → d.strayed ≡ false → (line : ScriptLine)
     → ((c : Choice) → BeginsWrite (events_of d.world line c) → IsOpen (d.world.nodes (place_of d.world line)) × (place_of d.world line < d.world.sites))
     → (links : Bool) (fails : Fails) (said : Said) (new : Doubted) → EndsBy links told d line fails said new → StopsBy links d line fails new
-ended_by_kind told is_told d line opens true fails said new ends = link_stops told is_told d line fails said new ends
-ended_by_kind told is_told d line opens false fails said new ends = ended told d line (λ untold recovers. untold is_told) opens fails said new ends
+ended_by_kind told is_told d calm line opens true fails said new ends = link_stops told is_told d calm line fails said new ends
+ended_by_kind told is_told d calm line opens false fails said new ends = ended told d line (λ untold recovers. untold is_told) opens fails said new ends
 
 -- a line that a test refuses stands for none of its events
 refused : (links : Bool) (d : Doubted) (line : ScriptLine) (why : No) (fails : Fails) (said : Said) (new : Doubted) → IsRefusedLine why d fails said new → StopsBy links d line fails new
@@ -332,16 +332,16 @@ refused false d line why fails said new is =
       stops = all_stop false d [] fails new is.none (same_like d new is.stays);
     }
 
-by_refusal : (told : Type 0) → told → (d : Doubted) (files : Bool) (line : ScriptLine) (fails : Fails) (said : Said) (new : Doubted) (o : Option No) → is_for_group d.world line ≡ false
+by_refusal : (told : Type 0) → told → (d : Doubted) → d.strayed ≡ false → (files : Bool) (line : ScriptLine) (fails : Fails) (said : Said) (new : Doubted) (o : Option No) → is_for_group d.world line ≡ false
     → refused_over d.world files line ≡ o → OverBy o false told d line fails said new → StopsBy (is_of_links line) d line fails new
-by_refusal told is_told d files line fails said new (Some why) apart is step = refused (is_of_links line) d line why fails said new step
-by_refusal told is_told d files line fails said new None apart is (inl step) =
-    ended_by_kind told is_told d line (λ c begins. open_of d.world files line c apart is begins) (is_of_links line) fails said new step.ends
-by_refusal told is_told d files line fails said new None apart is (inr kept) = absurd (kept.untold is_told)
+by_refusal told is_told d calm files line fails said new (Some why) apart is step = refused (is_of_links line) d line why fails said new step
+by_refusal told is_told d calm files line fails said new None apart is (inl step) =
+    ended_by_kind told is_told d calm line (λ c begins. open_of d.world files line c apart is begins) (is_of_links line) fails said new step.ends
+by_refusal told is_told d calm files line fails said new None apart is (inr kept) = absurd (kept.untold is_told)
 
--- however a line that works on no group ends over disks that tell their contents
-pub line_stops : (told : Type 0) → told → (d : Doubted) (files : Bool) (line : ScriptLine) (fails : Fails) (said : Said) (new : Doubted) → is_for_group d.world line ≡ false
+-- however a line that works on no group ends over disks that tell their contents, where the world has not strayed
+pub line_stops : (told : Type 0) → told → (d : Doubted) → d.strayed ≡ false → (files : Bool) (line : ScriptLine) (fails : Fails) (said : Said) (new : Doubted) → is_for_group d.world line ≡ false
     → StepOver told files d line fails said new → StopsBy (is_of_links line) d line fails new
-line_stops told is_told d files line fails said new apart step =
-    by_refusal told is_told d files line fails said new (refused_over d.world files line) apart refl
+line_stops told is_told d calm files line fails said new apart step =
+    by_refusal told is_told d calm files line fails said new (refused_over d.world files line) apart refl
     (subst (λ (b : Bool). OverBy (refused_over d.world files line) b told d line fails said new) apart step)

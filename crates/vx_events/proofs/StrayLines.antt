@@ -31,7 +31,6 @@ use Rattle.vx_events.specs.RvgOver.{EndsOver, OverRvg}
 use Rattle.vx_events.specs.RvgParts.{RvgShort, ShortFull, ShortGroup, ShortLog, ShortMade, short_place}
 use Rattle.vx_events.specs.RvgSteps.{AsBefore, FoundOne, FullBy, StepFull, WorksAbove, WorksBeside, WorksFull, is_for_rvg, rvg_place}
 use Rattle.vx_events.specs.StepsOver.{WorksOver, group_place, is_for_group, refused_over}
-use Rattle.vx_events.specs.Strays.{told_for}
 use Rattle.vx_events.specs.declared.said.Said.{Said}
 
 -- one world has strayed where the other has
@@ -150,7 +149,7 @@ module _ (told : Type 0) (d : Doubted) (fails : Fails) (said : Said) (new : Doub
   over_found other s ends = inl (ends_over_strays told d other s fails said new ends)
 
   beside_found : (line : ScriptLine) → WorksBeside told d line fails said new → CalmOrFinds (group_place d.world line) line
-  beside_found line (AsBefore works found) = inl (over_strays (is_for_group d.world line) (told_for told d line) d line fails said new works)
+  beside_found line (AsBefore works found) = inl (over_strays (is_for_group d.world line) told d line fails said new works)
   beside_found line (FoundOne finds) = inr finds
 
   -- at the site that it names

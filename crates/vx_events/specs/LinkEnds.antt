@@ -95,8 +95,8 @@ pub data LinkEnds (told : Type 0) (d : Doubted) (line : ScriptLine) (fails : Fai
   NoHeader : (before rest : List Event) (e : Event) (site : ℕ) (middle : Doubted) → link_events d.world line ≡ before ++ e ∷ rest
       → TakesNumber middle.world e site → Runs d before middle → all_fails before ≡ [] → (told → MOST_NUMBER ≤ most_stamp_at middle.world site + stamps_of e middle.world site) → fails ≡ []
       → said ≡ Refused (Limit Number MOST_NUMBER) → AreLeft line d middle new → LinkEnds told d line fails said new
-  -- disks that tell no contents were read, or put something together of packets
-  LinksFind : (told → ⊥) → (last : Doubted) → FindsOther d line fails said last → AreLeft line d last new → LinkEnds told d line fails said new
+  -- disks that tell no contents were read, or put something together of packets; or the world had strayed, so that nothing is known of what packets carry
+  LinksFind : (told → d.strayed ≡ false → ⊥) → (last : Doubted) → FindsOther d line fails said last → AreLeft line d last new → LinkEnds told d line fails said new
 
 -- What came of these events: all of them; or the first of them; or those before records were applied, and that a disk failed then.
 pub data CameOfLinks (all events : List Event) : Type 0 where

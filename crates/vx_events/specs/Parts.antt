@@ -74,13 +74,13 @@ pub record ReadFirst (d : Doubted) (line : ScriptLine) (new : Doubted) : Type 0 
   pub notes : NotesShort (note_at (d.world.nodes (group_place d.world line))) next
   pub leads : let s = group_place d.world line in IsAs d (worked_on (noting d.world s next) s) new ⊎ IsAs d (fuse_lost (noting d.world s next) s) new
 
--- What want of memory leaves of a line: a first part of its events, the crash before a recovery, or the reads of an import. Over disks that tell no contents a link may be settled
--- by updates of whatever blocks were read: then some of them, and of what answers them, was sent and delivered.
+-- What want of memory leaves of a line: a first part of its events, the crash before a recovery, or the reads of an import. Over disks that tell no contents, and where the world has strayed, a
+-- link may be settled by updates of whatever blocks were read: then some of them, and of what answers them, was sent and delivered.
 pub data StopsShort (told : Type 0) (d : Doubted) (line : ScriptLine) (new : Doubted) : Type 0 where
   StopsInPart : DonePart d line new → StopsShort told d line new
   StopsDown : FellFirst d line new → StopsShort told d line new
   StopsRead : ReadFirst d line new → StopsShort told d line new
-  StopsBetween : (told → ⊥) → (p s : List ℕ) (middle : Doubted) → line ≡ Settle p s → MovesBetween (site_number d.world p) (site_number d.world s) d middle
+  StopsBetween : (told → d.strayed ≡ false → ⊥) → (p s : List ℕ) (middle : Doubted) → line ≡ Settle p s → MovesBetween (site_number d.world p) (site_number d.world s) d middle
       → AreLeft line d middle new → StopsShort told d line new
 
 abbrev pub part_left : ScriptLine → Doubted → List Event → Doubted

@@ -20,7 +20,6 @@ use Rattle.vx_events.specs.RvgMakes.{MakesRvg}
 use Rattle.vx_events.specs.RvgOver.{OverRvg}
 use Rattle.vx_events.specs.RvgViews.{is_over_rvg}
 use Rattle.vx_events.specs.StepsOver.{WorksOver, group_place, is_for_group, refused_over}
-use Rattle.vx_events.specs.Strays.{told_for}
 use Rattle.vx_events.specs.declared.said.Said.{Said}
 
 -- ---- lines
@@ -62,7 +61,7 @@ FoundPlain line s new = BringsUp line → s < new.world.sites → is_over_group 
 
 -- A line at no site that has a replicated volume group over a group of disks. One that brings a group up, of a site over one or of a bare one, may find one.
 pub data WorksBeside (told : Type 0) (d : Doubted) (line : ScriptLine) (fails : Fails) (said : Said) (new : Doubted) : Type 0 where
-  AsBefore : WorksOver (is_for_group d.world line) (told_for told d line) d line fails said new → FoundPlain line (group_place d.world line) new → WorksBeside told d line fails said new
+  AsBefore : WorksOver (is_for_group d.world line) told d line fails said new → FoundPlain line (group_place d.world line) new → WorksBeside told d line fails said new
   FoundOne : RvgFinds told d line (group_place d.world line) fails said new → WorksBeside told d line fails said new
 
 abbrev pub WorksAbove : (halts above : Bool) → Type 0 → Doubted → ScriptLine → Fails → Said → Doubted → Type 0

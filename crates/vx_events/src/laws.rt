@@ -77,10 +77,10 @@ pub fn tests_agree()
         → (step w (ApplyAt (site_number w name) to reached)).said ≡ DoneAt reached }
 {}
 
-/// However a line that works on no group ends over disks that tell their contents, it ends as events of the world do of which one may be ended by a
-/// failing disk or by a fuse. So the laws of what such events keep, where sites may be in doubt, hold of lines of every kind.
+/// However a line that works on no group ends over disks that tell their contents, where the world has not strayed, it ends as events of the world do of which one may be
+/// ended by a failing disk or by a fuse. So the laws of what such events keep, where sites may be in doubt, hold of lines of every kind.
 pub fn lines_are_events()
-    ensures { (d : Doubted) (files : Bool) (line : ScriptLine) (fails : Fails) (said : Said) (new : Doubted) → is_for_group d.world line ≡ false
+    ensures { (d : Doubted) (files : Bool) (line : ScriptLine) (fails : Fails) (said : Said) (new : Doubted) → d.strayed ≡ false → is_for_group d.world line ≡ false
         → StepOver (Unit {0}) files d line fails said new → StopsBy (is_of_links line) d line fails new }
 {}
 
@@ -185,11 +185,11 @@ pub fn worlds_stray_by_what_is_found()
 {}
 
 /// In a world in which no site is over a group of disks with a replicated volume group, a line that makes none, and finds none as it brings a group up, does what it does
-/// there; and so it did, where the world had not strayed.
+/// there.
 pub fn steps_over_rvgs()
     ensures full { (tells files : Bool) (d : Doubted) (line : ScriptLine) (fails : Fails) (said : Said) (new : Doubted) → HasNoRvgs d.world → MakesNoRvg line
         → FoundPlain line (group_place d.world line) new → StepOver (IsTrue tells) files d line fails said new → StepFull (IsTrue tells) files d line fails said new }
-    ensures over { (tells files : Bool) (d : Doubted) (line : ScriptLine) (fails : Fails) (said : Said) (new : Doubted) → d.strayed ≡ false → HasNoRvgs d.world → MakesNoRvg line
+    ensures over { (tells files : Bool) (d : Doubted) (line : ScriptLine) (fails : Fails) (said : Said) (new : Doubted) → HasNoRvgs d.world → MakesNoRvg line
         → NotesNoRvgs new.world → StepFull (IsTrue tells) files d line fails said new → StepOver (IsTrue tells) files d line fails said new }
 {}
 
@@ -200,10 +200,10 @@ pub fn only_groups_bear()
 
 /// Where memory runs out within a line that does not go in parts nothing is done, whether disks tell their contents or not; of one that does, any first
 /// part of its events may be. Of a recovery of a group that is up the crash may be, an import may have read its disks under a fuse, and of disks that may not agree nothing may be known behind either. Where disks tell
-/// their contents nothing else is.
+/// their contents, and the world has not strayed, nothing else is.
 pub fn memory_leaves_a_part()
     ensures none { (d : Doubted) (line : ScriptLine) (new : Doubted) → goes_in_parts line ≡ false → DonePart d line new → new ≡ d }
     ensures any { (d : Doubted) (line : ScriptLine) (c : Choice) (k : ℕ) → goes_in_parts line ≡ true → DonePart d line (first_part d line c k) }
     ensures short { (d : Doubted) (line : ScriptLine) (new : Doubted) → may_stop d.world line ≡ false → StopsShort ⊥ d line new → new ≡ d }
-    ensures told { (d : Doubted) (line : ScriptLine) (new : Doubted) → StopsShort (Unit {0}) d line new → DonePart d line new ⊎ FellFirst d line new ⊎ ReadFirst d line new }
+    ensures told { (d : Doubted) (line : ScriptLine) (new : Doubted) → d.strayed ≡ false → StopsShort (Unit {0}) d line new → DonePart d line new ⊎ FellFirst d line new ⊎ ReadFirst d line new }
 {}

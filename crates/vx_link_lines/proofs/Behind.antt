@@ -28,7 +28,7 @@ use Rattle.vx_joins.specs.Deliveries.{DeliveredTo, TookTo}
 use Rattle.vx_yard.specs.Standing.{Leads, LeadsIs, StandsFor}
 use Rattle.vx_yard.specs.Yards.{IsTold}
 use Rattle.vx_yard.specs.declared.yard.Yard.{Yard}
-use Rattle.vx_link_lines.proofs.Deaf.{all_told, took_open}
+use Rattle.vx_link_lines.proofs.Deaf.{all_calm, took_open}
 use Rattle.vx_link_lines.proofs.HandedOn.{Handed, exact_ignored, exact_taken, found_ignored, found_taken}
 use Rattle.vx_yard.proofs.Carrying.{SameLoad, carries_same}
 use Rattle.vx_yard.proofs.CrashLine.{rose_still}
@@ -51,7 +51,7 @@ module _ {R : Type 0} {g : Ghosts R} where
     pub off : is_over_rvg (d.world.nodes t) ≡ false
     pub handed : Handed old new t feeder a
     pub took : TookTo d.world number p k (beside_of d t) after feeder was a old.flight new.flight said
-    pub exact : IsTold new → DeliveredTo (delivered d.world number (packet_at d.world.packets number)) (beside_of d t) t after feeder a new.flight said
+    pub exact : IsTold new → d.strayed ≡ false → DeliveredTo (delivered d.world number (packet_at d.world.packets number)) (beside_of d t) t after feeder a new.flight said
     pub receives : is_origin (d.world.nodes t).role ≡ false
     pub none : (fact_of (d.world.nodes t) (d.world.links t) d.world.sites).links ≡ []
 
@@ -61,9 +61,9 @@ module _ {R : Type 0} {g : Ghosts R} where
     behind_ignored there facts =
         let here = subst (λ (i : ℕ). IsBehind d number p k old new before after feeder was a IsIgnored i) (sym to) there in
         ⊎_elim
-        (λ tells. exact_ignored d number p k x old new before after stands here.below here.changed alone here.role here.off feeder a at message here.handed (here.exact tells) facts)
+        (λ told. exact_ignored d number p k x old new before after stands here.below here.changed alone here.role here.off feeder a at message here.handed (here.exact told.0 told.1) facts)
         (λ untold. found_ignored d number p k x old new before after stands here.below here.changed alone here.role here.off feeder a at message here.handed untold was here.took facts)
-        (all_told new.disk_sets.items)
+        (all_calm new.disk_sets.items d.strayed)
 
     pub behind_taken : (last : ℕ) → IsBehind d number p k old new before after feeder was a IsTaken t → ((m : Node) → SiteStands (beside_of d t) m after → IsOpen m → last ≡ length m.log)
         → new.facts.items ≡ slice_set old.facts.items t (received_fact last (fact_of (d.world.nodes t) (d.world.links t) d.world.sites)) → Leads d (Deliver number) Taken old new
@@ -74,12 +74,12 @@ module _ {R : Type 0} {g : Ghosts R} where
         let opens = took_open d.world number p k (beside_of d p.target) after feeder was a old.flight new.flight here.took in
         let m : Node = (delivered d.world number (packet_at d.world.packets number)).world.nodes p.target in
         ⊎_elim
-        (λ tells.
-        let is = here.exact tells in
+        (λ told.
+        let is = here.exact told.0 told.1 in
         exact_taken d number p k x old new before after stands here.below here.changed alone here.role here.off feeder a at message here.handed last is here.receives here.none
         (many m is.stands (open_behind (d.world.nodes p.target) m p.source x (node_behind d.world p x number k at message) opens)) shown)
         (λ untold. found_taken d number p k x old new before after stands here.below here.changed alone here.role here.off feeder a at message here.handed untold last was here.took here.none many shown)
-        (all_told new.disk_sets.items)
+        (all_calm new.disk_sets.items d.strayed)
 
   -- want of memory: nothing was done
   pub behind_short : (d : Doubted) (line : ScriptLine) (old new : Yard R g) (before after : DiskSet R g) (t : ℕ) (r : Result Said OutOfMemory) (e : OutOfMemory) → r ≡ Err e → StandsFor d old → t < d.world.sites → Changed old new t before after → LeavesAlone before after → RoleIs (d.world.nodes t) after → is_over_rvg (d.world.nodes t) ≡ false

@@ -104,6 +104,15 @@ module _ {R : Type 0} {g : Ghosts R} where
       none (suc s) x is = cc
   all_told (e ∷ es) = place_told e es (all_told es)
 
+  -- and the world has not strayed
+  pub all_calm : (es : List (DiskSet R g)) (strayed : Bool) → (AreTold es × (strayed ≡ false)) ⊎ (AreTold es → strayed ≡ false → ⊥)
+  all_calm es true = inr (λ told calm. absurd (let e : true ≡ false = calm in cc))
+  all_calm es false = by (all_told es)
+    where
+      by : AreTold es ⊎ (AreTold es → ⊥) → (AreTold es × (false ≡ false)) ⊎ (AreTold es → false ≡ false → ⊥)
+      by (inl told) = inl (told, refl)
+      by (inr untold) = inr (λ told calm. untold told)
+
   -- one that takes something is open
   pub took_open : (w : World) (number : ℕ) (p : Packet) (k : ℕ) (beside : KeptBeside) (e : DiskSet R g) (fed : ℕ) (a b : Assembled) (f h : Flying) → TookTo w number p k beside e fed a b f h IsTaken → IsOpen (w.nodes p.target)
   took_open w number p k beside e fed a b f h (TakesOne opens receives next x said here from sends) = opens

@@ -114,7 +114,7 @@ module _ {R : Type 0} {g : Ghosts R} where
     carried event is carries =
         let hands = update_hands d.world p x number k at message in
         let noted = worked_effect s d h (o.world.nodes s) (d.world.links s) (d.world.headers s) (d.after s) o.world.packets (o.world.gathering s) effect in
-        carries_handed d (worked_for h s) s feeder a hands.more old new noted.site hands.sent is.flight (λ tells. is.assembly) (is.fed_by ∙ ap (λ (m : Node). m.fed_by) (sym noted.is.node)) handed.assemblies handed.feeders handed.below handed.told carries
+        carries_handed d (worked_for h s) s feeder a hands.more old new noted.site hands.sent is.flight (λ tells calm. is.assembly) (is.fed_by ∙ ap (λ (m : Node). m.fed_by) (sym noted.is.node)) handed.assemblies handed.feeders handed.below handed.told carries
 
     -- as the world has it, and ignored
     pub exact_ignored : DeliveredTo o (beside_of d s) s after feeder a new.flight IsIgnored → new.facts.items ≡ old.facts.items → Leads d (Deliver number) Ignored old new
@@ -131,9 +131,9 @@ module _ {R : Type 0} {g : Ghosts R} where
         (fit_worked h s (fit_happened d (DeliverAt number) false tt stands.links)) (done_as (IsTold new) d number p Taken IsTaken at below (sym is.says) refl) (apart_by receives) (either_site n (o.world.nodes s) p.source x one) is.stands
         (last_shown n (o.world.nodes s) (d.world.links s) d.world.sites p.source last x receives none one many) facts (carried IsTaken is)
 
-    -- ---- over disks that tell nothing
+    -- ---- over disks that tell nothing, or where the world has strayed
 
-    module _ (untold : IsTold new → ⊥) where
+    module _ (untold : IsTold new → d.strayed ≡ false → ⊥) where
       abbrev given : Node → Option Gathering → List Packet → Doubted
       given m o more = record d { world = target_with d.world s m o more }
 
@@ -149,7 +149,7 @@ module _ {R : Type 0} {g : Ghosts R} where
           leads_new d number p old new before after stands below changed alone role off h' m (d.world.packets ++ more) o Taken (received_fact last (fact_of n (d.world.links s) d.world.sites)) (given_effect d s m o more)
           (fit_worked h' s (fit_finds d (Deliver number) [] Taken h' finds stands.links)) (LinksFind untold h' finds (left_at d h' number p at below)) (apart_by receives) (either_site n m p.source y one) here
           (last_shown n m (d.world.links s) d.world.sites p.source last y receives none one many) facts
-          (λ carries. carries_handed d (worked_for h' s) s feeder a more old new noted.site refl (sends d.world.packets carries.flight) (λ tells. absurd (untold tells)) (fed ∙ ap (λ (i : Node). i.fed_by) (sym noted.is.node))
+          (λ carries. carries_handed d (worked_for h' s) s feeder a more old new noted.site refl (sends d.world.packets carries.flight) (λ tells calm. absurd (untold tells calm)) (fed ∙ ap (λ (i : Node). i.fed_by) (sym noted.is.node))
           handed.assemblies handed.feeders handed.below handed.told carries)
 
       -- it is ignored as the world has it, and may be acknowledged again
@@ -163,7 +163,7 @@ module _ {R : Type 0} {g : Ghosts R} where
           (done_as (IsTold new) d number p Ignored IsIgnored at below (ap (λ (r : Outcome). r.said) is) refl) node (subst (λ (m : Node). SiteStands (beside_of d s) m after) (sym node) here) facts
           (λ carries. carries_handed d (worked_for h s) s feeder a more old new noted.site packets
           (subst (λ (ps : List Packet). FlightStands ps new.flight) (sym packets) (sends d.world.packets carries.flight))
-          (λ tells. absurd (untold tells)) (fed ∙ ap (λ (m : Node). m.fed_by) (sym node) ∙ ap (λ (m : Node). m.fed_by) (sym noted.is.node)) handed.assemblies handed.feeders handed.below handed.told carries)
+          (λ tells calm. absurd (untold tells calm)) (fed ∙ ap (λ (m : Node). m.fed_by) (sym node) ∙ ap (λ (m : Node). m.fed_by) (sym noted.is.node)) handed.assemblies handed.feeders handed.below handed.told carries)
 
       -- nothing came of a part
       lost_leads : FindsOther d (Deliver number) [] Ignored d → SiteStands (beside_of d s) n after → feeder ≡ n.fed_by → new.flight ≡ old.flight → new.facts.items ≡ old.facts.items → Leads d (Deliver number) Ignored old new
@@ -172,7 +172,7 @@ module _ {R : Type 0} {g : Ghosts R} where
           leads_same d number p old new before after stands below changed alone role off d n d.world.packets (d.world.gathering s) Ignored (same_effect d s) (fit_worked d s stands.links)
           (LinksFind untold d finds (left_at d d number p at below)) refl here facts
           (λ carries. carries_handed d (worked_for d s) s feeder a [] old new noted.site (sym (append-nil d.world.packets)) (subst (λ (f : Flying). FlightStands d.world.packets f) (sym still) carries.flight)
-          (λ tells. absurd (untold tells)) (fed ∙ ap (λ (i : Node). i.fed_by) (sym noted.is.node)) handed.assemblies handed.feeders handed.below handed.told carries)
+          (λ tells calm. absurd (untold tells calm)) (fed ∙ ap (λ (i : Node). i.fed_by) (sym noted.is.node)) handed.assemblies handed.feeders handed.below handed.told carries)
 
       -- it was ignored
       pub found_ignored : (a' : Assembled) → TookTo d.world number p k (beside_of d s) after feeder a' a old.flight new.flight IsIgnored → new.facts.items ≡ old.facts.items → Leads d (Deliver number) Ignored old new

@@ -158,19 +158,19 @@ module _ {R : Type 0} {g : Ghosts R} where
   -- ---- what the yard carries
 
   -- another thing is in assembly at one site
-  pub carries_heard : (d e : Doubted) (s : ℕ) (a : Assembled) (old new : Yard R g) → ChangesNode s d e → e.world.packets ≡ d.world.packets → new.flight ≡ old.flight → (IsTold new → AssemblyStands e.world.packets s (e.world.gathering s) a)
+  pub carries_heard : (d e : Doubted) (s : ℕ) (a : Assembled) (old new : Yard R g) → ChangesNode s d e → e.world.packets ≡ d.world.packets → new.flight ≡ old.flight → (IsTold new → e.strayed ≡ false → AssemblyStands e.world.packets s (e.world.gathering s) a)
       → new.assemblies.items ≡ slice_set old.assemblies.items s a → new.feeders.items ≡ old.feeders.items → Feeds (d.world.nodes s) (e.world.nodes s) → s < MOST_SITES → (IsTold new → IsTold old) → Carries d old → Carries e new
   carries_heard d e s a old new changes packets flight here assemblies feeders feeds below told carries = record {
     flight = subst (λ (ps : List Packet). FlightStands ps new.flight) (sym packets) (subst (λ (f : Flying). FlightStands d.world.packets f) (sym flight) carries.flight);
     places = ap (λ (xs : List Assembled). length xs) assemblies ∙ length-set old.assemblies.items s a ∙ carries.places;
-    assemblies = λ tells i b is. ⊎_elim
+    assemblies = λ tells calm i b is. ⊎_elim
         (λ (same : i ≡ s).
         let found : a ≡ b = some_same (sym (get-set_same old.assemblies.items s a (omega (arith, below, carries.places))) ∙ ap (λ (k : ℕ). slice_get (slice_set old.assemblies.items s a) k) (sym same) ∙ at i b is) in
-        subst (λ (k : ℕ). AssemblyStands e.world.packets k (e.world.gathering k) b) (sym same) (subst (λ (c : Assembled). AssemblyStands e.world.packets s (e.world.gathering s) c) found (here tells)))
+        subst (λ (k : ℕ). AssemblyStands e.world.packets k (e.world.gathering k) b) (sym same) (subst (λ (c : Assembled). AssemblyStands e.world.packets s (e.world.gathering s) c) found (here tells calm)))
         (λ apart.
         subst (λ (ps : List Packet). AssemblyStands ps i (e.world.gathering i) b) (sym packets)
         (subst (λ o. AssemblyStands d.world.packets i o b) (sym (changes.gathering i apart))
-        (carries.assemblies (told tells) i b (sym (get-set_other old.assemblies.items s i a apart) ∙ at i b is))))
+        (carries.assemblies (told tells) (changes.strayed calm) i b (sym (get-set_other old.assemblies.items s i a apart) ∙ at i b is))))
         (cases_eq i s);
     numbers = ap (λ (fs : List ℕ). length fs) feeders ∙ carries.numbers;
     feeders = λ i f is up receives.
@@ -186,7 +186,7 @@ module _ {R : Type 0} {g : Ghosts R} where
 
   -- it does not look at fuses
   pub carries_noted : (d : Doubted) (s : ℕ) (y : Yard R g) → Carries d y → Carries (noted_by (note_one s) d) y
-  carries_noted d s y carries = carries_on d (noted_by (note_one s) d) y y carries (record { flight = refl; assemblies = refl; feeders = refl }) refl (λ i. refl) feeds_noted (λ told. told)
+  carries_noted d s y carries = carries_on d (noted_by (note_one s) d) y y carries (record { flight = refl; assemblies = refl; feeders = refl }) refl (λ i. refl) feeds_noted (λ told. told) (λ calm. calm)
     where
       feeds_noted : (i : ℕ) → Feeds (d.world.nodes i) (note_one s d.world.nodes i)
       feeds_noted = all_updated (λ (i : ℕ) (m : Node). Feeds (d.world.nodes i) m) d.world.nodes s (worked (d.world.nodes s)) (feeds_like (d.world.nodes s) (worked (d.world.nodes s)) refl refl refl)
@@ -245,7 +245,7 @@ module _ {R : Type 0} {g : Ghosts R} where
       pub flight : new.flight ≡ old.flight
       pub assemblies : new.assemblies.items ≡ slice_set old.assemblies.items s a
       pub feeders : new.feeders.items ≡ old.feeders.items
-      pub exact : IsTold new → AssemblyStands o.world.packets s (o.world.gathering s) a
+      pub exact : IsTold new → d.strayed ≡ false → AssemblyStands o.world.packets s (o.world.gathering s) a
 
     module _ (a : Assembled) (said : EventSaid) (h : Heard a said) where
       carried : {many : ℕ} → EffectAt s d (behind d event) n (row d number p at answers) many (d.after s) d.world.packets (o.world.gathering s) → Carries start old → Carries to new
@@ -344,7 +344,7 @@ module _ {R : Type 0} {g : Ghosts R} where
     pub flight : new.flight ≡ old.flight
     pub assemblies : new.assemblies.items ≡ slice_set old.assemblies.items t a
     pub feeders : new.feeders.items ≡ old.feeders.items
-    pub exact : IsTold new → AssemblyStands (delivered d.world number (packet_at d.world.packets number)).world.packets t ((delivered d.world number (packet_at d.world.packets number)).world.gathering t) a
+    pub exact : IsTold new → d.strayed ≡ false → AssemblyStands (delivered d.world number (packet_at d.world.packets number)).world.packets t ((delivered d.world number (packet_at d.world.packets number)).world.gathering t) a
     pub stored : StoresAt (beside_of d t) (d.world.nodes t) (ltb (d.world.links t p.source).stored ((delivered d.world number (packet_at d.world.packets number)).world.links t p.source).stored)
         (header_links (delivered d.world number (packet_at d.world.packets number)).world t) after
 

@@ -97,7 +97,7 @@ module _ {R : Type 0} {g : Ghosts R} where
 
   -- what it carries does not look at fuses
   pub carries_noted : (d : Doubted) (y : Yard R g) (s : ℕ) → Carries d y → Carries (noted_by (note_one s) d) y
-  carries_noted d y s carries = carries_on d (noted_by (note_one s) d) y y carries (record { flight = refl; assemblies = refl; feeders = refl }) refl (λ i. refl) (λ i. feeds_noted i) (λ told. told)
+  carries_noted d y s carries = carries_on d (noted_by (note_one s) d) y y carries (record { flight = refl; assemblies = refl; feeders = refl }) refl (λ i. refl) (λ i. feeds_noted i) (λ told. told) (λ calm. calm)
     where
       feeds_noted : (i : ℕ) → Feeds (d.world.nodes i) (note_one s d.world.nodes i)
       feeds_noted = all_updated (λ (i : ℕ) (m : Node). Feeds (d.world.nodes i) m) d.world.nodes s (worked (d.world.nodes s)) (feeds_like (d.world.nodes s) (worked (d.world.nodes s)) refl refl refl)

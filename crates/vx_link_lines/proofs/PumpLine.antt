@@ -108,12 +108,12 @@ pump_told w s to l f one two (RefusedSo any) is why same other = absurd is
 pump_other : (told : Type 0) (d : Doubted) (p s : List ℕ) (more : List Packet) → PumpSends d.world (site_number d.world p) (site_number d.world s) more → (told → ⊥) → IsDone told d (Pump p s) [] Done (record d { world = pumped_with d.world (site_number d.world p) (site_number d.world s) more })
 pump_other told d p s more any untold =
     let v : World = pumped_with d.world (site_number d.world p) (site_number d.world s) more in
-    record { ends = LinksFind untold (record d { world = v }) (SendsOther p s more refl any refl refl refl) (record { world = refl; after = λ i. refl; strayed = refl }); counts = tt; works = tt; calls = tt }
+    record { ends = LinksFind (λ tells calm. untold tells) (record d { world = v }) (SendsOther p s more refl any refl refl refl) (record { world = refl; after = λ i. refl; strayed = refl }); counts = tt; works = tt; calls = tt }
 
 -- and of one of which nothing could be read
 pump_none : (told : Type 0) (d : Doubted) (p s : List ℕ) (why : No) → (told → ⊥) → IsUnreadable why → IsDone told d (Pump p s) [] (Refused why) d
 pump_none told d p s why untold other =
-    record { ends = LinksFind untold d (ReadsNone p s why refl other refl refl refl) (record { world = refl; after = λ i. refl; strayed = refl }); counts = tt; works = tt; calls = tt }
+    record { ends = LinksFind (λ tells calm. untold tells) d (ReadsNone p s why refl other refl refl refl) (record { world = refl; after = λ i. refl; strayed = refl }); counts = tt; works = tt; calls = tt }
 
 -- one whose log could not be read
 pub pump_unread : (told : Type 0) (d : Doubted) (p s : List ℕ) (disk : ℕ) → (link_step d.world (site_number d.world p) (site_number d.world s) PumpLink).action ≢ Nothing → IsLogDisk (d.world.nodes (site_number d.world p)) disk → IsDone told d (Pump p s) ((site_number d.world p, disk) ∷ []) (Refused (Device disk)) d
@@ -236,7 +236,7 @@ module _ {R : Type 0} {g : Ghosts R} where
     middle_carries = record {
       flight = carries.flight;
       places = ap (λ xs. length xs.items) rests.assemblies ∙ carries.places;
-      assemblies = λ tells i a is. carries.assemblies (told tells) i a (sym (ap (λ xs. slice_get xs.items i) rests.assemblies) ∙ is);
+      assemblies = λ tells calm i a is. carries.assemblies (told tells) calm i a (sym (ap (λ xs. slice_get xs.items i) rests.assemblies) ∙ is);
       numbers = ap (λ fs. length fs.items) rests.feeders ∙ carries.numbers;
       feeders = λ i f is. carries.feeders i f (sym (ap (λ fs. slice_get fs.items i) rests.feeders) ∙ is);
     }

@@ -159,11 +159,11 @@ module _ {R : Type 0} {g : Ghosts R} where
   carries_sent s d e more old new changes gathering packets feeds flight assemblies feeders told carries = record {
     flight = flight;
     places = ap (λ (xs : List Assembled). length xs) assemblies ∙ carries.places;
-    assemblies = λ tells i a is.
+    assemblies = λ tells calm i a is.
         subst (λ (ps : List Packet). AssemblyStands ps i (e.world.gathering i) a) (sym packets)
         (stands_later d.world.packets more i (e.world.gathering i) a
         (subst (λ (o : Option Gathering). AssemblyStands d.world.packets i o a) (sym (gathered i))
-        (carries.assemblies (told tells) i a (sym (ap (λ (xs : List Assembled). slice_get xs i) assemblies) ∙ is))));
+        (carries.assemblies (told tells) (changes.strayed calm) i a (sym (ap (λ (xs : List Assembled). slice_get xs i) assemblies) ∙ is))));
     numbers = ap (λ (fs : List ℕ). length fs) feeders ∙ carries.numbers;
     feeders = λ i feeder is up receives.
         let was = (fed i).each up receives in

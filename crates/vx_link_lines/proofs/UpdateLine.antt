@@ -194,20 +194,20 @@ module _ {R : Type 0} {g : Ghosts R} where
   -- ---- what the yard carries
 
   pub carries_handed : (d e : Doubted) (s feeder : ℕ) (a : Assembled) (more : List Packet) (old new : Yard R g) → ChangesNode s d e → e.world.packets ≡ d.world.packets ++ more → FlightStands e.world.packets new.flight
-      → (IsTold new → AssemblyStands e.world.packets s (e.world.gathering s) a) → feeder ≡ (e.world.nodes s).fed_by → new.assemblies.items ≡ slice_set old.assemblies.items s a → new.feeders.items ≡ slice_set old.feeders.items s feeder
+      → (IsTold new → e.strayed ≡ false → AssemblyStands e.world.packets s (e.world.gathering s) a) → feeder ≡ (e.world.nodes s).fed_by → new.assemblies.items ≡ slice_set old.assemblies.items s a → new.feeders.items ≡ slice_set old.feeders.items s feeder
       → s < MOST_SITES → (IsTold new → IsTold old) → Carries d old → Carries e new
   carries_handed d e s feeder a more old new changes packets flight here fed assemblies feeders below told carries = record {
     flight = flight;
     places = ap (λ (xs : List Assembled). length xs) assemblies ∙ length-set old.assemblies.items s a ∙ carries.places;
-    assemblies = λ tells i b is. ⊎_elim
+    assemblies = λ tells calm i b is. ⊎_elim
         (λ (same : i ≡ s).
         let found : a ≡ b = some_same (sym (get-set_same old.assemblies.items s a (omega (arith, below, carries.places))) ∙ ap (λ (k : ℕ). slice_get (slice_set old.assemblies.items s a) k) (sym same) ∙ at i b is) in
-        subst (λ (k : ℕ). AssemblyStands e.world.packets k (e.world.gathering k) b) (sym same) (subst (λ (c : Assembled). AssemblyStands e.world.packets s (e.world.gathering s) c) found (here tells)))
+        subst (λ (k : ℕ). AssemblyStands e.world.packets k (e.world.gathering k) b) (sym same) (subst (λ (c : Assembled). AssemblyStands e.world.packets s (e.world.gathering s) c) found (here tells calm)))
         (λ apart.
         subst (λ (ps : List Packet). AssemblyStands ps i (e.world.gathering i) b) (sym packets)
         (stands_later d.world.packets more i (e.world.gathering i) b
         (subst (λ (o : Option Gathering). AssemblyStands d.world.packets i o b) (sym (changes.gathering i apart))
-        (carries.assemblies (told tells) i b (sym (get-set_other old.assemblies.items s i a apart) ∙ at i b is)))))
+        (carries.assemblies (told tells) (changes.strayed calm) i b (sym (get-set_other old.assemblies.items s i a apart) ∙ at i b is)))))
         (cases_eq i s);
     numbers = ap (λ (fs : List ℕ). length fs) feeders ∙ length-set old.feeders.items s feeder ∙ carries.numbers;
     feeders = λ i f is. ⊎_elim

@@ -26,14 +26,12 @@ use Rattle.vx_events.specs.Known.{MayDarken, SaysNo}
 use Rattle.vx_events.specs.Lines.{is_of_links}
 use Rattle.vx_events.specs.RvgBack.{GroupHeld, GroupUnfound, IsLeftBack, LogFails, LogLacks, RvgBack, RvgUp, fall_first}
 use Rattle.vx_events.specs.Brights.{AllBright, IsBright, IsBrightNote}
-use Rattle.vx_events.proofs.Tolds.{told_now}
 use Rattle.vx_events.specs.RvgMakes.{IsLeftRvg, MakesRvg, RvgCut, RvgDone, RvgFails, RvgLacks, noting_in, units_at}
 use Rattle.vx_events.specs.RvgNotes.{volume_events}
 use Rattle.vx_events.specs.OpenLines.{is_open}
 use Rattle.vx_events.specs.RvgOver.{EndsOver, OverRvg, noting_over, fuse_behind}
 use Rattle.vx_events.specs.RvgSteps.{AsBefore, FoundOne, FullBy, StepFull, WorksAbove, WorksBeside, WorksFull, is_for_rvg, rvg_place}
 use Rattle.vx_events.specs.StepsOver.{WorksOver, group_place, is_for_group, refused_over}
-use Rattle.vx_events.specs.Strays.{told_for}
 use Rattle.vx_events.specs.declared.said.Said.{Said}
 use Rattle.vx_events.specs.declared.said.Said.TheVariants.{Refused}
 use Rattle.vx_settling.specs.Brights.{IsHeldDown}
@@ -160,15 +158,12 @@ module _ (told : Type 0) (tells : told) (d : Doubted) (b : AllBright d) (fails :
       → WorksBeside told d line fails said new → AllBright new
   beside_bright calm line held agree (AsBefore works found) = by_group (is_for_group d.world line) works
     where
-      now : told_for told d line
-      now = told_now told tells d calm (is_of_links line)
-
-      by_group : (group : Bool) → WorksOver group (told_for told d line) d line fails said new → AllBright new
+      by_group : (group : Bool) → WorksOver group told d line fails said new → AllBright new
       by_group true ends =
           let s : ℕ = group_place d.world line in
-          group_bright d b fails said new (told_for told d line) line s held (group_known (told_for told d line) now d line s fails said new ends (b.sites s) (dim line s agree held)) ends
-      by_group false (inl step) = kind_each IsBrightNote refl (told_for told d line) now (is_of_links line) d line fails said new b step.ends
-      by_group false (inr kept) = absurd (kept.untold now)
+          group_bright d b fails said new told line s held (group_known told tells d line s fails said new ends (b.sites s) (dim line s agree held)) ends
+      by_group false (inl step) = kind_each IsBrightNote refl told tells (is_of_links line) d calm line fails said new b step.ends
+      by_group false (inr kept) = absurd (kept.untold tells)
   beside_bright calm line held agree (FoundOne finds) =
       let s : ℕ = group_place d.world line in
       absurd (never_found told tells d s (b.sites s) fails said new line (agree (brings_found told d line s fails said new finds)) finds)

@@ -1,5 +1,5 @@
 -- What holds of what each site notes of its group, and of a site that notes none, no line changes that works on no group, where contents are told to it.
-use Rattle.std.proofs.Common.{ℕ, [], ◌∷◌, ◌++◌, Bool, true, false}
+use Rattle.std.proofs.Common.{◌≡◌, ℕ, [], ◌∷◌, ◌++◌, Bool, true, false}
 use Rattle.std.specs.Prelude.{Option, None}
 use Rattle.vx_history.specs.Doubts.{Doubted, crashed_as, halved}
 use Rattle.vx_history.specs.Groups.{GroupNode}
@@ -44,28 +44,28 @@ module _ (P : Option GroupNode → Type 0) (empty : P None) where
   are_each : (line : ScriptLine) (d last new : Doubted) → AreLeft line d last new → AllNote P last → AllNote P new
   are_each line d last new left b = as_each P empty last (link_noted d.world line last.world) new left (link_noted_each P empty d.world line last.world b.sites) b
 
-  links_each : (told : Type 0) → told → (d : Doubted) (line : ScriptLine) (fails : Fails) (said : Said) (new : Doubted) → AllNote P d → LinkEnds told d line fails said new
+  links_each : (told : Type 0) → told → (d : Doubted) → d.strayed ≡ false → (line : ScriptLine) (fails : Fails) (said : Said) (new : Doubted) → AllNote P d → LinkEnds told d line fails said new
       → AllNote P new
-  links_each told tells d line fails said new b (LinksDone last runs none borne says left) =
+  links_each told tells d calm line fails said new b (LinksDone last runs none borne says left) =
       are_each line d last new left (runs_each P empty (link_events d.world line) d last b runs)
-  links_each told tells d line fails said new b (LinksHalt e site disk middle comes here is says left) =
+  links_each told tells d calm line fails said new b (LinksHalt e site disk middle comes here is says left) =
       are_each line d (halved middle e site disk) new left (halved_each P empty middle e site disk (runs_each P empty comes.before d middle b comes.runs))
-  links_each told tells d line fails said new b (AppliesPart before rest site count reached disk last split runs none here is says left) =
+  links_each told tells d calm line fails said new b (AppliesPart before rest site count reached disk last split runs none here is says left) =
       are_each line d last new left (runs_each P empty (before ++ Fault site disk ∷ []) d last b runs)
-  links_each told tells d line fails said new b (AppliesCut before rest site count reached kept taken middle split runs none few opens fused failed says left) =
+  links_each told tells d calm line fails said new b (AppliesCut before rest site count reached kept taken middle split runs none few opens fused failed says left) =
       let h : Doubted = halved middle (Fault site 0) site 0 in
       are_each line d (crashed_as h site kept taken) new left
       (crashed_each P empty h site kept taken (halved_each P empty middle (Fault site 0) site 0 (runs_each P empty before d middle b runs)))
-  links_each told tells d line fails said new b (LinksCut e site kept taken middle comes fused none says left) =
+  links_each told tells d calm line fails said new b (LinksCut e site kept taken middle comes fused none says left) =
       let h : Doubted = halved middle e site 0 in
       are_each line d (crashed_as h site kept taken) new left (crashed_each P empty h site kept taken (halved_each P empty middle e site 0 (runs_each P empty comes.before d middle b comes.runs)))
-  links_each told tells d line fails said new b (LogUnread before rest e site disk middle split reads runs none here is says left) =
+  links_each told tells d calm line fails said new b (LogUnread before rest e site disk middle split reads runs none here is says left) =
       are_each line d middle new left (runs_each P empty before d middle b runs)
-  links_each told tells d line fails said new b (NoHeader before rest e site middle split takes runs none most is says left) =
+  links_each told tells d calm line fails said new b (NoHeader before rest e site middle split takes runs none most is says left) =
       are_each line d middle new left (runs_each P empty before d middle b runs)
-  links_each told tells d line fails said new b (LinksFind untold last finds left) = absurd (untold tells)
+  links_each told tells d calm line fails said new b (LinksFind untold last finds left) = absurd (untold tells calm)
 
-  pub kind_each : (told : Type 0) → told → (links : Bool) (d : Doubted) (line : ScriptLine) (fails : Fails) (said : Said) (new : Doubted) → AllNote P d
+  pub kind_each : (told : Type 0) → told → (links : Bool) (d : Doubted) → d.strayed ≡ false → (line : ScriptLine) (fails : Fails) (said : Said) (new : Doubted) → AllNote P d
       → EndsBy links told d line fails said new → AllNote P new
-  kind_each told tells true d line fails said new b ends = links_each told tells d line fails said new b ends
-  kind_each told tells false d line fails said new b ends = ends_each told tells d line (place_of d.world line) fails said new b ends
+  kind_each told tells true d calm line fails said new b ends = links_each told tells d calm line fails said new b ends
+  kind_each told tells false d calm line fails said new b ends = ends_each told tells d line (place_of d.world line) fails said new b ends

@@ -317,11 +317,11 @@ pub may_move : (d : Doubted) (p s : ℕ) → LinksFit d → CanSettle d.world p 
 may_move d p s fit can = record { can = can; trimmed = ((fit.rows p).plain s can.linked).trimmed }
 
 module _ (told : Type 0) (d middle : Doubted) (p s : List ℕ) (moves : MovesBetween (site_number d.world p) (site_number d.world s) d middle) where
-  pub line_finds : (fails : Fails) (said : Said) (last new : Doubted) → (told → ⊥) → EndsBetween (site_number d.world p) (site_number d.world s) d middle fails said last
+  pub line_finds : (fails : Fails) (said : Said) (last new : Doubted) → (told → d.strayed ≡ false → ⊥) → EndsBetween (site_number d.world p) (site_number d.world s) d middle fails said last
       → AreLeft (Settle p s) d last new → LinkEnds told d (Settle p s) fails said new
   line_finds fails said last new untold ends left = LinksFind untold last (SettlesOther p s middle refl moves ends) left
 
-  pub line_short : (new : Doubted) → (told → ⊥) → AreLeft (Settle p s) d middle new → StopsShort told d (Settle p s) new
+  pub line_short : (new : Doubted) → (told → d.strayed ≡ false → ⊥) → AreLeft (Settle p s) d middle new → StopsShort told d (Settle p s) new
   line_short new untold left = StopsBetween untold p s middle refl moves left
 
 pub moved_fits : (d middle : Doubted) (p s : List ℕ) → MovesBetween (site_number d.world p) (site_number d.world s) d middle → LinksFit d → LinksFit middle

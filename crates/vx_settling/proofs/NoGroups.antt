@@ -9,7 +9,6 @@ use Rattle.vx_script.specs.declared.line.ScriptLine.TheVariants.{Crash, Disk, Fu
 use Rattle.vx_events.proofs.KnownLaws.{finds_none}
 use Rattle.vx_events.proofs.Opens.{for_none, open_none}
 use Rattle.vx_events.proofs.StrayLines.{CalmOrSome, step_found}
-use Rattle.vx_events.proofs.Tolds.{told_now}
 use Rattle.vx_events.specs.Brights.{IsNoNote, NotesNone}
 use Rattle.vx_events.specs.Facts.{site_number}
 use Rattle.vx_events.specs.Fails.{Fails}
@@ -21,7 +20,6 @@ use Rattle.vx_events.specs.OpenLines.{HasNoOpen, is_open}
 use Rattle.vx_events.specs.RvgBack.{FindsNoRvg, FindsPlain, FindsRvg, RvgFinds}
 use Rattle.vx_events.specs.RvgSteps.{AsBefore, FoundOne, FullBy, HasNoRvgs, MakesNoRvg, StepFull, WorksAbove, WorksBeside, WorksFull, is_for_rvg}
 use Rattle.vx_events.specs.StepsOver.{MakesNoGroup, WorksOver, group_place, is_for_group, refused_over}
-use Rattle.vx_events.specs.Strays.{told_for}
 use Rattle.vx_events.specs.declared.said.Said.{Said}
 use Rattle.vx_settling.proofs.EachLines.{kind_each}
 
@@ -71,13 +69,10 @@ module _ (d : Doubted) (b : NotesNone d) where
     beside_none : (line : ScriptLine) → MakesNoGroup line → WorksBeside (Unit {0}) d line fails said new → NotesNone new
     beside_none line makes (AsBefore works found) = by (is_for_group d.world line) (alone line makes) works
       where
-        now : told_for (Unit {0}) d line
-        now = told_now (Unit {0}) tt d calm (is_of_links line)
-
-        by : (group : Bool) → group ≡ false → WorksOver group (told_for (Unit {0}) d line) d line fails said new → NotesNone new
+        by : (group : Bool) → group ≡ false → WorksOver group (Unit {0}) d line fails said new → NotesNone new
         by true off ends = absurd (let clash : true ≡ false = off in cc)
-        by false off (inl step) = kind_each IsNoNote refl (told_for (Unit {0}) d line) now (is_of_links line) d line fails said new b step.ends
-        by false off (inr kept) = absurd (kept.untold now)
+        by false off (inl step) = kind_each IsNoNote refl (Unit {0}) tt (is_of_links line) d calm line fails said new b step.ends
+        by false off (inr kept) = absurd (kept.untold tt)
     beside_none line makes (FoundOne finds) = absurd (finds_nothing line (group_place d.world line) finds)
 
     above_none : (halts above : Bool) (line : ScriptLine) → is_for_rvg d.world line ≡ above → MakesNoGroup line → WorksAbove halts above (Unit {0}) d line fails said new → NotesNone new

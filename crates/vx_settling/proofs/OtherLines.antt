@@ -35,7 +35,7 @@ use Rattle.vx_events.specs.OpenLines.{is_open}
 use Rattle.vx_events.specs.RvgOver.{EndsOver, OverRvg, noting_over, fuse_behind}
 use Rattle.vx_events.specs.RvgSteps.{AsBefore, FoundOne, FullBy, StepFull, WorksAbove, WorksBeside, WorksFull, is_for_rvg, rvg_place}
 use Rattle.vx_events.specs.StepsOver.{WorksOver, group_place, is_for_group, refused_over}
-use Rattle.vx_events.specs.Strays.{gone_astray, told_for}
+use Rattle.vx_events.specs.Strays.{gone_astray}
 use Rattle.vx_events.specs.declared.said.Said.{Said}
 use Rattle.vx_settling.specs.OtherNotes.{HasNote, may_note}
 use Rattle.vx_settling.proofs.OtherNotes
@@ -349,11 +349,11 @@ module _ (i : ℕ) (o : Option GroupNode) where
       beside_notes : (line : ScriptLine) → may_note d.world line i ≡ false → WorksBeside told d line fails said new → HasNote i o new
       beside_notes line off (AsBefore works found) = by_group (is_for_group d.world line) refl works
         where
-          by_group : (group : Bool) → is_for_group d.world line ≡ group → WorksOver group (told_for told d line) d line fails said new → HasNote i o new
-          by_group true is ends = group_notes d x (told_for told d line) fails said new line (group_place d.world line) (group_apart d.world line i off is) ends
-          by_group false is (inl step) = by_kind (told_for told d line) (is_of_links line) line fails said new off step.ends
+          by_group : (group : Bool) → is_for_group d.world line ≡ group → WorksOver group told d line fails said new → HasNote i o new
+          by_group true is ends = group_notes d x told fails said new line (group_place d.world line) (group_apart d.world line i off is) ends
+          by_group false is (inl step) = by_kind told (is_of_links line) line fails said new off step.ends
           by_group false is (inr kept) =
-              group_notes d x (told_for told d line) fails said new line (group_place d.world line) (brings_apart d.world line i off (subst BringsUp (sym kept.recovers) tt)) kept.ends
+              group_notes d x told fails said new line (group_place d.world line) (brings_apart d.world line i off (subst BringsUp (sym kept.recovers) tt)) kept.ends
       beside_notes line off (FoundOne finds) =
           let s : ℕ = group_place d.world line in
           finds_notes line s (brings_apart d.world line i off (brings_found told d line s fails said new finds)) finds

@@ -51,7 +51,7 @@ stored_pure n f l q (Update number x) = refl
 stored_pure n f l q (NetAck session number) = refl
 stored_pure n f l q (DataAck number) = refl
 
-module _ (told : Type 0) (a b : ℕ) (d : Doubted) (may : MayMove a b d.world) (fuses : ℕ → Fuse) (burns : MayBurn a b fuses d.world) (fit : LinksFit (noted_as fuses d)) where
+module _ (told : Type 0) (a b : ℕ) (d : Doubted) (calm : told → d.strayed ≡ false) (may : MayMove a b d.world) (fuses : ℕ → Fuse) (burns : MayBurn a b fuses d.world) (fit : LinksFit (noted_as fuses d)) where
   abbrev D : Doubted
   D = noted_as fuses d
 
@@ -87,7 +87,7 @@ module _ (told : Type 0) (a b : ℕ) (d : Doubted) (may : MayMove a b d.world) (
   pub connect_goes : (p s : List ℕ) (fails : Fails) (said : Said) (new : Doubted) → site_number d.world p ≡ a → site_number d.world s ≡ b → LinkEnds told (noted_as fuses d) (Connect p s) fails said new
       → GoesTo told a b d (ConnectAt a b ∷ []) fails new said
   connect_goes p s fails said new from to ends =
-      by (one_ends told (noted_as fuses d) (Connect p s) (ConnectAt a b) fails said new (ap (λ (i : ℕ). ConnectAt i (site_number (burnt_world fuses d.world) s) ∷ []) (number_burnt fuses d.world p ∙ from) ∙ ap (λ (j : ℕ). ConnectAt a j ∷ []) (number_burnt fuses d.world s ∙ to)) refl refl (λ last reply. reply) ends)
+      by (one_ends told (noted_as fuses d) calm (Connect p s) (ConnectAt a b) fails said new (ap (λ (i : ℕ). ConnectAt i (site_number (burnt_world fuses d.world) s) ∷ []) (number_burnt fuses d.world p ∙ from) ∙ ap (λ (j : ℕ). ConnectAt a j ∷ []) (number_burnt fuses d.world s ∙ to)) refl refl (λ last reply. reply) ends)
     where
       by : OneEnds told (noted_as fuses d) (Connect p s) (ConnectAt a b) fails said new → GoesTo told a b d (ConnectAt a b ∷ []) fails new said
       by (OneDone none reply left) =
@@ -108,7 +108,7 @@ module _ (told : Type 0) (a b : ℕ) (d : Doubted) (may : MayMove a b d.world) (
   pub tick_goes : (p s : List ℕ) (fails : Fails) (said : Said) (new : Doubted) → site_number d.world p ≡ a → site_number d.world s ≡ b → LinkEnds told (noted_as fuses d) (Tick p s) fails said new
       → GoesTo told a b d (TickAt a b ∷ []) fails new said
   tick_goes p s fails said new from to ends =
-      by (one_ends told (noted_as fuses d) (Tick p s) (TickAt a b) fails said new (ap (λ (i : ℕ). TickAt i (site_number (burnt_world fuses d.world) s) ∷ []) (number_burnt fuses d.world p ∙ from) ∙ ap (λ (j : ℕ). TickAt a j ∷ []) (number_burnt fuses d.world s ∙ to)) refl refl (λ last reply. reply) ends)
+      by (one_ends told (noted_as fuses d) calm (Tick p s) (TickAt a b) fails said new (ap (λ (i : ℕ). TickAt i (site_number (burnt_world fuses d.world) s) ∷ []) (number_burnt fuses d.world p ∙ from) ∙ ap (λ (j : ℕ). TickAt a j ∷ []) (number_burnt fuses d.world s ∙ to)) refl refl (λ last reply. reply) ends)
     where
       by : OneEnds told (noted_as fuses d) (Tick p s) (TickAt a b) fails said new → GoesTo told a b d (TickAt a b ∷ []) fails new said
       by (OneDone none reply left) =
@@ -129,7 +129,7 @@ module _ (told : Type 0) (a b : ℕ) (d : Doubted) (may : MayMove a b d.world) (
   pub pump_goes : (p s : List ℕ) (fails : Fails) (said : Said) (new : Doubted) → site_number d.world p ≡ a → site_number d.world s ≡ b → LinkEnds told (noted_as fuses d) (Pump p s) fails said new
       → GoesTo told a b d (PumpAt a b ∷ []) fails new said
   pump_goes p s fails said new from to ends =
-      by (one_ends told (noted_as fuses d) (Pump p s) (PumpAt a b) fails said new (ap (λ (i : ℕ). PumpAt i (site_number (burnt_world fuses d.world) s) ∷ []) (number_burnt fuses d.world p ∙ from) ∙ ap (λ (j : ℕ). PumpAt a j ∷ []) (number_burnt fuses d.world s ∙ to)) refl refl (λ last reply. reply) ends)
+      by (one_ends told (noted_as fuses d) calm (Pump p s) (PumpAt a b) fails said new (ap (λ (i : ℕ). PumpAt i (site_number (burnt_world fuses d.world) s) ∷ []) (number_burnt fuses d.world p ∙ from) ∙ ap (λ (j : ℕ). PumpAt a j ∷ []) (number_burnt fuses d.world s ∙ to)) refl refl (λ last reply. reply) ends)
     where
       sends : (more : List Packet) → PumpSends d.world a b more → (told → ⊥) → fails ≡ [] → IsAs (record (noted_as fuses d) { world = pumped_with (burnt_world fuses d.world) a b more }) (pumped_with (burnt_world fuses d.world) a b more) new → OnTo told a b d (PumpAt a b ∷ []) fails new
       sends more any untold none left =
@@ -193,7 +193,7 @@ module _ (told : Type 0) (a b : ℕ) (d : Doubted) (may : MayMove a b d.world) (
   pub deliver_goes : (number : ℕ) (q : Packet) (fails : Fails) (said : Said) (new : Doubted) → packet_at d.world.packets number ≡ Some q → IsSent a b q → is_between a b q ≡ true
       → LinkEnds told (noted_as fuses d) (Deliver number) fails said new → GoesTo told a b d (DeliverAt number ∷ []) fails new said
   deliver_goes number q fails said new at sent between ends =
-      by (one_ends told (noted_as fuses d) (Deliver number) (DeliverAt number) fails said new refl refl refl (λ last reply. reply) ends)
+      by (one_ends told (noted_as fuses d) calm (Deliver number) (DeliverAt number) fails said new refl refl refl (λ last reply. reply) ends)
     where
       target_one : (q.target ≡ a) ⊎ (q.target ≡ b)
       target_one = target_of a b q between
@@ -337,7 +337,7 @@ module _ (told : Type 0) (a b : ℕ) (d : Doubted) (may : MayMove a b d.world) (
   -- a connect is done
   pub connect_says : (p s : List ℕ) (fails : Fails) (said : Said) (new : Doubted) → site_number d.world p ≡ a → site_number d.world s ≡ b → LinkEnds told (noted_as fuses d) (Connect p s) fails said new → said ≡ Done
   connect_says p s fails said new from to ends =
-      by (one_ends told (noted_as fuses d) (Connect p s) (ConnectAt a b) fails said new
+      by (one_ends told (noted_as fuses d) calm (Connect p s) (ConnectAt a b) fails said new
       (ap (λ (i : ℕ). ConnectAt i (site_number (burnt_world fuses d.world) s) ∷ []) (number_burnt fuses d.world p ∙ from) ∙ ap (λ (j : ℕ). ConnectAt a j ∷ []) (number_burnt fuses d.world s ∙ to)) refl refl (λ last reply. reply) ends)
     where
       by : OneEnds told (noted_as fuses d) (Connect p s) (ConnectAt a b) fails said new → said ≡ Done

@@ -77,7 +77,7 @@ abbrev pub is_apply : Event → Bool
 is_apply (ApplyAt s count reached) = true
 is_apply other = false
 
-module _ (told : Type 0) (d : Doubted) (line : ScriptLine) (x : Event) (fails : Fails) (said : Said) (new : Doubted) (events : link_events d.world line ≡ x ∷ []) (other : is_apply x ≡ false) (plain : is_settling x ≡ true)
+module _ (told : Type 0) (d : Doubted) (calm : told → d.strayed ≡ false) (line : ScriptLine) (x : Event) (fails : Fails) (said : Said) (new : Doubted) (events : link_events d.world line ≡ x ∷ []) (other : is_apply x ≡ false) (plain : is_settling x ≡ true)
     (replies : (last : Doubted) → LinkReplies line d last (x ∷ []) said → RepeatsSaid (step d.world x).world 0 (step d.world x).said said) where
   comes_first : (e : Event) (site : ℕ) (middle : Doubted) → ComesTo d (link_events d.world line) e site middle → (e ≡ x) × (middle ≡ d) × IsOpen (middle.world.nodes site) × WritesAt middle.world e site
   comes_first e site middle comes =
@@ -120,7 +120,7 @@ module _ (told : Type 0) (d : Doubted) (line : ScriptLine) (x : Event) (fails : 
       OneFull site (subst (λ (f : Event). TakesNumber d.world f site) o.1 (subst (λ (m : Doubted). TakesNumber m.world e site) same takes))
       (subst (λ (f : Event). told → MOST_NUMBER ≤ most_stamp_at d.world site + stamps_of f d.world site) o.1
       (subst (λ (m : Doubted). told → MOST_NUMBER ≤ most_stamp_at m.world site + stamps_of e m.world site) same lacks)) one says (subst (λ (m : Doubted). AreLeft line d m new) same left)
-  one_ends (LinksFind untold last finds left) = OneFinds untold last finds left
+  one_ends (LinksFind untold last finds left) = OneFinds (λ tells. untold tells (calm tells)) last finds left
 
 -- ---- by the reply
 

@@ -29,10 +29,11 @@ use Rattle.vx_events.specs.declared.said.Said.TheVariants.{Refused, Settled}
 use Rattle.vx_settling.specs.Between.{IsSent, MayMove}
 use Rattle.vx_settling.specs.Ending.{CutsApplying, CutsIn, HaltsApplying, HaltsIn, IsUnreadIn, LacksNumber}
 use Rattle.vx_settling.specs.Kinds.{AreSettling}
-use Rattle.vx_settling.specs.Works.{FirstOf, Shortens, SettleStops, SettleWorks}
+use Rattle.vx_settling.specs.Works.{CalmTold, FirstOf, Shortens, SettleStops, SettleWorks}
 use Rattle.vx_settling.proofs.Ends.{head_is, settle_done}
 use Rattle.vx_settling.proofs.Moving.{applies, begins, connects, delivers, keeps_other, line_finds, line_short, passes_then, pumps, pumps_other, still_fused, takes_other, ticks}
 use Rattle.vx_settling.proofs.Running.{are_all, are_parts, no_fails, run_is, runs_only}
+use Rattle.vx_events.proofs.LineTold.{links_told}
 use Rattle.vx_settling.proofs.Stopping.{line_stops, runs_then, settle_part, stops_behind, stops_more}
 
 module _ (told : Type 0) (p s : ℕ) where
@@ -201,7 +202,7 @@ module _ (told : Type 0) (p s : ℕ) where
 
 -- ---- the line
 
-module _ (told : Type 0) (known : told ⊎ (told → ⊥)) (d : Doubted) (p s : List ℕ) where
+module _ (told : Type 0) (d : Doubted) (known : CalmTold told d ⊎ (CalmTold told d → ⊥)) (p s : List ℕ) where
   abbrev a : ℕ
   a = site_number d.world p
 
@@ -212,7 +213,7 @@ module _ (told : Type 0) (known : told ⊎ (told → ⊥)) (d : Doubted) (p s : 
   all = link_events d.world (Settle p s)
 
   -- all is done, and it has to be seen that all is stored
-  pub line_done : (last new : Doubted) → is_origin (d.world.nodes a).role ≡ true → SettleWorks told a b d all last
+  pub line_done : (last new : Doubted) → is_origin (d.world.nodes a).role ≡ true → SettleWorks (CalmTold told d) a b d all last
       → (d.world.nodes a).safe ≤ (last.world.links a b).stored → AreLeft (Settle p s) d last new
       → LinkEnds told d (Settle p s) [] (Settled (d.world.nodes a).safe) new
   line_done last new origin one stored left = elim known [
@@ -220,27 +221,29 @@ module _ (told : Type 0) (known : told ⊎ (told → ⊥)) (d : Doubted) (p s : 
     | inr untold ↦
         let m = one.moves in
         let same : last.world.nodes a ≡ d.world.nodes a = m.nodes a (λ (here : a ≡ b). m.apart (sym here)) in
-        line_finds told d last p s m [] (Settled (d.world.nodes a).safe) last new untold
+        line_finds told d last p s m [] (Settled (d.world.nodes a).safe) last new (λ tells calm. untold (tells, calm))
         (IsStored (subst (λ (n : Node). n.safe ≤ (last.world.links a b).stored) (sym same) stored) refl
         (ap (λ (n : ℕ). Settled n) (sym (ap head_of same ∙ head_is (d.world.nodes a) origin))) refl) left
   ]
 
   -- it stopped
-  pub line_stopped : (fails : Fails) (said : Said) (last new : Doubted) → SettleStops told a b d all fails said last → AreLeft (Settle p s) d last new
+  pub line_stopped : (fails : Fails) (said : Said) (last new : Doubted) → SettleStops (CalmTold told d) a b d all fails said last → AreLeft (Settle p s) d last new
       → LinkEnds told d (Settle p s) fails said new
   line_stopped fails said last new stop left = elim known [
-    | inl tells ↦ line_stops told d (Settle p s) fails said last new (stop.exact tells) left
+    | inl tells ↦
+        links_told (λ (t : told). let both : CalmTold told d = (t, tells.1) in both) d (Settle p s) fails said new
+        (line_stops (CalmTold told d) d (Settle p s) fails said last new (stop.exact tells) left)
     | inr untold ↦
         let rest = stop.other untold in
-        line_finds told d rest.middle p s rest.moves fails said last new untold rest.ends left
+        line_finds told d rest.middle p s rest.moves fails said last new (λ tells calm. untold (tells, calm)) rest.ends left
   ]
 
   -- memory ran out: before the first event, or behind some, so that the line notes what it does
-  pub line_shortened : (last : Doubted) → Shortens told a b d all last
+  pub line_shortened : (last : Doubted) → Shortens (CalmTold told d) a b d all last
       → (StopsShort told d (Settle p s) d × (last ≡ d)) ⊎ ((new : Doubted) → AreLeft (Settle p s) d last new → StopsShort told d (Settle p s) new)
   line_shortened last short = elim known [
     | inl tells ↦ by_first (short.exact tells)
-    | inr untold ↦ inr (λ new left. line_short told d last p s short.moves new untold left)
+    | inr untold ↦ inr (λ new left. line_short told d last p s short.moves new (λ tells calm. untold (tells, calm)) left)
   ]
     where
       by_list : (before rest : List Event) → all ≡ before ++ rest → Runs d before last
@@ -255,10 +258,8 @@ module _ (told : Type 0) (known : told ⊎ (told → ⊥)) (d : Doubted) (p s : 
           → (StopsShort told d (Settle p s) d × (last ≡ d)) ⊎ ((new : Doubted) → AreLeft (Settle p s) d last new → StopsShort told d (Settle p s) new)
       by_first first = by_list first.before first.rest first.split first.runs
 
--- whether contents are told
-pub is_known : (told : Bool) → (told ≡ true) ⊎ ((told ≡ true) → ⊥)
-is_known true = inl refl
-is_known false = inr (λ e. never e)
-  where
-    never : false ≡ true → ⊥
-    never e = absurd (cc)
+-- whether contents are told, and the world has not strayed
+pub is_known : (told strayed : Bool) → ((told ≡ true) × (strayed ≡ false)) ⊎ ((told ≡ true) × (strayed ≡ false) → ⊥)
+is_known true false = inl (refl, refl)
+is_known true true = inr (λ both. absurd (let e : true ≡ false = both.1 in cc))
+is_known false strayed = inr (λ both. absurd (let e : false ≡ true = both.0 in cc))

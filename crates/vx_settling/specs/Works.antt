@@ -1,11 +1,15 @@
 -- What a part of a line that settles a link came to, whether contents are told or not.
-use Rattle.std.specs.Prelude.{◌≡◌, ℕ, List, ◌++◌}
+use Rattle.std.specs.Prelude.{◌≡◌, ℕ, false, List, ◌++◌}
 use Rattle.vx_history.specs.Doubts.{Doubted, Runs}
 use Rattle.vx_history.specs.declared.event.Event.{Event}
 use Rattle.vx_events.specs.Fails.{Fails}
 use Rattle.vx_events.specs.LinkFinds.{EndsBetween, MovesBetween}
 use Rattle.vx_events.specs.declared.said.Said.{Said}
 use Rattle.vx_settling.specs.Ending.{StopsAmong}
+
+-- contents are told to a line that settles a link, as long as the world has not strayed
+abbrev pub CalmTold : Type 0 → Doubted → Type 0
+CalmTold told d = told × (d.strayed ≡ false)
 
 -- Its events are done: exactly they where contents are told. Either way packets passed between the two sites.
 pub record SettleWorks (told : Type 0) (p s : ℕ) (d : Doubted) (events : List Event) (e : Doubted) : Type 0 where

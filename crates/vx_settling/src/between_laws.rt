@@ -44,12 +44,12 @@ pub fn passes_between()
 {}
 
 /// A line that moved packets between its two sites so, and then stored all, or was refused, or whose disk failed or fuse ran out, ends as a line does over
-/// disks that tell no contents. So it does where memory runs out; and the links of the world fit still.
+/// disks that tell no contents, or where the world has strayed. So it does where memory runs out; and the links of the world fit still.
 pub fn ends_between()
     ensures finds { (told : Bool) (d middle : Doubted) (p s : List ℕ) → MovesBetween (site_number d.world p) (site_number d.world s) d middle → (fails : Fails) (said : Said) (last new : Doubted)
-        → (told ≡ true → ⊥) → EndsBetween (site_number d.world p) (site_number d.world s) d middle fails said last → AreLeft (Settle p s) d last new
+        → (told ≡ true → d.strayed ≡ false → ⊥) → EndsBetween (site_number d.world p) (site_number d.world s) d middle fails said last → AreLeft (Settle p s) d last new
         → LinkEnds (told ≡ true) d (Settle p s) fails said new }
-    ensures short { (told : Bool) (d middle : Doubted) (p s : List ℕ) → MovesBetween (site_number d.world p) (site_number d.world s) d middle → (new : Doubted) → (told ≡ true → ⊥)
+    ensures short { (told : Bool) (d middle : Doubted) (p s : List ℕ) → MovesBetween (site_number d.world p) (site_number d.world s) d middle → (new : Doubted) → (told ≡ true → d.strayed ≡ false → ⊥)
         → AreLeft (Settle p s) d middle new → StopsShort (told ≡ true) d (Settle p s) new }
     ensures fits { (d middle : Doubted) (p s : List ℕ) → MovesBetween (site_number d.world p) (site_number d.world s) d middle → LinksFit d → LinksFit middle }
 {}

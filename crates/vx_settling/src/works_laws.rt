@@ -77,17 +77,17 @@ pub fn parts_of_settling_follow()
     ensures short_here { (t : Bool) (p s : ℕ) (d e : Doubted) (xs ys : List Event) → SettleWorks (t ≡ true) p s d xs e → Shortens (t ≡ true) p s d (xs ++ ys) e }
 {}
 
-/// As all its events are done, or as they are stopped or ended by want of memory, so a line that settles a link ends. It has settled it only where all that is
-/// durable is stored.
+/// As all its events are done, or as they are stopped or ended by want of memory, so a line that settles a link ends, where contents are told only as long as the
+/// world has not strayed. It has settled it only where all that is durable is stored.
 pub fn settling_ends_so()
     ensures done { (t : Bool) (d : Doubted) (p s : List ℕ) (last new : Doubted) → is_origin (d.world.nodes (site_number d.world p)).role ≡ true
-        → SettleWorks (t ≡ true) (site_number d.world p) (site_number d.world s) d (link_events d.world (Settle p s)) last
+        → SettleWorks ((t ≡ true) × (d.strayed ≡ false)) (site_number d.world p) (site_number d.world s) d (link_events d.world (Settle p s)) last
         → (d.world.nodes (site_number d.world p)).safe ≤ (last.world.links (site_number d.world p) (site_number d.world s)).stored
         → AreLeft (Settle p s) d last new → LinkEnds (t ≡ true) d (Settle p s) [] (Settled (d.world.nodes (site_number d.world p)).safe) new }
     ensures stopped { (t : Bool) (d : Doubted) (p s : List ℕ) (fails : Fails) (said : Said) (last new : Doubted)
-        → SettleStops (t ≡ true) (site_number d.world p) (site_number d.world s) d (link_events d.world (Settle p s)) fails said last → AreLeft (Settle p s) d last new
+        → SettleStops ((t ≡ true) × (d.strayed ≡ false)) (site_number d.world p) (site_number d.world s) d (link_events d.world (Settle p s)) fails said last → AreLeft (Settle p s) d last new
         → LinkEnds (t ≡ true) d (Settle p s) fails said new }
     ensures short { (t : Bool) (d : Doubted) (p s : List ℕ) (last : Doubted)
-        → Shortens (t ≡ true) (site_number d.world p) (site_number d.world s) d (link_events d.world (Settle p s)) last
+        → Shortens ((t ≡ true) × (d.strayed ≡ false)) (site_number d.world p) (site_number d.world s) d (link_events d.world (Settle p s)) last
         → (StopsShort (t ≡ true) d (Settle p s) d × (last ≡ d)) ⊎ ((new : Doubted) → AreLeft (Settle p s) d last new → StopsShort (t ≡ true) d (Settle p s) new) }
 {}

@@ -7,5 +7,5 @@ returns c = record {
   none = whole_stays;
   any = part_stops;
   short = whole_short ⊥;
-  told = λ d line new short. told_part (Unit {0}) d line new tt short;
+  told = λ d line new calm short. told_part (Unit {0}) d line new tt calm short;
 }

@@ -104,11 +104,11 @@ returns-in-Taken-clause-leads g c = λ d p k x stands off carries good at to bel
       off = off;
       handed = record { assemblies = refl; feeders = refl; below = c.requires.few; told = told };
       took = subst (λ r. TookTo d.world c.args.number p k (beside_of d t) after feeder was a old.flight flight r) c.in-Taken.is took;
-      exact = λ tells.
-          let world = world_good d (good (told tells)) in
+      exact = λ tells calm.
+          let world = world_good d (good (told tells) calm) in
           subst (λ r. DeliveredTo (delivered d.world c.args.number (packet_at d.world.packets c.args.number)) (beside_of d t) t after feeder a flight r) c.in-Taken.is
           (c.in_ok-said.ensures.delivered d p k x at to message (are_one d.world world) carries.flight here role raw fed
-          (carries.assemblies (told tells) t was (get_at old.assemblies.items t was c.requires.place c.index_mut-3.ensures.value))
+          (carries.assemblies (told tells) calm t was (get_at old.assemblies.items t was c.requires.place c.index_mut-3.ensures.value))
           (subst (λ (i : ℕ). p.line ≡ (d.world.nodes i).line → WriteFits (d.world.nodes i) x) to (update_fits d.world c.args.number p k x world at message up)));
       receives = opens.1;
       none = none_start (d.world.nodes t) (d.world.links t) d.world.sites (stands.links.starts t) opens.1;
@@ -153,11 +153,11 @@ returns-in_default g c = record {
         off = off;
         handed = record { assemblies = refl; feeders = refl; below = c.requires.few; told = told };
         took = subst (λ r. TookTo d.world c.args.number p k (beside_of d t) after feeder was a old.flight flight r) ignored took;
-        exact = λ tells.
-            let world = world_good d (good (told tells)) in
+        exact = λ tells calm.
+            let world = world_good d (good (told tells) calm) in
             subst (λ r. DeliveredTo (delivered d.world c.args.number (packet_at d.world.packets c.args.number)) (beside_of d t) t after feeder a flight r) ignored
             (c.in_ok-said.ensures.delivered d p k x at to message (are_one d.world world) carries.flight here role raw fed
-            (carries.assemblies (told tells) t was (get_at old.assemblies.items t was c.requires.place c.index_mut-3.ensures.value))
+            (carries.assemblies (told tells) calm t was (get_at old.assemblies.items t was c.requires.place c.index_mut-3.ensures.value))
             (subst (λ (i : ℕ). p.line ≡ (d.world.nodes i).line → WriteFits (d.world.nodes i) x) to (update_fits d.world c.args.number p k x world at message up)));
         receives = opens.1;
         none = none_start (d.world.nodes t) (d.world.links t) d.world.sites (stands.links.starts t) opens.1;

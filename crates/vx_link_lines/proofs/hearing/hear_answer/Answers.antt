@@ -235,10 +235,10 @@ returns-in-Ok-clause-leads g c = λ d p stands off carries good at to from below
       flight = refl;
       assemblies = refl;
       feeders = refl;
-      exact = λ tells.
+      exact = λ tells calm.
           let told = told_before old.disk_sets.items t before after there c.hear-said.ensures.later tells in
-          (c.in-Ok.ensures.heard d p t at to answers (are_one d.world (world_good d (good told))) carries.flight listens link
-          (carries.assemblies told t was (get_at old.assemblies.items t was c.requires.place c.index_mut-2.ensures.value)) here state raw).0.assembly;
+          (c.in-Ok.ensures.heard d p t at to answers (are_one d.world (world_good d (good told calm))) carries.flight listens link
+          (carries.assemblies told calm t was (get_at old.assemblies.items t was c.requires.place c.index_mut-2.ensures.value)) here state raw).0.assembly;
       stored = part.1;
     })
 

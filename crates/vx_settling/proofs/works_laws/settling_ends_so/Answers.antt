@@ -5,7 +5,7 @@ use Rattle.vx_settling.proofs.works_laws.settling_ends_so.Goals as goal
 
 pub returns : goal.returns
 returns c = record {
-  done = λ t. line_done (t ≡ true) (is_known t);
-  stopped = λ t. line_stopped (t ≡ true) (is_known t);
-  short = λ t. line_shortened (t ≡ true) (is_known t);
+  done = λ t d. line_done (t ≡ true) d (is_known t d.strayed);
+  stopped = λ t d. line_stopped (t ≡ true) d (is_known t d.strayed);
+  short = λ t d. line_shortened (t ≡ true) d (is_known t d.strayed);
 }
