@@ -88,7 +88,7 @@ module _ {R : Type 0} {g : Ghosts R} where
   down_cut n note cut Gone it = absurd it
 
   -- a crash raises no count
-  crash_counts : (pick : ℕ) (mid new : GroupSite R g) → MayCrashSite pick mid new → (d : ℕ) → (site_disks new).disk_faults d ≡ (site_disks mid).disk_faults d
+  pub crash_counts : (pick : ℕ) (mid new : GroupSite R g) → MayCrashSite pick mid new → (d : ℕ) → (site_disks new).disk_faults d ≡ (site_disks mid).disk_faults d
   crash_counts pick (Up group) new it d = it.0.counts.disk_faults d
   crash_counts pick (Deported idle) new it d = ap (λ (s : GroupSite R g). (site_disks s).disk_faults d) it
   crash_counts pick (Down idle) new it d = ap (λ (s : GroupSite R g). (site_disks s).disk_faults d) it

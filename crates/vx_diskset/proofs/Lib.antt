@@ -96,5 +96,5 @@ pub mod OverStarting
 pub mod OverStays
 pub mod UnderCalling
 pub mod UnitsLie
-pub mod OverRising
+pub mod OverLooks
 pub mod OverRisen

@@ -69,7 +69,7 @@ module _ {R : Type 0} {g : Ghosts R} where
   inside_above beside n note (GroupFell idle) stands it = tt
   inside_above beside n note NoGroup stands it = tt
 
-  up_group : (k : Node) (note : GroupNode) (e : GroupSite R g) → UpNoted k note e → k.group ≡ Some note
+  pub up_group : (k : Node) (note : GroupNode) (e : GroupSite R g) → UpNoted k note e → k.group ≡ Some note
   up_group k note (Up laid) it = it.noted.is
   up_group k note (Deported idle) it = absurd it
   up_group k note (Down idle) it = absurd it
@@ -113,10 +113,10 @@ module _ {R : Type 0} {g : Ghosts R} where
   has_down c k note Gone it = absurd it
 
   -- a site that crashed, as its group has it
-  pub down_again : (k : Node) (note : GroupNode) (e : GroupSite R g) → k.group ≡ Some note → DownNoted (crashed (below_rvg k) 0) note e → NotedOn (below_rvg (crashed k 0)) note e
-  down_again k note (Up laid) is it = absurd it
-  down_again k note (Deported idle) is it = absurd it
-  down_again k note (Down idle) is it = record {
+  pub down_to : (k : Node) (count : ℕ) (note : GroupNode) (e : GroupSite R g) → k.group ≡ Some note → DownNoted (crashed (below_rvg k) 0) note e → NotedOn (below_rvg (crashed k count)) note e
+  down_to k count note (Up laid) is it = absurd it
+  down_to k count note (Deported idle) is it = absurd it
+  down_to k count note (Down idle) is it = record {
     noted = record { is = is; none = record { role = refl; volumes = refl; log = refl; safe = refl; running = refl } };
     lit = it.lit;
     agrees = it.agrees;
@@ -129,12 +129,15 @@ module _ {R : Type 0} {g : Ghosts R} where
       config = it.away.config;
       found = it.away.found;
       runs = it.away.runs;
-      some = some_as (crashed (below_rvg k) 0) (below_rvg (crashed k 0)) it.last refl refl it.away.some;
-      lies = away_as (crashed (below_rvg k) 0) (below_rvg (crashed k 0)) note it.last (idle_disks idle) refl refl it.away.lies;
+      some = some_as (crashed (below_rvg k) 0) (below_rvg (crashed k count)) it.last refl refl it.away.some;
+      lies = away_as (crashed (below_rvg k) 0) (below_rvg (crashed k count)) note it.last (idle_disks idle) refl refl it.away.lies;
     };
   }
-  down_again k note (Marked rack) is it = absurd it
-  down_again k note Gone is it = absurd it
+  down_to k count note (Marked rack) is it = absurd it
+  down_to k count note Gone is it = absurd it
+
+  pub down_again : (k : Node) (note : GroupNode) (e : GroupSite R g) → k.group ≡ Some note → DownNoted (crashed (below_rvg k) 0) note e → NotedOn (below_rvg (crashed k 0)) note e
+  down_again k note e is it = down_to k 0 note e is it
 
 module _ {R : Type 0} {g : Ghosts R} (beside : KeptBeside) (n : Node) (note : GroupNode) (old new : OverSet R g) (stands : SiteStands beside n (Over old)) (state : n.state ≡ IsUp) (noted : SiteNoted n note (Over old)) (called : OverCalled old new) where
   up_old : UpNoted (below_rvg n) note (site_in old)

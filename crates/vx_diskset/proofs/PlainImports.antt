@@ -24,14 +24,15 @@ use Rattle.vx_grouped.specs.declared.idle.Idle.{Idle}
 use Rattle.vx_grouped.specs.declared.laid.Laid.{Laid}
 use Rattle.vx_grouped.proofs.SinceReturns.{dark_armed, return_ready}
 use Rattle.vx_diskset.specs.Aboves.{site_in}
-use Rattle.vx_diskset.specs.GroupCalls.{AtFound, AtSite, cut_in}
+use Rattle.vx_diskset.specs.GroupCalls.{AtFound, AtSite, ImportsOn, cut_in}
 use Rattle.vx_diskset.specs.GroupSets.{cut_value}
-use Rattle.vx_diskset.specs.OverStarts.{BehindPlain, BroughtBy, DarkBack, FellDark, HandsOut, ImportsBy, PlainFails, PlainStarts, PlainTried, PlainUnits, RaisesBy, Started, WithPlain}
+use Rattle.vx_diskset.specs.OverStarts.{BehindPlain, BroughtBy, DarkBack, FellDark, HandsOut, ImportsBy, ImportsIn, PlainFails, PlainStarts, PlainTried, PlainUnits, RaisesBy, RaisesIn, Started, WithPlain}
 use Rattle.vx_diskset.specs.Recovers.{RaisesAt, RaisesMapsAt, RisesSince, cut_past}
 use Rattle.vx_diskset.specs.declared.disk_set.DiskSet.{DiskSet}
 use Rattle.vx_diskset.specs.declared.disk_set.DiskSet.TheVariants.{Bare, Spoiled, Up as UpSet, Receives, Down as DownSet, OfGroup, Over, Gone as GoneSet}
 use Rattle.vx_diskset.specs.declared.group_set.CutWrite.{CutWrite}
 use Rattle.vx_diskset.specs.declared.group_set.GroupSet.{GroupSet}
+use Rattle.vx_diskset.specs.declared.over_set.OverSet.{OverSet}
 use Rattle.vx_diskset.proofs.GroupCalling.{IsSettled, rises_fell, rises_returned}
 use Rattle.vx_diskset.proofs.OverImports.{rises_alone, rises_on, tried_rises, tried_tells}
 use Rattle.vx_diskset.proofs.PlainBacks.{plain_imports, plain_mapped, plain_recovers}
@@ -54,6 +55,38 @@ module _ {R : Type 0} {g : Ghosts R} where
 
   pub raises_by : (old : GroupSite R g) (cut : Option CutWrite) (new : DiskSet R g) (answer : Result (Unit {0}) Stop) (r : Result (Option CutWrite) Stop) → ImportsBy false old cut new answer → HandsOut cut answer r → RaisesBy old cut new r
   raises_by old cut new answer r by hands = record { answer = answer; by = by; is = hands }
+
+  -- ---- sites that have no group, or one with a replicated volume group
+
+  pub imports_rest : (P : GroupSite R g → Type 0) (Q : GroupSite R g → GroupSite R g → Type 0) (e : DiskSet R g) → ((o : GroupSet R g) → e ≡ OfGroup o → ⊥) → AtSite P e → ImportsOn Q e e
+  imports_rest P Q (Bare rack) never it = it
+  imports_rest P Q (Spoiled rack) never it = it
+  imports_rest P Q (UpSet rvg) never it = it
+  imports_rest P Q (Receives s) never it = it
+  imports_rest P Q (DownSet rack) never it = it
+  imports_rest P Q (OfGroup s) never it = absurd (never s refl)
+  imports_rest P Q (Over s) never it = tt
+  imports_rest P Q GoneSet never it = it
+
+  pub imports_none : (e new : DiskSet R g) (r : Result (Unit {0}) Stop) → ((s : GroupSet R g) → e ≡ OfGroup s → ⊥) → ImportsIn e new r
+  imports_none (Bare rack) new r plain = tt
+  imports_none (Spoiled rack) new r plain = tt
+  imports_none (UpSet rvg) new r plain = tt
+  imports_none (Receives s) new r plain = tt
+  imports_none (DownSet rack) new r plain = tt
+  imports_none (OfGroup s) new r plain = absurd (plain s refl)
+  imports_none (Over s) new r plain = tt
+  imports_none GoneSet new r plain = tt
+
+  pub raises_rest : (e new : DiskSet R g) (r : Result (Option CutWrite) Stop) → ((s : GroupSet R g) → e ≡ OfGroup s → ⊥) → ((s : OverSet R g) → e ≡ Over s → ⊥) → RaisesIn e new r
+  raises_rest (Bare rack) new r plain over = tt
+  raises_rest (Spoiled rack) new r plain over = tt
+  raises_rest (UpSet rvg) new r plain over = tt
+  raises_rest (Receives s) new r plain over = tt
+  raises_rest (DownSet rack) new r plain over = tt
+  raises_rest (OfGroup s) new r plain over = absurd (plain s refl)
+  raises_rest (Over s) new r plain over = absurd (over s refl)
+  raises_rest GoneSet new r plain over = tt
 
   -- ---- what holds of the group behind the import, by the answer, and so behind what was found
 

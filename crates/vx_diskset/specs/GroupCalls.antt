@@ -40,7 +40,7 @@ module _ {R : Type 0} {g : Ghosts R} where
   OnSites P (Over old) new = Unit {0}
   OnSites P old new = ⊥
 
-  -- So they are behind an import, where it found no replicated volume group. Where it did, more is said elsewhere.
+  -- So they are behind an import, where it found no replicated volume group. Where it did, or the site had one, more is said elsewhere.
   abbrev pub AtFound : (GroupSite R g → Type 0) → DiskSet R g → Type 0
   AtFound P (OfGroup s) = P s.site
   AtFound P (Over s) = Unit {0}
@@ -48,7 +48,7 @@ module _ {R : Type 0} {g : Ghosts R} where
 
   abbrev pub ImportsOn : (GroupSite R g → GroupSite R g → Type 0) → DiskSet R g → DiskSet R g → Type 0
   ImportsOn P (OfGroup old) new = AtFound (P old.site) new
-  ImportsOn P (Over old) new = AtFound (P (site_in old)) new
+  ImportsOn P (Over old) new = Unit {0}
   ImportsOn P old new = ⊥
 
   -- the write that the fuse cut

@@ -18,13 +18,12 @@ use Rattle.vx_grouped.specs.SiteReturns.{FailsFused}
 use Rattle.vx_watched.specs.Since.{is_rack}
 use Rattle.vx_grouped.specs.SiteReturns.{SiteRecovers}
 use Rattle.vx_grouped.specs.declared.group_site.GroupSite.{GroupSite}
-use Rattle.vx_diskset.specs.Aboves.{site_in}
 use Rattle.vx_diskset.specs.GroupCalls.{AtFound, AtPlain, cut_in}
 use Rattle.vx_diskset.specs.GroupSets.{cut_value}
 use Rattle.vx_diskset.specs.declared.disk_set.DiskSet.{DiskSet}
 use Rattle.vx_diskset.specs.declared.disk_set.DiskSet.TheVariants.{OfGroup, Over}
 use Rattle.vx_diskset.specs.declared.group_set.CutWrite.{CutWrite}
-use Rattle.vx_grouped.specs.SiteMaps.{CameMapped, StaysMapped}
+use Rattle.vx_grouped.specs.SiteMaps.{CameMapped}
 use Rattle.vx_diskset.specs.declared.group_set.KeptWrite.{KeptWrite}
 
 -- the note of a site on which this write is still cut
@@ -76,9 +75,10 @@ module _ {R : Type 0} {g : Ghosts R} where
   RaisesAt n note old was new (Ok cut) = AtFound (λ e. SiteRecovers n note old e (Ok tt)) new × (cut_in new ≡ None) × (cut ≡ was)
   RaisesAt n note old was new (Err stop) = StaysBack n note old was new stop
 
+  -- of a site with a replicated volume group more is said elsewhere
   abbrev pub RaisesGroup : Node → GroupNode → DiskSet R g → DiskSet R g → Result (Option CutWrite) Stop → Type 0
   RaisesGroup n note (OfGroup s) new r = RaisesAt n note s.site s.cut new r
-  RaisesGroup n note (Over s) new r = RaisesAt n note (site_in s) s.cut new r
+  RaisesGroup n note (Over s) new r = Unit {0}
   RaisesGroup n note old new r = ⊥
 
   -- so far what is noted of the maps goes on
@@ -88,7 +88,7 @@ module _ {R : Type 0} {g : Ghosts R} where
 
   abbrev pub RaisesMaps : DiskSet R g → DiskSet R g → Result (Option CutWrite) Stop → Type 0
   RaisesMaps (OfGroup s) new r = RaisesMapsAt s.site new r
-  RaisesMaps (Over s) new r = RaisesMapsAt (site_in s) new r
+  RaisesMaps (Over s) new r = Unit {0}
   RaisesMaps old new r = ⊥
 
   -- and what is read then of that write; of a site with a replicated volume group more is said elsewhere
@@ -96,12 +96,6 @@ module _ {R : Type 0} {g : Ghosts R} where
   LooksAt n note cut (OfGroup s) new r = RisesWith n note cut s.site new r
   LooksAt n note cut (Over s) new r = Unit {0}
   LooksAt n note cut old new r = ⊥
-
-  -- what is noted of the maps stays
-  abbrev pub LooksMaps : DiskSet R g → DiskSet R g → Type 0
-  LooksMaps (OfGroup s) new = AtPlain (StaysMapped s.site) new
-  LooksMaps (Over s) new = Unit {0}
-  LooksMaps old new = ⊥
 
   -- the write that is cut behind an import: none, where it came up
   abbrev pub cut_past : {T : Type 0} → Result T Stop → DiskSet R g → Option Write

@@ -16,9 +16,9 @@ ghost use Rattle.vx_diskset.specs.DiskSets.{Later};
 ghost use Rattle.vx_diskset.specs.Aboves.{site_in};
 ghost use Rattle.vx_diskset.specs.OverRises.{LooksOver};
 ghost use Rattle.vx_diskset.specs.OverStarts.{HandsOut, ImportsBy, ImportsIn, RaisesBy, RaisesIn, RaisesOver};
-ghost use Rattle.vx_diskset.specs.GroupCalls.{AtFound, AtPlain, AtSite, ImportsOn, InitIs, cut_in};
+ghost use Rattle.vx_diskset.specs.GroupCalls.{AtFound, AtPlain, AtSite, ImportsOn, InitIs, OnSites, cut_in};
 ghost use Rattle.vx_diskset.specs.Holds.{KeptBeside};
-ghost use Rattle.vx_diskset.specs.Recovers.{LooksAt, LooksKept, LooksMaps, RaisesGroup, RaisesMaps, RisesSince, RisesWith, cut_past};
+ghost use Rattle.vx_diskset.specs.Recovers.{LooksAt, LooksKept, RaisesGroup, RaisesMaps, RisesSince, RisesWith, cut_past};
 ghost use Rattle.vx_diskset.specs.Stands.{SiteStands};
 ghost use Rattle.vx_watched.specs.Traces.{TellsLess};
 
@@ -200,6 +200,7 @@ fn raise_over<R: Rack>(
     }
 }
 
+// What is kept of the write that was cut, of a group that came up with its replicated volume group.
 fn stand_over<R: Rack>(
     over: OverSet<R>,
     cut: Option<CutWrite>,
@@ -208,10 +209,10 @@ fn stand_over<R: Rack>(
     ensures since { AtSite (λ e. RisesSince (site_disks (site_in over)) (site_disks e)) result.0 }
     ensures told { AtSite (λ e. TellsLess (site_below (site_in over)) (site_below e)) result.0 }
 {
-    let (site, above, _cut) = over.parts();
+    let (site, above, was) = over.parts();
     let mut site = site;
     match look_kept(&mut site, &cut) {
-        Ok(kept) => (DiskSet::Over(OverSet::of(site, above, None)), Ok(kept)),
+        Ok(kept) => (DiskSet::Over(OverSet::of(site, above, was)), Ok(kept)),
         Err(no) => (
             DiskSet::Over(OverSet::of(site, above, cut).crash(u64::MAX)),
             Err(Stop::No(no)),
@@ -248,7 +249,6 @@ impl<R: Rack> DiskSet<R> {
     {
         match self {
             DiskSet::OfGroup(group) => import_in(group, alloc),
-            DiskSet::Over(over) => (DiskSet::Over(over), Err(Stop::No(No::Role))),
             other => (other, Err(Stop::No(No::Role))),
         }
     }
@@ -271,7 +271,7 @@ impl<R: Rack> DiskSet<R> {
     /// Says what is kept of a write that was cut, of a group that came up. Where a disk fails in that, the site is down again, and the write is cut still.
     pub fn look_at_cut(self, cut: Option<CutWrite>) -> (DiskSet<R>, Result<Option<KeptWrite>, Stop>)
         ensures looks { (n : Node) (note : GroupNode) → AtSite (UpNoted n note) self → LooksAt n note cut self result.0 result.1 }
-        ensures maps { (n : Node) (note : GroupNode) → AtSite (UpNoted n note) self → LooksMaps self result.0 }
+        ensures maps { (n : Node) (note : GroupNode) → AtSite (UpNoted n note) self → OnSites StaysMapped self result.0 }
         ensures stands { LooksOver cut self result.0 result.1 }
         ensures failing { SameFailing self result.0 }
         ensures later { Later self result.0 }

@@ -1,9 +1,9 @@
--- `raise_over`: the import of a recovery, of disks that may have a replicated volume group over them.
-use Rattle.std.proofs.Common.{ap, refl, subst}
+-- `raise_over`: the import of a recovery, of disks that have a replicated volume group over them.
+use Rattle.std.proofs.Common.{◌∙◌, ap, subst}
 use Rattle.vx_grouped.specs.Brings.{ComesUp}
 use Rattle.vx_diskset.specs.Aboves.{site_in}
 use Rattle.vx_diskset.specs.GroupSets.{cut_value}
-use Rattle.vx_diskset.proofs.OverImports.{above_refused, hands_as, imports_as, imports_err, imports_ok, raises_by}
+use Rattle.vx_diskset.proofs.OverImports.{above_refused, brought_as, raises_done, raises_stopped}
 use Rattle.vx_diskset.proofs.group_starts.raise_over.Goals as goal
 
 pub of-requires : goal.of-requires
@@ -12,18 +12,16 @@ of-requires g c =
 
 pub returns-in-Ok : goal.returns-in-Ok
 returns-in-Ok g c = record {
-  brought = raises_by (site_in c.args.over) c.args.over.cut c.with_rvg-disk_set.result.0 c.with_rvg-disk_set.result.1 c.hands_out.result
-      (imports_as c.parts-site.result.0 (site_in c.args.over) c.parts-site.result.2 c.args.over.cut c.with_rvg-disk_set.result.0 c.with_rvg-disk_set.result.1 c.parts-site.ensures.site c.parts-site.ensures.cut
-      (imports_ok c.parts-site.result.0 c.import-site.result.0 c.parts-site.result.2 c.with_rvg-disk_set.result.0 c.import-site.result.1 c.with_rvg-disk_set.result.1
-      c.import-site.ensures.imported c.import-site.ensures.recovered c.import-site.ensures.brings c.import-site.ensures.since c.import-site.ensures.told c.import-site.ensures.maps c.import-site.ensures.known c.import-site.ensures.less c.in-Ok.is c.with_rvg-disk_set.ensures.over))
-      (hands_as c.parts-site.result.2 c.args.over.cut c.with_rvg-disk_set.result.1 c.hands_out.result c.parts-site.ensures.cut c.hands_out.ensures);
+  brought = raises_done (site_in c.args.over) c.import-site.result.0 c.parts-site.result.2 c.args.over.cut c.with_rvg-disk_set.result.0 c.import-site.result.1 c.with_rvg-disk_set.result.1 c.hands_out.result
+      (brought_as c.parts-site.result.0 (site_in c.args.over) c.import-site.result.0 c.import-site.result.1 c.parts-site.ensures.site
+      (record { imported = c.import-site.ensures.imported; recovered = c.import-site.ensures.recovered; brings = c.import-site.ensures.brings; since = c.import-site.ensures.since; told = c.import-site.ensures.told; maps = c.import-site.ensures.maps; known = c.import-site.ensures.known; less = c.import-site.ensures.less; dark = c.import-site.ensures.dark }))
+      c.parts-site.ensures.cut c.in-Ok.is c.with_rvg-disk_set.ensures.over c.hands_out.ensures;
 }
 
 pub returns-in-Err : goal.returns-in-Err
 returns-in-Err g c = record {
-  brought = raises_by (site_in c.args.over) c.args.over.cut _ _ _
-      (imports_as c.parts-site.result.0 (site_in c.args.over) c.parts-site.result.2 c.args.over.cut _ _ c.parts-site.ensures.site c.parts-site.ensures.cut
-      (imports_err c.parts-site.result.0 c.import-site.result.0 c.parts-site.result.2 _ c.import-site.result.1 _
-      c.import-site.ensures.imported c.import-site.ensures.recovered c.import-site.ensures.brings c.import-site.ensures.since c.import-site.ensures.told c.import-site.ensures.maps c.import-site.ensures.known c.import-site.ensures.less c.in-Err.stop c.in-Err.is c.of.ensures.site (ap (λ k. cut_value k) c.of.ensures.cut) refl))
-      refl;
+  brought = raises_stopped (site_in c.args.over) c.import-site.result.0 c.args.over.cut _ c.import-site.result.1 c.in-Err.stop
+      (brought_as c.parts-site.result.0 (site_in c.args.over) c.import-site.result.0 c.import-site.result.1 c.parts-site.ensures.site
+      (record { imported = c.import-site.ensures.imported; recovered = c.import-site.ensures.recovered; brings = c.import-site.ensures.brings; since = c.import-site.ensures.since; told = c.import-site.ensures.told; maps = c.import-site.ensures.maps; known = c.import-site.ensures.known; less = c.import-site.ensures.less; dark = c.import-site.ensures.dark }))
+      c.in-Err.is c.of.ensures.site (ap (λ k. cut_value k) (c.of.ensures.cut ∙ c.parts-site.ensures.cut));
 }

@@ -4,13 +4,11 @@ use Rattle.vx_grouped.specs.GroupSites.{DownNoted}
 use Rattle.vx_diskset.specs.Recovers.{RaisesGroup, RaisesMaps}
 use Rattle.vx_diskset.specs.Aboves.{site_in}
 use Rattle.vx_diskset.proofs.GroupCalling.{at_sites}
-use Rattle.vx_diskset.proofs.OverCalling.{at_overs}
-use Rattle.vx_diskset.proofs.OverImports.{import_raises, import_rises, import_tells, raise_mapped}
+use Rattle.vx_diskset.proofs.OverImports.{raise_rises, raise_tells}
 use Rattle.vx_diskset.proofs.OverRisen.{over_failing, over_later}
-use Rattle.vx_untold.specs.Shades.{shade_rack}
 use Rattle.vx_diskset.proofs.GroupRising.{rise_failing, rise_later}
 use Rattle.vx_diskset.specs.OverStarts.{RaisesIn}
-use Rattle.vx_diskset.proofs.OverBacks.{raises_rest}
+use Rattle.vx_diskset.proofs.PlainImports.{raises_rest}
 use Rattle.vx_diskset.proofs.disk_set.DiskSet.raise_group.Goals as goal
 
 pub returns-in-OfGroup-clause-raised : goal.returns-in-OfGroup-clause-raised
@@ -29,38 +27,26 @@ returns-in-OfGroup-clause-maps g c = λ n note down.
     subst (λ x. RaisesMaps x c.raise_in.result.0 c.raise_in.result.1) (sym c.in-OfGroup.is)
     (c.raise_in.ensures.maps n note (at_sites (DownNoted n note) (DownNoted n note c.in-OfGroup.group.site) c.args.self c.in-OfGroup.group c.in-OfGroup.is (λ it. it) down))
 
-pub returns-in-Over-clause-maps : goal.returns-in-Over-clause-maps
-returns-in-Over-clause-maps g c = λ n note down.
-    let by = c.raise_over.ensures.brought in
-    subst (λ x. RaisesMaps x c.raise_over.result.0 c.raise_over.result.1) (sym c.in-Over.is)
-    (raise_mapped (site_in c.in-Over.over) n note c.in-Over.over.cut c.raise_over.result.0 by.answer c.raise_over.result.1 by.by by.is
-    (at_overs (DownNoted n note) (DownNoted n note (site_in c.in-Over.over)) c.args.self c.in-Over.over c.in-Over.is (λ it. it) down))
-
-pub returns-in-Over-clause-raised : goal.returns-in-Over-clause-raised
-returns-in-Over-clause-raised g c = λ n note down.
-    let by = c.raise_over.ensures.brought in
-    subst (λ x. RaisesGroup n note x c.raise_over.result.0 c.raise_over.result.1) (sym c.in-Over.is)
-    (import_raises (site_in c.in-Over.over) c.in-Over.over.cut n note c.raise_over.result.0 by.answer c.raise_over.result.1 by.by by.is
-    (at_overs (DownNoted n note) (DownNoted n note (site_in c.in-Over.over)) c.args.self c.in-Over.over c.in-Over.is (λ it. it) down))
-
-pub returns-in-Over-clause-failing : goal.returns-in-Over-clause-failing
-returns-in-Over-clause-failing g c =
-    let is_rack = (g.met.R.Rack g.world.𝓛 g.world.𝓜 g.world.𝓡 ((λ s x. x), (λ x. x), (λ x. x), λ x. x)).rack in
-    let by = c.raise_over.ensures.brought in
-    over_failing c.args.self c.raise_over.result.0 c.in-Over.over c.in-Over.is (import_rises (shade_rack g.R.Shelf.meaning is_rack) (site_in c.in-Over.over) c.in-Over.over.cut c.raise_over.result.0 by.answer by.by)
-
-pub returns-in-Over-clause-later : goal.returns-in-Over-clause-later
-returns-in-Over-clause-later g c =
-    let is_rack = (g.met.R.Rack g.world.𝓛 g.world.𝓜 g.world.𝓡 ((λ s x. x), (λ x. x), (λ x. x), λ x. x)).rack in
-    let by = c.raise_over.ensures.brought in
-    over_later c.args.self c.raise_over.result.0 c.in-Over.over c.in-Over.is (import_rises (shade_rack g.R.Shelf.meaning is_rack) (site_in c.in-Over.over) c.in-Over.over.cut c.raise_over.result.0 by.answer by.by)
-    (import_tells (site_in c.in-Over.over) c.in-Over.over.cut c.raise_over.result.0 by.answer by.by)
-
 pub returns-in-OfGroup-clause-brought : goal.returns-in-OfGroup-clause-brought
 returns-in-OfGroup-clause-brought g c = subst (λ x. RaisesIn x c.raise_in.result.0 c.raise_in.result.1) (sym c.in-OfGroup.is) c.raise_in.ensures.brought
 
+pub returns-in-Over-clause-raised : goal.returns-in-Over-clause-raised
+returns-in-Over-clause-raised g c = λ n note down. subst (λ x. RaisesGroup n note x c.raise_over.result.0 c.raise_over.result.1) (sym c.in-Over.is) tt
+
+pub returns-in-Over-clause-maps : goal.returns-in-Over-clause-maps
+returns-in-Over-clause-maps g c = λ n note down. subst (λ x. RaisesMaps x c.raise_over.result.0 c.raise_over.result.1) (sym c.in-Over.is) tt
+
 pub returns-in-Over-clause-brought : goal.returns-in-Over-clause-brought
 returns-in-Over-clause-brought g c = subst (λ x. RaisesIn x c.raise_over.result.0 c.raise_over.result.1) (sym c.in-Over.is) c.raise_over.ensures.brought
+
+pub returns-in-Over-clause-failing : goal.returns-in-Over-clause-failing
+returns-in-Over-clause-failing g c =
+    over_failing c.args.self c.raise_over.result.0 c.in-Over.over c.in-Over.is (raise_rises (site_in c.in-Over.over) c.in-Over.over.cut c.raise_over.result.0 c.raise_over.result.1 c.raise_over.ensures.brought)
+
+pub returns-in-Over-clause-later : goal.returns-in-Over-clause-later
+returns-in-Over-clause-later g c =
+    over_later c.args.self c.raise_over.result.0 c.in-Over.over c.in-Over.is (raise_rises (site_in c.in-Over.over) c.in-Over.over.cut c.raise_over.result.0 c.raise_over.result.1 c.raise_over.ensures.brought)
+    (raise_tells (site_in c.in-Over.over) c.in-Over.over.cut c.raise_over.result.0 c.raise_over.result.1 c.raise_over.ensures.brought)
 
 pub returns-in_default-clause-brought : goal.returns-in_default-clause-brought
 returns-in_default-clause-brought g c = raises_rest c.args.self c.args.self _ c.in_default.not-OfGroup c.in_default.not-Over
