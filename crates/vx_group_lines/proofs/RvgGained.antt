@@ -59,7 +59,7 @@ no_after w s (Some a) is = absurd (never_some (sym is))
 
 module _ {R : Type 0} {g : Ghosts R} where
   -- what stands by one note of a site stands by that which the site notes
-  over_noted : (k : Node) (note : GroupNode) (e : DiskSet R g) → k.group ≡ Some note → IsNamed k → SiteNoted k note e → NotedAt k e
+  pub over_noted : (k : Node) (note : GroupNode) (e : DiskSet R g) → k.group ≡ Some note → IsNamed k → SiteNoted k note e → NotedAt k e
   over_noted k note (Bare rack) is named it = tt
   over_noted k note (Spoiled rack) is named it = tt
   over_noted k note (Up rvg) is named it = tt

@@ -159,7 +159,7 @@ module _ (w : World) (s : ℕ) (f : ℕ → Bool) (own : Option GroupNode) where
   abbrev shown_with : Node → Option RvgView → List LinkView → SiteView
   shown_with m rvg links = record { name = m.name; state = m.state; disks = []; volumes = []; rvg = rvg; links = links }
 
-  view_noted : linked_view v s ≡ linked_view w s
+  pub view_noted : linked_view (with_node w s (record (w.nodes s) { failing = f; group = own })) s ≡ linked_view w s
   view_noted =
       let ss : List ℕ = linked_sites (w.links s) w.sites 0 w.sites in
       ap (λ (m : Node). shown_with m (group_shown m.state v m) (views_by m.state (link_views v s ss))) here
