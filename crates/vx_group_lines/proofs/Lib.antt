@@ -48,3 +48,7 @@ pub mod Going
 pub mod OverSeen
 pub mod Worked
 pub mod Plains
+pub mod RvgComing
+pub mod RvgWorlds
+pub mod RvgReturns
+pub mod RvgFound

@@ -4,3 +4,4 @@ pub mod Noting
 pub mod Plain
 pub mod Rises
 pub mod Views
+pub mod RvgRises
