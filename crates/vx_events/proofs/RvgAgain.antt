@@ -38,7 +38,7 @@ module _ (c d : Config) (keeps : KeepsRvg c d) where
       ap (λ (name : List ℕ). let x : DataVolume = record { place = v; name = name; blocks = blocks_of d.volumes v } in x) (name_kept v has)
       ∙ ap (λ (blocks : ℕ). let x : DataVolume = record { place = v; name = entry_name (slice_get c.volumes v); blocks = blocks } in x) (blocks_kept v has)
 
-  data_kept : (places : List ℕ) → AllByRecursion (HasVolume c.volumes) places → map (data_at d.volumes) places ≡ map (data_at c.volumes) places
+  pub data_kept : (places : List ℕ) → AllByRecursion (HasVolume c.volumes) places → map (data_at d.volumes) places ≡ map (data_at c.volumes) places
   data_kept [] all = refl
   data_kept (x ∷ xs) (here, rest) =
       ap (λ (y : DataVolume). y ∷ map (data_at d.volumes) xs) (one_kept x here) ∙ ap (λ (ys : List DataVolume). data_at c.volumes x ∷ ys) (data_kept xs rest)

@@ -40,7 +40,7 @@ pub then_same : (note middle next : GroupNode) → NoteKeepsRvg note middle → 
 then_same note middle next f same c at =
     let x : KeptConfig c middle = f c at in record { now = x.now; is = ap (λ (bytes : List ℕ). config_of bytes) same ∙ x.is; keeps = x.keeps }
 
-then_keeps : (note middle next : GroupNode) → NoteKeepsRvg note middle → NoteKeepsRvg middle next → NoteKeepsRvg note next
+pub then_keeps : (note middle next : GroupNode) → NoteKeepsRvg note middle → NoteKeepsRvg middle next → NoteKeepsRvg note next
 then_keeps note middle next f g c at =
     let x : KeptConfig c middle = f c at in
     let y : KeptConfig x.now next = g x.now x.is in

@@ -1,6 +1,6 @@
 -- How a recovery moves the note of a group below a replicated volume group, where its import brought the group up: by the import, and by the calls of the log then.
 use Rattle.std.proofs.Common.{◌≡◌, ◌∙◌, ◌+◌, ◌<◌, ◌≤◌, ℕ, length, ap, sym, subst, refl, arith, inl, inr, ⊎_elim, IsTrue}
-use Rattle.std.specs.Prelude.{Option, Some, None, Contains, slice_get}
+use Rattle.std.specs.Prelude.{List, map, Option, Some, None, Contains, slice_get, unwrap_or}
 use Rattle.std.proofs.lemmas.Option.{slice_get_within}
 use Rattle.vx_disk.specs.Counts.{Rose}
 use Rattle.vx_disk.specs.Shelf.{Meaning}
@@ -11,7 +11,9 @@ use Rattle.vx_config.specs.declared.entry.VolumeEntry.{VolumeEntry}
 use Rattle.vx_kept.specs.Cleans.{at_serial}
 use Rattle.vx_history.specs.Doubts.{Doubted}
 use Rattle.vx_history.specs.Groups.{GroupNode, NoteWorks}
+use Rattle.vx_history.specs.Volumes.{as_volume}
 use Rattle.vx_history.specs.World.{Node}
+use Rattle.vx_history.specs.declared.volumes.DataVolume.{DataVolume}
 use Rattle.vx_grouped.proofs.ReadyLemmas.{imported_same}
 use Rattle.vx_grouped.specs.ConfigMoves.{AnyState, LosesSome, VolumeMoves}
 use Rattle.vx_grouped.specs.GroupSites.{laid_disks, site_disks}
@@ -22,16 +24,18 @@ use Rattle.vx_grouped.specs.declared.laid.Laid.{Laid}
 use Rattle.vx_diskset.proofs.GroundNotes.{calm_by}
 use Rattle.vx_diskset.specs.Aboves.{site_in}
 use Rattle.vx_diskset.specs.Layouts.{units_of}
-use Rattle.vx_diskset.specs.Noted.{AgreesStill, below_rvg}
+use Rattle.vx_diskset.specs.Noted.{AgreesStill, IsNamed, below_rvg}
 use Rattle.vx_diskset.specs.OverRises.{CameGroup, note_ready}
 use Rattle.vx_diskset.specs.declared.disk_set.DiskSet.TheVariants.{Over}
 use Rattle.vx_diskset.specs.declared.over_set.OverSet.{OverSet}
 use Rattle.vx_events.proofs.Places.{some_same}
+use Rattle.vx_events.proofs.RvgAgain.{all_kept, data_kept, has_kept}
 use Rattle.vx_events.specs.Fails.{Fails}
 use Rattle.vx_events.specs.GroupConfigs.{VolumeStays}
 use Rattle.vx_events.specs.GroupEnds.{AreOf}
-use Rattle.vx_events.specs.GroupNotes.{IsKnown, NotesBack, note_at}
-use Rattle.vx_events.specs.RvgFits.{KeptVolume, NoteKeepsRvg, config_rvg}
+use Rattle.vx_events.specs.GroupNotes.{IsKnown, NotesBack, no_note, note_at}
+use Rattle.vx_events.specs.GroupViews.{config_of}
+use Rattle.vx_events.specs.RvgFits.{KeptConfig, KeptVolume, NoteKeepsRvg, config_rvg}
 use Rattle.vx_events.specs.RvgWorks.{NotesWork}
 use Rattle.vx_yard.specs.Stands.{RoseAll}
 use Rattle.vx_yard.specs.Yards.{IsTold, count_of}
@@ -57,6 +61,20 @@ rose_between a x y z low it high = record {
   fell_not = omega (arith, low, it.fell_not, high);
   rose = ⊎_elim (λ less. inl (omega (arith, low, less, high))) (λ top. inr (omega (arith, top, high))) it.rose;
 }
+
+-- the data volumes of a site are those of another note as well that keeps the replicated volume group
+pub named_again : (n m : Node) (next : GroupNode) → m.volumes ≡ n.volumes → m.group ≡ Some next → NoteKeepsRvg (note_at n) next → next.cut ≡ None → IsNamed n → IsNamed m
+named_again n m next volumes group keeps clear it =
+    let k : KeptConfig it.0 next = keeps it.0 it.2 in
+    (
+      k.now,
+      it.1,
+      ap (λ (o : Option GroupNode). config_of (unwrap_or o no_note).config) group ∙ k.is,
+      k.keeps.rvg ∙ it.3,
+      volumes ∙ it.4 ∙ ap (λ (ys : List DataVolume). map as_volume ys) (sym (data_kept it.0 k.now k.keeps it.1.vols it.5.vols)),
+      record { srl = has_kept it.0 k.now k.keeps it.1.srl it.5.srl; vols = all_kept it.0 k.now k.keeps it.1.vols it.5.vols },
+      ap (λ (o : Option GroupNode). (unwrap_or o no_note).cut) group ∙ clear,
+    )
 
 module _ {R : Type 0} {g : Ghosts R} (b : Doubted) (old new : Yard R g) (s : ℕ) (o p : OverSet R g) (call : DownCall b old new s o (Over p)) where
   abbrev n : Node
@@ -106,13 +124,16 @@ module _ {R : Type 0} {g : Ghosts R} (b : Doubted) (old new : Yard R g) (s : ℕ
       each = λ k below rose. call_named (many_at extra) k (mid.disk_faults k) (now.disk_faults k) below (group.from k) rose (last k);
     }
 
-    pub group_back : (extra : ℕ) → (IsKnown (IsTold new) group.middle → IsTrue (laid_disks laid).tells) → NotesBack (IsTold new) s (b.world.nodes s) (calls_at (many_at extra)) (note_at (b.world.nodes s)) group.middle
-    group_back extra tells =
+    -- as a site notes it with as many disks, as large
+    pub group_back : (m : Node) (extra : ℕ) → (b.world.nodes s).disks ≡ m.disks → (b.world.nodes s).blocks ≡ m.blocks → (IsKnown (IsTold new) group.middle → IsTrue (laid_disks laid).tells)
+        → NotesBack (IsTold new) s m (calls_at (many_at extra)) (note_at (b.world.nodes s)) group.middle
+    group_back m extra disks blocks tells =
         let fell = rest_fell b old new s o (Over p) call in
         let sits : SitsOn (below_rvg n) (as_imported (site_in o)) = sits_down (below_rvg n) note (site_in o) fell in
-        back_of (IsTold new) (is_dimmed (site_in o)) s n note middle (as_imported (site_in o)) (Up laid) (calls_at (many_at extra)) tells (record { units = sits.units; size = sits.size })
+        back_of (IsTold new) (is_dimmed (site_in o)) s m note middle (as_imported (site_in o)) (Up laid) (calls_at (many_at extra)) tells
+        (record { units = sits.units ∙ disks; size = λ u low. sits.size u (omega (arith, low, disks)) ∙ blocks })
         (loose_down (below_rvg n) note (site_in o) fell) group.returns group.config
-        (λ k low rose. call_named (many_at extra) k ((as_imported (site_in o)).disk_faults k) (mid.disk_faults k) (omega (arith, low))
+        (λ k low rose. call_named (many_at extra) k ((as_imported (site_in o)).disk_faults k) (mid.disk_faults k) (omega (arith, low, disks))
         (omega (arith, (imported_same {R = R} {g = g} (site_in o)).counts k)) rose (omega (arith, to k, last k)))
 
     -- with the replicated volume group that the site has, and the volumes below it

@@ -78,7 +78,7 @@ links_as : (row new : ℕ → Link) (sites more : ℕ) → ((k : ℕ) → new k 
 links_as row new sites more links same = row_links_same row new links more ∙ ap (λ (k : ℕ). row_links row k) same
 
 -- a world in which the site keeps no link, and so many headers
-beside_as : (d e : Doubted) (s : ℕ) → header_links d.world s ≡ [] → header_links e.world s ≡ [] → e.world.headers s ≡ d.world.headers s → d.after s ≡ None → e.after s ≡ None → beside_of e s ≡ beside_of d s
+pub beside_as : (d e : Doubted) (s : ℕ) → header_links d.world s ≡ [] → header_links e.world s ≡ [] → e.world.headers s ≡ d.world.headers s → d.after s ≡ None → e.after s ≡ None → beside_of e s ≡ beside_of d s
 beside_as d e s were links headers was sure =
     beside_sure e s [] (d.world.headers s) links headers sure ∙ sym (beside_sure d s [] (d.world.headers s) were refl was)
 
@@ -160,12 +160,12 @@ module _ (d : Doubted) (s kept : ℕ) (taken : Bool) (fit : LinksFit (rests_worl
       gathering = back_effect.gathering ∙ sym (own_gathering s w h taken);
     }
 
-    back_headers : world_back.world.headers s ≡ e.world.headers s
-    back_headers = back_effect.is.headers ∙ sym (own_headers s w h taken)
+    -- it is up
+    pub back_up : ((happened (rests_world d s kept taken) (RecoverAt s None) taken).world.nodes s).state ≡ IsUp
+    back_up = ap (λ (k : Node). k.state) ((recover_effect h s taken below down_h less_h).is.node ∙ back_is)
 
-    -- with what it has beside its node
-    pub back_beside : beside_of world_back s ≡ beside_of (rests_as d s kept taken) s
-    back_beside = beside_as e world_back s links back_arrives.links back_headers sure back_arrives.sure
+    pub back_headers : world_back.world.headers s ≡ e.world.headers s
+    back_headers = back_effect.is.headers ∙ sym (own_headers s w h taken)
 
     -- ---- a disk failed in it, behind the header of its next session
 
@@ -193,5 +193,5 @@ module _ (d : Doubted) (s kept : ℕ) (taken : Bool) (fit : LinksFit (rests_worl
         gathering = begun_effect.gathering ∙ sym (own_gathering s w h taken);
       }
 
-      pub begun_beside : beside_of (world_begun disk) s ≡ beside_of (rests_as d s kept taken) s
-      begun_beside = beside_as e (world_begun disk) s links begun_arrives.links (begun_effect.is.headers ∙ sym (own_headers s w h taken)) sure begun_arrives.sure
+      pub begun_headers : (world_begun disk).world.headers s ≡ e.world.headers s
+      begun_headers = begun_effect.is.headers ∙ sym (own_headers s w h taken)

@@ -1,5 +1,5 @@
 -- How the group of a site comes up in a recovery.
-use Rattle.std.specs.Prelude.{◌≡◌, ◌⊎◌, ℕ, ◌/◌, List, length, map, Option, Some, None, slice_get, slice_set, false, Result, Ok, Err, []}
+use Rattle.std.specs.Prelude.{◌≡◌, ◌⊎◌, ◌<◌, ℕ, true, ◌/◌, List, length, map, Option, Some, None, slice_get, slice_set, false, Result, Ok, Err, []}
 use Rattle.vx_model.specs.declared.limits.TheConstants.{BLOCK}
 use Rattle.vx_model.specs.declared.errors.OutOfMemory.{OutOfMemory}
 use Rattle.vx_model.specs.declared.errors.Stop.{Stop}
@@ -15,7 +15,8 @@ use Rattle.vx_grouped.specs.GroupSites.{UpNoted, site_config}
 use Rattle.vx_grouped.specs.SiteMaps.{StaysMapped}
 use Rattle.vx_diskset.specs.Asked.{SameFailing}
 use Rattle.vx_diskset.specs.DiskSets.{Later}
-use Rattle.vx_diskset.specs.GroupCalls.{AtSite, OnSites}
+use Rattle.vx_diskset.specs.GroupCalls.{AtSite, OnSites, config_in, core_in}
+use Rattle.vx_diskset.specs.OverRises.{LooksOver}
 use Rattle.vx_diskset.specs.Recovers.{LooksAt}
 use Rattle.vx_diskset.specs.declared.disk_set.DiskSet.{DiskSet}
 use Rattle.vx_diskset.specs.declared.group_set.CutWrite.{CutWrite}
@@ -27,7 +28,9 @@ use Rattle.vx_events.specs.Fails.{Fails}
 use Rattle.vx_events.specs.GroupEnds.{GroupEnds}
 use Rattle.vx_events.specs.GroupLines.{noting}
 use Rattle.vx_events.specs.GroupNotes.{NotesShort, note_at}
-use Rattle.vx_events.specs.GroupViews.{plain_fact}
+use Rattle.vx_events.specs.GroupViews.{plain_fact, volumes_of}
+use Rattle.vx_events.specs.LinkViews.{linked_view}
+use Rattle.vx_events.specs.RvgViews.{is_over_rvg, over_disks}
 use Rattle.vx_events.specs.declared.said.Said.{Said}
 use Rattle.vx_events.specs.declared.said.Said.TheVariants.{Resumed}
 use Rattle.vx_yard.specs.Carries.{Carries}
@@ -39,6 +42,8 @@ use Rattle.vx_yard.specs.Standing.{StandsFor}
 use Rattle.vx_yard.specs.Stands.{RoseAll}
 use Rattle.vx_yard.specs.Yards.{IsTold, count_of}
 use Rattle.vx_yard.specs.declared.yard.Yard.{Yard}
+use Rattle.vx_rvg.specs.Views.{Core}
+use Rattle.vx_group_lines.specs.Noting.{made_facts}
 use Rattle.vx_group_lines.specs.Views.{view_with}
 
 -- ---- what is shown of a write that was cut
@@ -75,6 +80,15 @@ module _ {R : Type 0} {g : Ghosts R} where
       (new.facts.items ≡ slice_set old.facts.items s (down_fact (group_up_facts (map plain_fact c.volumes) f))) × LetGo s old.assemblies.items new.assemblies.items
       × (result ≡ reply_to stop)
 
+  -- The same where a replicated volume group came up over it: how it stands is what the yard stands for.
+  abbrev pub StandsOver : (s : ℕ) → SiteFacts → Config → Core → (after : DiskSet R g) → Result (Option KeptWrite) Stop → (old new : Yard R g) → Result Said OutOfMemory → Type 0
+  StandsOver s f c core after (Ok kept) old new result =
+      (new.facts.items ≡ slice_set old.facts.items s (made_facts core c f)) × (new.assemblies ≡ old.assemblies)
+      × ((d : Doubted) → StandsFor d new → s < d.world.sites → is_over_rvg (d.world.nodes s) ≡ true → f.links ≡ []
+      → result ≡ Ok (Resumed (over_disks (d.world.nodes s) (note_at (d.world.nodes s)) (linked_view d.world s)) (kept_shown (volumes_of (config_in after)) kept)))
+  StandsOver s f c core after (Err stop) old new result =
+      (new.facts.items ≡ slice_set old.facts.items s (down_fact (made_facts core c f))) × LetGo s old.assemblies.items new.assemblies.items × (result ≡ reply_to stop)
+
   -- a look at the write that was cut, at a site that came up
   pub record StoodUp (s : ℕ) (cut : Option CutWrite) (old new : Yard R g) (result : Result Said OutOfMemory) : Type 0 where
     pub before : DiskSet R g
@@ -90,7 +104,9 @@ module _ {R : Type 0} {g : Ghosts R} where
     pub flight : new.flight ≡ old.flight
     pub feeders : new.feeders ≡ old.feeders
     pub dir : new.dir ≡ old.dir
-    pub so : (f : SiteFacts) (c : Config) → slice_get old.facts.items s ≡ Some f → AtSite (λ x. site_config x ≡ Some c) before → StandsSo s f c after answer old new result
+    pub over : LooksOver cut before after answer
+    pub so : (f : SiteFacts) (c : Config) → slice_get old.facts.items s ≡ Some f → AtSite (λ x. site_config x ≡ Some c) before → c.rvg ≡ None → core_in before ≡ None → StandsSo s f c after answer old new result
+    pub above : (f : SiteFacts) (c : Config) (core : Core) → slice_get old.facts.items s ≡ Some f → AtSite (λ x. site_config x ≡ Some c) before → core_in before ≡ Some core → StandsOver s f c core after answer old new result
 
   -- ---- the recovery
 
