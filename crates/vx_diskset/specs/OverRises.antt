@@ -208,3 +208,17 @@ module _ {R : Type 0} {g : Ghosts R} where
   RaisesAbove (Over o) new r =
       (beside : KeptBeside) (n : Node) (note : GroupNode) → n.group ≡ Some note → n.state ≡ IsDown → n.phase ≡ Quiet → SiteStands beside n (Over o) → SiteNoted n note (Over o) → RaisedOver beside n note o new r
   RaisesAbove old new r = Unit {0}
+
+  -- ---- a site whose group had none, or whose disks were none
+
+  -- what was found of one over its group, of which nothing was known
+  pub record PlainFound (beside : KeptBeside) (n : Node) (note : GroupNode) (p : OverSet R g) : Type 0 where
+    pub laid : Laid R g
+    pub middle : GroupNode
+    pub over : FoundOver beside n middle (burned n.fuse) laid p
+    pub less : KnowsLess note over.next (site_in p)
+
+  -- so it is where a group without one came up with one; of other disks nothing is said here
+  abbrev pub FindsOver : KeptBeside → Node → GroupNode → (old new : DiskSet R g) → Type 0
+  FindsOver beside n note (OfGroup s) (Over p) = PlainFound beside n note p
+  FindsOver beside n note old new = Unit {0}
