@@ -9,7 +9,7 @@ use Rattle.vx_events.specs.Fails.{Fails}
 use Rattle.vx_settling.proofs.NoGroups.{no_open, step_none, step_stays}
 use Rattle.vx_yard.specs.Lines.{script_line}
 use Rattle.vx_yard.specs.Steps.{SaidStep}
-use Rattle.vx_cli.specs.Complete.{MakesNone, NoneMakesGroups, StopsOpen}
+use Rattle.vx_cli.specs.Complete.{MakesNoGroups, NoneMakesGroups, StopsOpen}
 use Rattle.vx_cli.specs.Runs.{RunsLines}
 use Rattle.vx_cli.specs.declared.status.Status.{Status}
 
@@ -18,7 +18,7 @@ record Stands (d : Doubted) : Type 0 where
   notes : NotesNone d
   calm : d.strayed ≡ false
 
-said_stands : (files : Bool) (d : Doubted) (r : Result (Option ScriptLine) ℕ) (fails : Fails) (text : List ℕ) (new : Doubted) → Stands d → MakesNone r
+said_stands : (files : Bool) (d : Doubted) (r : Result (Option ScriptLine) ℕ) (fails : Fails) (text : List ℕ) (new : Doubted) → Stands d → MakesNoGroups r
     → SaidStep (Unit {0}) files d r fails text new → Stands new
 said_stands files d (Ok None) fails text new s makes step = subst Stands (sym step.2) s
 said_stands files d (Ok (Some words)) fails text new s makes step = record {

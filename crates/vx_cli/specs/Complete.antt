@@ -76,14 +76,14 @@ pub record StopsOpen (told : Type 0) (files : Bool) (status : Status) (lines : L
   pub is : status ≡ BadLine (length before + 1) 1
 
 -- a line that was read makes no group of disks and no replicated volume group
-abbrev pub MakesNone : Result (Option ScriptLine) ℕ → Type 0
-MakesNone (Ok (Some words)) = MakesNoGroup words × MakesNoRvg words
-MakesNone other = Unit {0}
+abbrev pub MakesNoGroups : Result (Option ScriptLine) ℕ → Type 0
+MakesNoGroups (Ok (Some words)) = MakesNoGroup words × MakesNoRvg words
+MakesNoGroups other = Unit {0}
 
 -- nor does any of these
 abbrev pub NoneMakesGroups : List (List ℕ) → Type 0
 NoneMakesGroups [] = Unit {0}
-NoneMakesGroups (line ∷ lines) = MakesNone (script_line line) × NoneMakesGroups lines
+NoneMakesGroups (line ∷ lines) = MakesNoGroups (script_line line) × NoneMakesGroups lines
 
 -- a count that did not rise, and that does not stand at its greatest value
 pub record IsStillCount (before now : ℕ) : Type 0 where
