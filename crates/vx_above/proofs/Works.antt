@@ -64,6 +64,19 @@ module _ {R : Type 0} {g : Ghosts R} where
       let there = get_there new.disk_sets.items s (omega (arith, below, stands.disk_sets.few, stands.disk_sets.eight)) in
       over_plain (beside_of next s) (next.world.nodes s) there.0 (stands.disk_sets.sites s there.0 below there.1) over
 
+  -- a line that works on a group, and found none
+  pub beside_over : (d : Doubted) (line : ScriptLine) (old new : Yard R g) (r : Result Said OutOfMemory) → is_for_group d.world line ≡ true → LeadsOverOrStops d line old new r → LeadsBesideIs d line old new r
+  beside_over d line old new (Ok said) over leads = record {
+    next = leads.next;
+    fails = leads.fails;
+    works = AsBefore (works_told (λ (t : told_for (IsTold new) d line). told_less (IsTold new) d (is_of_links line) t) (is_for_group d.world line) d line leads.fails said leads.next
+        (subst (λ (b : Bool). WorksOver b (IsTold new) d line leads.fails said leads.next) (sym over) leads.done)) (found_plain line (group_place d.world line) leads.next new leads.stands);
+    stands = leads.stands;
+    carries = leads.carries;
+    rose = leads.rose;
+  }
+  beside_over d line old new (Err e) over stops = stops_full d line old new stops
+
   -- a line for which memory was short before it began
   pub works_short : (d : Doubted) (line : ScriptLine) (old new : Yard R g) (r : Result Said OutOfMemory) (e : OutOfMemory) → r ≡ Err e → LeadsIs d line old new r → WorksIs d line old new r
   works_short d line old new (Ok said) e is leads = absurd (cc)

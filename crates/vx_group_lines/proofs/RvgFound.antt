@@ -174,7 +174,7 @@ knows_nothing told tells note lit less =
 
 module _ {R : Type 0} {g : Ghosts R} where
   -- a replicated volume group that came up over a group of disks of which nothing was known
-  pub record FoundUp (beside : KeptBeside) (n : Node) (lit : Fuse) (p : OverSet R g) : Type 0 where
+  pub record FoundHere (beside : KeptBeside) (n : Node) (lit : Fuse) (p : OverSet R g) : Type 0 where
     pub next : GroupNode
     pub now : Config
     pub units : Units
@@ -191,7 +191,7 @@ module _ {R : Type 0} {g : Ghosts R} where
     pub stands : SiteStands beside node (Over p)
 
   -- as the disk set says it
-  pub found_up : (beside : KeptBeside) (n : Node) (middle : GroupNode) (lit : Fuse) (laid : Laid R g) (p : OverSet R g) → FoundOver beside n middle lit laid p → FoundUp beside n lit p
+  pub found_up : (beside : KeptBeside) (n : Node) (middle : GroupNode) (lit : Fuse) (laid : Laid R g) (p : OverSet R g) → FoundOver beside n middle lit laid p → FoundHere beside n lit p
   found_up beside n middle lit laid p it = record {
     next = it.next;
     now = it.now;
@@ -210,7 +210,7 @@ module _ {R : Type 0} {g : Ghosts R} where
   }
 
   -- and behind calls on its disks
-  pub found_worked : (beside : KeptBeside) (n : Node) (lit : Fuse) (p q : OverSet R g) (it : FoundUp beside n lit p) → SiteStands beside (worked it.node) (Over q) → SiteNoted (worked it.node) it.next (Over q) → FoundUp beside n (burned lit) q
+  pub found_worked : (beside : KeptBeside) (n : Node) (lit : Fuse) (p q : OverSet R g) (it : FoundHere beside n lit p) → SiteStands beside (worked it.node) (Over q) → SiteNoted (worked it.node) it.next (Over q) → FoundHere beside n (burned lit) q
   found_worked beside n lit p q it stands noted = record {
     next = it.next;
     now = it.now;
@@ -238,21 +238,25 @@ module _ {R : Type 0} {g : Ghosts R} where
     stands = stands;
   }
 
-  -- What the line is done from: the yard stands for the world in which the site rests, and the call brought this up.
-  pub record FoundCall (d : Doubted) (line : ScriptLine) (s kept : ℕ) (taken : Bool) (old new : Yard R g) (before : DiskSet R g) (p : OverSet R g) (lit : Fuse) : Type 0 where
-    pub stands : StandsFor (rests_as d s kept taken) old
-    pub fits : LinksFit (rests_world d s kept taken)
-    pub below : s < (rests_as d s kept taken).world.sites
-    pub sure : (rests_as d s kept taken).after s ≡ None
-    pub links : header_links (rests_as d s kept taken).world s ≡ []
-    pub group : ((rests_as d s kept taken).world.nodes s).group ≡ (d.world.nodes s).group
+  -- What the line is done from: the yard stands for the world b in which the site rests, of which h is the same but for the disks that are made to fail, and the call
+  -- brought this up.
+  pub record FoundIn (d b h : Doubted) (line : ScriptLine) (s : ℕ) (old new : Yard R g) (before : DiskSet R g) (p : OverSet R g) (lit : Fuse) : Type 0 where
+    pub stands : StandsFor b old
+    pub fits : LinksFit h
+    pub below : s < b.world.sites
+    pub sure : b.after s ≡ None
+    pub links : header_links b.world s ≡ []
+    pub group : (b.world.nodes s).group ≡ (d.world.nodes s).group
     pub changed : Changed old new s before (Over p)
     pub failing : SameFailing before (Over p)
     pub brings : BringsUp line
-    pub over : FoundUp (beside_of (rests_as d s kept taken) s) ((rests_as d s kept taken).world.nodes s) lit p
-    pub less : KnowsLess (note_at ((rests_as d s kept taken).world.nodes s)) over.next (site_in p)
-    pub lit_is : lit_by line ((rests_as d s kept taken).world.nodes s).fuse ≡ lit
+    pub over : FoundHere (beside_of b s) (b.world.nodes s) lit p
+    pub less : KnowsLess (note_at (b.world.nodes s)) over.next (site_in p)
+    pub lit_is : lit_by line (b.world.nodes s).fuse ≡ lit
     pub fused : FusedAs over.node (Over p)
+
+  abbrev pub FoundCall : Doubted → ScriptLine → (s kept : ℕ) → (taken : Bool) → Yard R g → Yard R g → DiskSet R g → OverSet R g → Fuse → Type 0
+  FoundCall d line s kept taken old new before p lit = FoundIn d (rests_as d s kept taken) (rests_world d s kept taken) line s old new before p lit
 
   -- what it leads to
   pub record FoundLeads (d : Doubted) (line : ScriptLine) (s kept : ℕ) (taken : Bool) (said : Said) (old new : Yard R g) : Type 0 where
