@@ -1,5 +1,5 @@
 -- How a line that settles a link ends, by how its parts went.
-use Rattle.std.proofs.Common.{◌≡◌, ◌∙◌, ◌⊎◌, ⊎_elim, ◌<◌, ◌≤◌, ◌++◌, ℕ, List, [], ◌∷◌, Bool, true, false, ap, sym, subst, refl, arith}
+use Rattle.std.proofs.Common.{◌≡◌, ◌∙◌, ◌⊎◌, ⊎_elim, inl, inr, ◌<◌, ◌≤◌, ◌++◌, ℕ, List, [], ◌∷◌, Bool, true, false, ap, sym, subst, refl, arith}
 use Rattle.std.specs.Prelude.{eqb, if◌then◌else◌}
 use Rattle.vx_model.specs.Sites.{is_origin}
 use Rattle.vx_model.specs.declared.no.No.{No}
@@ -23,15 +23,15 @@ use Rattle.vx_settling.proofs.Stopping.{runs_then, settle_part}
 use Rattle.vx_settling.proofs.Working.{line_done, line_stopped}
 use Rattle.vx_settling.specs.Burnt.{noted_as}
 use Rattle.vx_settling.specs.Kinds.{AreSettling}
-use Rattle.vx_settling.specs.Works.{Shortens, SettleWorks}
+use Rattle.vx_settling.specs.Works.{CalmTold, Shortens, SettleWorks}
 use Rattle.vx_yard.specs.Carries.{Carries}
 use Rattle.vx_node.specs.Settling.{EndedFor, NotedFor, OnFor, ShortFor}
 use Rattle.vx_yard.specs.Standing.{Leads, StandsFor, StopsFor}
-use Rattle.vx_yard.specs.Stands.{RoseAll}
+use Rattle.vx_yard.specs.Stands.{AreTold, RoseAll}
 use Rattle.vx_yard.specs.Yards.{IsTold, count_of}
 use Rattle.vx_yard.specs.declared.yard.Yard.{Yard}
 use Rattle.vx_yard.proofs.Carrying.{Feeds, carries_on, feeds_like, feeds_same}
-use Rattle.vx_link_lines.proofs.Deaf.{all_told}
+use Rattle.vx_link_lines.proofs.Deaf.{all_calm}
 use Rattle.vx_link_lines.proofs.NotedYard.{stands_noted}
 use Rattle.vx_yard.proofs.RecoverLine.{rose_then}
 
@@ -67,6 +67,14 @@ module _ {R : Type 0} {g : Ghosts R} where
       subst (λ (q : Doubted). Carries q y) (both_same a b d y n)
       (note_carries (record (noted_as n.fuses d) { world = worked_on (noted_as n.fuses d).world a }) y b (note_carries (noted_as n.fuses d) y a n.carries))
 
+  -- whether contents are told, and the world has not strayed
+  calm_known : (d : Doubted) (y : Yard R g) → CalmTold (IsTold y) d ⊎ (CalmTold (IsTold y) d → ⊥)
+  calm_known d y = by (all_calm y.disk_sets.items d.strayed)
+    where
+      by : (AreTold y.disk_sets.items × (d.strayed ≡ false)) ⊎ (AreTold y.disk_sets.items → d.strayed ≡ false → ⊥) → CalmTold (IsTold y) d ⊎ (CalmTold (IsTold y) d → ⊥)
+      by (inl both) = inl both
+      by (inr untold) = inr (λ both. untold both.0 both.1)
+
   module _ (d : Doubted) (p s : List ℕ) (old new : Yard R g) where
     abbrev a : ℕ
     a = site_number d.world p
@@ -87,7 +95,7 @@ module _ {R : Type 0} {g : Ghosts R} where
           next = noted_two a b e;
           fails = [];
           done = record {
-            ends = line_done (IsTold new) (all_told new.disk_sets.items) d p s e (noted_two a b e) origin on.works stored (record { world = refl; after = λ i. refl; strayed = refl });
+            ends = line_done (IsTold new) d (calm_known d new) p s e (noted_two a b e) origin on.works stored (record { world = refl; after = λ i. refl; strayed = refl });
             counts = tt;
             works = tt;
             calls = tt;
@@ -106,7 +114,7 @@ module _ {R : Type 0} {g : Ghosts R} where
           next = noted_two a b e;
           fails = end.fails;
           done = record {
-            ends = line_stopped (IsTold new) (all_told new.disk_sets.items) d p s end.fails (Refused why) e (noted_two a b e) end.stops (record { world = refl; after = λ i. refl; strayed = refl });
+            ends = line_stopped (IsTold new) d (calm_known d new) p s end.fails (Refused why) e (noted_two a b e) end.stops (record { world = refl; after = λ i. refl; strayed = refl });
             counts = tt;
             works = tt;
             calls = tt;
@@ -118,21 +126,21 @@ module _ {R : Type 0} {g : Ghosts R} where
 
     -- memory ran out behind the first event
     module _ (x : Event) (rest : List Event) (m : Doubted) (mid : Yard R g) where
-      short_so : (IsTold new → link_events d.world (Settle p s) ≡ x ∷ rest) → SettleWorks (IsTold new) (site_number d.world p) (site_number d.world s) d (x ∷ []) m → (last : Doubted) → Shortens (IsTold new) (site_number d.world p) (site_number d.world s) m rest last
+      short_so : (CalmTold (IsTold new) d → link_events d.world (Settle p s) ≡ x ∷ rest) → SettleWorks (CalmTold (IsTold new) d) (site_number d.world p) (site_number d.world s) d (x ∷ []) m → (last : Doubted) → Shortens (CalmTold (IsTold new) m) (site_number d.world p) (site_number d.world s) m rest last
           → StopsShort (IsTold new) d (Settle p s) (noted_two (site_number d.world p) (site_number d.world s) last)
       short_so split one last short = ⊎_elim
-          (λ (tells : IsTold new).
-          let first = short.exact tells in
+          (λ (tells : CalmTold (IsTold new) d).
+          let first = short.exact (tells.0, one.moves.strayed ∙ tells.1) in
           let runs = runs_then d m last (x ∷ []) first.before (one.exact tells) first.runs in
           let more : link_events d.world (Settle p s) ≡ (x ∷ first.before) ++ first.rest = split tells ∙ ap (λ (es : List Event). x ∷ es) first.split in
           let are = are_parts (x ∷ first.before) first.rest (subst AreSettling more (are_all d.world (site_number d.world p) (site_number d.world s))) in
           let same = runs_only d last (x ∷ first.before) are.0 runs ∙ sym (run_is d (x ∷ first.before) are.0) in
           StopsInPart (settle_part d p s (x ∷ first.before) first.rest (noted_two a b last) more (subst (λ (q : Doubted). AreLeft (Settle p s) d q (noted_two a b last)) same (record { world = refl; after = λ i. refl; strayed = refl }))))
-          (λ (untold : IsTold new → ⊥).
-          line_short (IsTold new) d last p s (passes_then a b d m last one.moves short.moves) (noted_two a b last) untold (record { world = refl; after = λ i. refl; strayed = refl }))
-          (all_told new.disk_sets.items)
+          (λ (untold : CalmTold (IsTold new) d → ⊥).
+          line_short (IsTold new) d last p s (passes_then a b d m last one.moves short.moves) (noted_two a b last) (λ tells calm. untold (tells, calm)) (record { world = refl; after = λ i. refl; strayed = refl }))
+          (calm_known d new)
 
-      pub settle_short : (IsTold new → link_events d.world (Settle p s) ≡ x ∷ rest) → SettleWorks (IsTold new) (site_number d.world p) (site_number d.world s) d (x ∷ []) m → RoseAll [] (count_of old) (count_of mid)
+      pub settle_short : (CalmTold (IsTold new) d → link_events d.world (Settle p s) ≡ x ∷ rest) → SettleWorks (CalmTold (IsTold new) d) (site_number d.world p) (site_number d.world s) d (x ∷ []) m → RoseAll [] (count_of old) (count_of mid)
           → site_number d.world p < d.world.sites → site_number d.world s < d.world.sites → ShortFor (site_number d.world p) (site_number d.world s) m rest mid new → StopsFor d (Settle p s) old new
       settle_short split one rose first second short =
           let e : Doubted = short.last in

@@ -16,6 +16,7 @@ use Rattle.vx_order.specs.declared.facts.SiteFacts.{SiteFacts}
 use Rattle.vx_events.proofs.LinkSettling.{settle_agrees}
 use Rattle.vx_events.proofs.Parts.{none_done}
 use Rattle.vx_events.proofs.Places.{some_same}
+use Rattle.vx_events.proofs.Tolds.{done_told}
 use Rattle.vx_events.specs.Facts.{seat_of, site_number}
 use Rattle.vx_events.specs.Parts.{StopsInPart}
 use Rattle.vx_events.specs.RvgLinks.{links_rvg}
@@ -29,7 +30,7 @@ use Rattle.vx_settling.proofs.Burning.{burns_none}
 use Rattle.vx_settling.proofs.Moving.{may_move}
 use Rattle.vx_settling.proofs.WithinLines.{connect_goes, connect_says}
 use Rattle.vx_settling.specs.Burnt.{noted_as}
-use Rattle.vx_settling.specs.Works.{SettleWorks}
+use Rattle.vx_settling.specs.Works.{CalmTold, SettleWorks}
 use Rattle.vx_yard.specs.Carries.{Carries}
 use Rattle.vx_yard.specs.BothSites.{BothSites, SettleBurns}
 use Rattle.vx_yard.specs.OfSites.{AllSameFailing}
@@ -77,9 +78,10 @@ module _ {R : Type 0} {g : Ghosts R} where
       → Leads (noted_as serves.noted.fuses d) (Connect first second) said old mid → OnFor first second a b d (ConnectAt a b ∷ []) old mid
   connected d old mid first second a b said serves told asked calls leads =
       let n = serves.noted in
-      let is : said ≡ Done = connect_says (IsTold mid) a b d serves.may n.fuses n.burns n.stands.links first second leads.fails said leads.next serves.from serves.to leads.done.ends in
+      let is : said ≡ Done = connect_says (CalmTold (IsTold mid) d) a b d (λ t. t.1) serves.may n.fuses n.burns n.stands.links first second leads.fails said leads.next serves.from serves.to
+      (done_told (λ (t : CalmTold (IsTold mid) d). t.0) (noted_as n.fuses d) (Connect first second) leads.fails said leads.next leads.done).ends in
       step_went first second a b d (ConnectAt a b ∷ []) old mid serves told asked (Connect first second)
-      (λ fails x e done. connect_goes (IsTold mid) a b d serves.may n.fuses n.burns n.stands.links first second fails x e serves.from serves.to done.ends) (Ok Done)
+      (λ fails x e done. connect_goes (CalmTold (IsTold mid) d) a b d (λ t. t.1) serves.may n.fuses n.burns n.stands.links first second fails x e serves.from serves.to done.ends) (Ok Done)
       (subst (λ (x : Said). Leads (noted_as n.fuses d) (Connect first second) x old mid) is leads) calls
 
   -- nothing of the line was done
@@ -109,13 +111,13 @@ module _ {R : Type 0} {g : Ghosts R} where
       (λ end here there. settle_ended d first second old new why end here there))
 
   short_at : (d : Doubted) (old mid new : Yard R g) (first second : List ℕ) (i j : ℕ) → site_number d.world first ≡ i → site_number d.world second ≡ j → (x : Event) (rest : List Event) (m : Doubted)
-      → (IsTold new → settling d.world i j ≡ x ∷ rest) → SettleWorks (IsTold new) i j d (x ∷ []) m → RoseAll [] (count_of old) (count_of mid) → i < d.world.sites → j < d.world.sites → ShortFor i j m rest mid new → StopsFor d (Settle first second) old new
+      → (CalmTold (IsTold new) d → settling d.world i j ≡ x ∷ rest) → SettleWorks (CalmTold (IsTold new) d) i j d (x ∷ []) m → RoseAll [] (count_of old) (count_of mid) → i < d.world.sites → j < d.world.sites → ShortFor i j m rest mid new → StopsFor d (Settle first second) old new
   short_at d old mid new first second i j one two x rest m =
       subst
-      (λ (k : ℕ). (IsTold new → settling d.world k j ≡ x ∷ rest) → SettleWorks (IsTold new) k j d (x ∷ []) m → RoseAll [] (count_of old) (count_of mid) → k < d.world.sites → j < d.world.sites → ShortFor k j m rest mid new → StopsFor d (Settle first second) old new)
+      (λ (k : ℕ). (CalmTold (IsTold new) d → settling d.world k j ≡ x ∷ rest) → SettleWorks (CalmTold (IsTold new) d) k j d (x ∷ []) m → RoseAll [] (count_of old) (count_of mid) → k < d.world.sites → j < d.world.sites → ShortFor k j m rest mid new → StopsFor d (Settle first second) old new)
       one
       (subst
-      (λ (l : ℕ). (IsTold new → settling d.world (site_number d.world first) l ≡ x ∷ rest) → SettleWorks (IsTold new) (site_number d.world first) l d (x ∷ []) m → RoseAll [] (count_of old) (count_of mid) → site_number d.world first < d.world.sites
+      (λ (l : ℕ). (CalmTold (IsTold new) d → settling d.world (site_number d.world first) l ≡ x ∷ rest) → SettleWorks (CalmTold (IsTold new) d) (site_number d.world first) l d (x ∷ []) m → RoseAll [] (count_of old) (count_of mid) → site_number d.world first < d.world.sites
       → l < d.world.sites → ShortFor (site_number d.world first) l m rest mid new → StopsFor d (Settle first second) old new)
       two (λ split works rose here there short. settle_short d first second old new x rest m mid split works rose here there short))
 
@@ -127,9 +129,9 @@ module _ {R : Type 0} {g : Ghosts R} where
         let m = one.works.moves in
         omega (arith, sent, ap (λ (ps : List Packet). length ps) m.sent, length-append d.world.packets m.more)
 
-    all_is : IsTold new → (IsTold new → IsTold mid) → (ConnectAt a b ∷ []) ++ settled_on a b before head one.next.world ≡ settling d.world a b
+    all_is : CalmTold (IsTold new) d → (IsTold new → IsTold mid) → (ConnectAt a b ∷ []) ++ settled_on a b before head one.next.world ≡ settling d.world a b
     all_is tells told =
-        let m = world_is first second a b d (ConnectAt a b ∷ []) old mid (refl, tt) one (told tells) in
+        let m = world_is first second a b d (ConnectAt a b ∷ []) old mid (refl, tt) one (told tells.0, tells.1) in
         ap (λ (w : World). ConnectAt a b ∷ settled_on a b before head w) m
         ∙ ap (λ (k : ℕ). ConnectAt a b ∷ settled_on a b k head (step d.world (ConnectAt a b)).world) sent
         ∙ ap (λ (k : ℕ). ConnectAt a b ∷ settled_on a b (length d.world.packets) k (step d.world (ConnectAt a b)).world) durable
@@ -152,8 +154,8 @@ module _ {R : Type 0} {g : Ghosts R} where
     pub line_short : ShortFor a b one.next (settled_on a b before head one.next.world) mid new → StopsFor d (Settle first second) old new
     line_short short =
         let w = one.works in
-        let works : SettleWorks (IsTold new) a b d (ConnectAt a b ∷ []) one.next
-        = record { exact = λ tells. w.exact (short.told tells); moves = w.moves } in
+        let works : SettleWorks (CalmTold (IsTold new) d) a b d (ConnectAt a b ∷ []) one.next
+        = record { exact = λ tells. w.exact (short.told tells.0, tells.1); moves = w.moves } in
         short_at d old mid new first second a b serves.from serves.to (ConnectAt a b) (settled_on a b before head one.next.world) one.next (λ tells. sym (all_is tells short.told)) works one.rose serves.may.can.first serves.may.can.second short
 
     -- what is done may count as memory that ran out

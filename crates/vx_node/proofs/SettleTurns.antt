@@ -12,6 +12,7 @@ use Rattle.vx_history.specs.declared.event.Event.TheVariants.{Apply, Pump, Tick}
 use Rattle.vx_settling.proofs.Running.{are_both, are_deliveries, are_turn}
 use Rattle.vx_settling.proofs.Unfolding.{turn_is, turns_none, turns_on, turns_over}
 use Rattle.vx_settling.specs.Kinds.{AreSettling}
+use Rattle.vx_settling.specs.Works.{CalmTold}
 use Rattle.vx_settling.specs.Turning.{applying_all, greeting_if, sending_again}
 use Rattle.vx_node.specs.Settling.{OnFor, SettlesFor, ShortFor, WentFor}
 use Rattle.vx_yard.specs.Yards.{IsTold}
@@ -64,7 +65,7 @@ module _ {R : Type 0} {g : Ghosts R} (first second : List ℕ) (a b : ℕ) where
     pub events : List Event
     pub are : AreSettling events
     pub on : OnFor first second a b d events old new
-    pub rest : IsTold new → turns most d.world a b ≡ events ++ turns (most - past) on.next.world a b
+    pub rest : CalmTold (IsTold new) d → turns most d.world a b ≡ events ++ turns (most - past) on.next.world a b
 
   pub turns_begin : (d : Doubted) (most : ℕ) (y : Yard R g) → SettlesFor first second a b d y → TurnsFor d most 0 y y
   turns_begin d most y serves = record {
@@ -78,7 +79,7 @@ module _ {R : Type 0} {g : Ghosts R} (first second : List ℕ) (a b : ℕ) where
     abbrev w : World
     w = made.on.next.world
 
-    all_of : IsTold mid → turns most d.world a b ≡ made.events ++ turns (suc (most - suc past)) w a b
+    all_of : CalmTold (IsTold mid) d → turns most d.world a b ≡ made.events ++ turns (suc (most - suc past)) w a b
     all_of tells = let left : most - past ≡ suc (most - suc past) = omega (arith, low) in made.rest tells ∙ ap (λ (n : ℕ). made.events ++ turns n w a b) left
 
     -- all that is durable is stored
@@ -93,8 +94,8 @@ module _ {R : Type 0} {g : Ghosts R} (first second : List ℕ) (a b : ℕ) where
       are = are_both made.events (turn w a b) made.are (are_turn w a b);
       on = on_then first second a b d made.events (turn w a b) old mid new made.on one;
       rest = λ tells.
-          turns_on w a b (turns most d.world a b) made.events (most - suc past) short (all_of (one.told tells))
-          ∙ ap (λ (v : World). (made.events ++ turn w a b) ++ turns (most - suc past) v a b) (sym (world_is first second a b made.on.next (turn w a b) mid new (are_turn w a b) one tells));
+          turns_on w a b (turns most d.world a b) made.events (most - suc past) short (all_of (one.told tells.0, tells.1))
+          ∙ ap (λ (v : World). (made.events ++ turn w a b) ++ turns (most - suc past) v a b) (sym (world_is first second a b made.on.next (turn w a b) mid new (are_turn w a b) one (tells.0, made.on.works.moves.strayed ∙ tells.1)));
     })
 
     -- it ended in one
@@ -104,7 +105,7 @@ module _ {R : Type 0} {g : Ghosts R} (first second : List ℕ) (a b : ℕ) where
         went_as first second a b d (made.events ++ (turn w a b ++ rest)) (turns most d.world a b) old new r
         (λ tells.
         sym (append_assoc made.events (turn w a b) rest)
-        ∙ sym (turns_on w a b (turns most d.world a b) made.events (most - suc past) short (all_of (went_told first second a b made.on.next (turn w a b) mid new r two tells))))
+        ∙ sym (turns_on w a b (turns most d.world a b) made.events (most - suc past) short (all_of (went_told first second a b made.on.next (turn w a b) mid new r two tells.0, tells.1))))
         (went_then first second a b d made.events (turn w a b ++ rest) old mid new r made.are made.on (went_more first second a b made.on.next (turn w a b) rest mid new r not two))
 
   -- no turn is left

@@ -7,6 +7,7 @@ use Rattle.vx_history.specs.World.{World}
 use Rattle.vx_history.specs.declared.event.Event.{Event}
 use Rattle.vx_settling.proofs.Running.{runs_only}
 use Rattle.vx_settling.specs.Kinds.{AreSettling}
+use Rattle.vx_settling.specs.Works.{CalmTold}
 use Rattle.vx_node.specs.Settling.{OnFor, WentFor}
 use Rattle.vx_yard.specs.Yards.{IsTold}
 use Rattle.vx_node.specs.declared.going.Went.{Went}
@@ -22,7 +23,7 @@ module _ {R : Type 0} {g : Ghosts R} (first second : List ℕ) (a b : ℕ) where
   went_told d xs old new Short w = w.told
 
   -- where contents are told, the world behind events that are done is what they make of it
-  pub world_is : (d : Doubted) (xs : List Event) (old new : Yard R g) → AreSettling xs → (one : OnFor first second a b d xs old new) → IsTold new → one.next.world ≡ run d.world xs
+  pub world_is : (d : Doubted) (xs : List Event) (old new : Yard R g) → AreSettling xs → (one : OnFor first second a b d xs old new) → CalmTold (IsTold new) d → one.next.world ≡ run d.world xs
   world_is d xs old new are one tells = ap (λ (e : Doubted). e.world) (runs_only d one.next xs are (one.works.exact tells))
 
   -- the later part goes by the world behind the earlier one
@@ -30,5 +31,5 @@ module _ {R : Type 0} {g : Ghosts R} (first second : List ℕ) (a b : ℕ) where
       → WentFor first second a b one.next (later one.next.world) mid new r → WentFor first second a b d (xs ++ later (run d.world xs)) old new r
   went_on d xs later old mid new r are one two =
       went_as first second a b d (xs ++ later one.next.world) (xs ++ later (run d.world xs)) old new r
-      (λ tells. ap (λ (w : World). xs ++ later w) (world_is d xs old mid are one (went_told one.next (later one.next.world) mid new r two tells)))
+      (λ tells. ap (λ (w : World). xs ++ later w) (world_is d xs old mid are one (went_told one.next (later one.next.world) mid new r two tells.0, tells.1)))
       (went_then first second a b d xs (later one.next.world) old mid new r are one two)

@@ -14,7 +14,7 @@ use Rattle.vx_events.specs.RvgViews.{is_over_rvg}
 use Rattle.vx_events.specs.declared.said.Said.{Said}
 use Rattle.vx_events.specs.declared.said.Said.TheVariants.{Done, Refused, Settled}
 use Rattle.vx_settling.specs.Between.{MayMove}
-use Rattle.vx_settling.specs.Works.{Shortens, SettleStops, SettleWorks}
+use Rattle.vx_settling.specs.Works.{CalmTold, Shortens, SettleStops, SettleWorks}
 use Rattle.vx_yard.specs.Carries.{Carries}
 use Rattle.vx_settling.specs.Burnt.{MayBurn, noted_as}
 use Rattle.vx_yard.specs.BothSites.{BothSites, SettleBurns}
@@ -71,7 +71,7 @@ module _ {R : Type 0} {g : Ghosts R} where
   -- these events are done
   pub record OnFor (first second : List ℕ) (a b : ℕ) (d : Doubted) (events : List Event) (old new : Yard R g) : Type 0 where
     pub next : Doubted
-    pub works : SettleWorks (IsTold new) a b d events next
+    pub works : SettleWorks (CalmTold (IsTold new) d) a b d events next
     pub serves : SettlesFor first second a b next new
     pub told : IsTold new → IsTold old
     pub asked : AllSameFailing old new
@@ -82,7 +82,7 @@ module _ {R : Type 0} {g : Ghosts R} where
   pub record EndedFor (a b : ℕ) (d : Doubted) (events : List Event) (why : No) (old new : Yard R g) : Type 0 where
     pub last : Doubted
     pub fails : Fails
-    pub stops : SettleStops (IsTold new) a b d events fails (Refused why) last
+    pub stops : SettleStops (CalmTold (IsTold new) d) a b d events fails (Refused why) last
     pub sites : last.world.sites ≡ d.world.sites
     pub noted : NotedFor a b last new
     pub told : IsTold new → IsTold old
@@ -93,7 +93,7 @@ module _ {R : Type 0} {g : Ghosts R} where
   -- memory ran out in them
   pub record ShortFor (a b : ℕ) (d : Doubted) (events : List Event) (old new : Yard R g) : Type 0 where
     pub last : Doubted
-    pub short : Shortens (IsTold new) a b d events last
+    pub short : Shortens (CalmTold (IsTold new) d) a b d events last
     pub noted : NotedFor a b last new
     pub told : IsTold new → IsTold old
     pub asked : AllSameFailing old new

@@ -5,6 +5,7 @@ use Rattle.vx_history.specs.declared.event.Event.TheVariants.{Apply as ApplyAt}
 use Rattle.vx_script.specs.declared.line.ScriptLine.TheVariants.{Apply}
 use Rattle.vx_settling.proofs.WithinApply.{apply_goes}
 use Rattle.vx_settling.specs.Burnt.{noted_as}
+use Rattle.vx_settling.specs.Works.{CalmTold}
 use Rattle.vx_settling.proofs.WithinOne.{number_burnt}
 use Rattle.vx_node.specs.Settling.{WentFor, went_of}
 use Rattle.vx_yard.specs.Yards.{IsTold}
@@ -43,6 +44,6 @@ returns-clause-went g c = λ d a b serves.
     subst (λ (w : Went). WentFor c.args.first.now c.args.second.now a b d (ApplyAt b (length (d.world.nodes b).log - (d.world.nodes b).safe) 0 ∷ []) y new w) (sym c.answered.ensures)
     (subst (λ (k : ℕ). WentFor c.args.first.now c.args.second.now a b d (ApplyAt b k 0 ∷ []) y new (went_of c.apply_line.result)) count
     (step_went c.args.first.now c.args.second.now a b d (ApplyAt b c.in-Some.count 0 ∷ []) y new serves c.apply_line.ensures.told (all_of_site _ y new (c.apply_line.ensures.asked (noted_as n.fuses d) n.stands off)) (Apply c.args.second.now c.in-Some.count)
-    (λ fails said e done. apply_goes (IsTold new) a b d serves.may (ap is_origin serves.may.can.secondary) n.fuses n.burns n.stands.links c.args.second.now c.in-Some.count fails said e serves.to done.ends)
+    (λ fails said e done. apply_goes (CalmTold (IsTold new) d) a b d serves.may (ap is_origin serves.may.can.secondary) n.fuses n.burns n.stands.links c.args.second.now c.in-Some.count fails said e serves.to done.ends)
     c.apply_line.result (c.apply_line.ensures.leads (noted_as n.fuses d) n.stands off n.carries)
     (second_at c.args.first.now c.args.second.now a b d y new serves _ c.apply_line.result (number_burnt n.fuses d.world c.args.second.now ∙ serves.to) (c.apply_line.ensures.called (noted_as n.fuses d) n.stands off))))

@@ -4,6 +4,7 @@ use Rattle.vx_history.specs.declared.event.Event.TheVariants.{Connect as Connect
 use Rattle.vx_script.specs.declared.line.ScriptLine.TheVariants.{Connect}
 use Rattle.vx_settling.proofs.WithinLines.{connect_goes}
 use Rattle.vx_settling.specs.Burnt.{noted_as}
+use Rattle.vx_settling.specs.Works.{CalmTold}
 use Rattle.vx_node.specs.Settling.{WentFor}
 use Rattle.vx_yard.specs.Yards.{IsTold}
 use Rattle.vx_node.specs.declared.going.Went.{Went}
@@ -30,7 +31,7 @@ returns-clause-went g c = λ d a b serves.
     let n = serves.noted in
     subst (λ (w : Went). WentFor c.args.first.now c.args.second.now a b d (ConnectAt a b ∷ []) y new w) (sym c.answered.ensures)
     (step_went c.args.first.now c.args.second.now a b d (ConnectAt a b ∷ []) y new serves (told_same y new (ap (λ es. es.items) c.connect_line.ensures.still)) (all_still y new (ap (λ es. es.items) c.connect_line.ensures.still)) (Connect c.args.first.now c.args.second.now)
-    (λ fails said e done. connect_goes (IsTold new) a b d serves.may n.fuses n.burns n.stands.links c.args.first.now c.args.second.now fails said e serves.from serves.to done.ends)
+    (λ fails said e done. connect_goes (CalmTold (IsTold new) d) a b d (λ t. t.1) serves.may n.fuses n.burns n.stands.links c.args.first.now c.args.second.now fails said e serves.from serves.to done.ends)
     c.connect_line.result (c.connect_line.ensures.leads (noted_as n.fuses d) n.stands n.carries)
     (done_at c.args.first.now c.args.second.now a b d y new serves c.connect_line.result c.connect_line.ensures.done (ap (λ es. es.items) c.connect_line.ensures.still)))
 

@@ -4,6 +4,7 @@ use Rattle.vx_history.specs.declared.event.Event.TheVariants.{Deliver as Deliver
 use Rattle.vx_script.specs.declared.line.ScriptLine.TheVariants.{Deliver}
 use Rattle.vx_settling.proofs.WithinLines.{deliver_goes}
 use Rattle.vx_settling.specs.Burnt.{noted_as}
+use Rattle.vx_settling.specs.Works.{CalmTold}
 use Rattle.vx_node.specs.Settling.{WentFor}
 use Rattle.vx_yard.specs.Yards.{IsTold}
 use Rattle.vx_node.specs.declared.going.Went.{Went}
@@ -32,6 +33,6 @@ returns-clause-went g c = λ d a b q serves at sent between.
     let off = packet_raw c.args.first.now c.args.second.now a b d y serves c.args.number q at sent between in
     subst (λ (w : Went). WentFor c.args.first.now c.args.second.now a b d (DeliverAt c.args.number ∷ []) y new w) (sym c.answered.ensures)
     (step_went c.args.first.now c.args.second.now a b d (DeliverAt c.args.number ∷ []) y new serves c.deliver_line.ensures.told (c.deliver_line.ensures.asked (noted_as n.fuses d) n.stands off) (Deliver c.args.number)
-    (λ fails said e done. deliver_goes (IsTold new) a b d serves.may n.fuses n.burns n.stands.links c.args.number q fails said e at sent between done.ends)
+    (λ fails said e done. deliver_goes (CalmTold (IsTold new) d) a b d (λ t. t.1) serves.may n.fuses n.burns n.stands.links c.args.number q fails said e at sent between done.ends)
     c.deliver_line.result (c.deliver_line.ensures.leads (noted_as n.fuses d) n.stands off n.carries (good_noted n.fuses d y serves.good))
     (packet_at_one c.args.first.now c.args.second.now a b d y new serves c.args.number q c.deliver_line.result at sent between (c.deliver_line.ensures.called (noted_as n.fuses d) n.stands off n.carries)))

@@ -5,6 +5,7 @@ use Rattle.vx_script.specs.declared.line.ScriptLine.TheVariants.{Pump}
 use Rattle.vx_settling.proofs.WithinLines.{pump_goes}
 use Rattle.vx_settling.proofs.WithinOne.{number_burnt}
 use Rattle.vx_settling.specs.Burnt.{noted_as}
+use Rattle.vx_settling.specs.Works.{CalmTold}
 use Rattle.vx_node.specs.Settling.{WentFor}
 use Rattle.vx_yard.specs.Yards.{IsTold}
 use Rattle.vx_node.specs.declared.going.Went.{Went}
@@ -33,6 +34,6 @@ returns-clause-went g c = λ d a b serves.
     let off = pump_raw c.args.first.now c.args.second.now a b d y serves in
     subst (λ (w : Went). WentFor c.args.first.now c.args.second.now a b d (PumpAt a b ∷ []) y new w) (sym c.answered.ensures)
     (step_went c.args.first.now c.args.second.now a b d (PumpAt a b ∷ []) y new serves c.pump_line.ensures.told (all_alone _ y new (c.pump_line.ensures.asked (noted_as n.fuses d) n.stands)) (Pump c.args.first.now c.args.second.now)
-    (λ fails said e done. pump_goes (IsTold new) a b d serves.may n.fuses n.burns n.stands.links c.args.first.now c.args.second.now fails said e serves.from serves.to done.ends)
+    (λ fails said e done. pump_goes (CalmTold (IsTold new) d) a b d (λ t. t.1) serves.may n.fuses n.burns n.stands.links c.args.first.now c.args.second.now fails said e serves.from serves.to done.ends)
     c.pump_line.result (c.pump_line.ensures.leads (noted_as n.fuses d) n.stands off n.carries)
     (first_at c.args.first.now c.args.second.now a b d y new serves _ c.pump_line.result (number_burnt n.fuses d.world c.args.first.now ∙ serves.from) (c.pump_line.ensures.called (noted_as n.fuses d) n.stands off)))

@@ -5,6 +5,7 @@ use Rattle.vx_history.specs.declared.event.Event.TheVariants.{Tick as TickAt}
 use Rattle.vx_script.specs.declared.line.ScriptLine.TheVariants.{Tick}
 use Rattle.vx_settling.proofs.WithinLines.{tick_goes}
 use Rattle.vx_settling.specs.Burnt.{noted_as}
+use Rattle.vx_settling.specs.Works.{CalmTold}
 use Rattle.vx_node.specs.Settling.{WentFor}
 use Rattle.vx_yard.specs.Yards.{IsTold}
 use Rattle.vx_node.specs.declared.going.Went.{Went}
@@ -28,7 +29,7 @@ returns-clause-went g c = λ d a b serves.
     let n = serves.noted in
     subst (λ (w : Went). WentFor c.args.first.now c.args.second.now a b d (TickAt a b ∷ []) y new w) (sym c.answered.ensures)
     (step_went c.args.first.now c.args.second.now a b d (TickAt a b ∷ []) y new serves (told_same y new (ap (λ es. es.items) c.tick_line.ensures.still)) (all_still y new (ap (λ es. es.items) c.tick_line.ensures.still)) (Tick c.args.first.now c.args.second.now)
-    (λ fails said e done. tick_goes (IsTold new) a b d serves.may n.fuses n.burns n.stands.links c.args.first.now c.args.second.now fails said e serves.from serves.to done.ends)
+    (λ fails said e done. tick_goes (CalmTold (IsTold new) d) a b d (λ t. t.1) serves.may n.fuses n.burns n.stands.links c.args.first.now c.args.second.now fails said e serves.from serves.to done.ends)
     (Ok c.tick_line.result) (c.tick_line.ensures.leads (noted_as n.fuses d) n.stands n.carries)
     (done_at c.args.first.now c.args.second.now a b d y new serves (Ok c.tick_line.result) c.tick_line.ensures.done (ap (λ es. es.items) c.tick_line.ensures.still)))
 
