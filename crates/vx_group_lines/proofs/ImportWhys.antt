@@ -133,7 +133,7 @@ same_disks (Some o) None P it = absurd it
 same_disks (Some o) (Some n) P it = refl
 
 module _ {R : Type 0} {g : Ghosts R} where
-  imported_disks : (e : GroupSite R g) → (as_imported e).disks ≡ (site_disks e).disks
+  pub imported_disks : (e : GroupSite R g) → (as_imported e).disks ≡ (site_disks e).disks
   imported_disks (SiteUp group) = refl
   imported_disks (SiteAway idle) = ready_disks g.meaning idle.agreed idle.rack
   imported_disks (SiteDown idle) = ready_disks g.meaning idle.agreed idle.rack

@@ -52,3 +52,4 @@ pub mod RvgComing
 pub mod RvgWorlds
 pub mod RvgReturns
 pub mod RvgFound
+pub mod ImportBeside

@@ -165,8 +165,7 @@ module _ {R : Type 0} {g : Ghosts R} (d : Doubted) (old new : Yard R g) (name sr
       here_named : IsNamed k
       here_named =
           let noted : config_of gained.config ≡ Some (at_serial 0 sits.config) = notes_config gained sits.config sits.noted in
-          let it = has (at_serial 0 sits.config) noted in
-          (
+          let it = has (at_serial 0 sits.config) noted in (
             at_serial 0 sits.config,
             fits_here.0,
             noted,

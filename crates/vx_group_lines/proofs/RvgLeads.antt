@@ -117,8 +117,7 @@ module _ {R : Type 0} {g : Ghosts R} (d : Doubted) (old new : Yard R g) (name sr
 
     units_so : (c : Config) → config_of (note_gained units settled).config ≡ Some c → (c.rvg ≡ Some units) × HasUnits c.volumes units
     units_so c is =
-        let same : notes.moves.now ≡ c = some_same (sym (ap (λ (x : GroupNode). config_of x.config) notes.is ∙ notes.moves.is) ∙ is) in
-        (
+        let same : notes.moves.now ≡ c = some_same (sym (ap (λ (x : GroupNode). config_of x.config) notes.is ∙ notes.moves.is) ∙ is) in (
           ap (λ (x : Config). x.rvg) (sym same) ∙ notes.moves.change.rvg,
           subst (λ (x : Config). HasUnits x.volumes units) same (gained_units (IsTold new) s fails units note middle (note_gained units settled) notes at.may.has),
         )

@@ -65,8 +65,7 @@ rose_between a x y z low it high = record {
 -- the data volumes of a site are those of another note as well that keeps the replicated volume group
 pub named_again : (n m : Node) (next : GroupNode) → m.volumes ≡ n.volumes → m.group ≡ Some next → NoteKeepsRvg (note_at n) next → next.cut ≡ None → IsNamed n → IsNamed m
 named_again n m next volumes group keeps clear it =
-    let k : KeptConfig it.0 next = keeps it.0 it.2 in
-    (
+    let k : KeptConfig it.0 next = keeps it.0 it.2 in (
       k.now,
       it.1,
       ap (λ (o : Option GroupNode). config_of (unwrap_or o no_note).config) group ∙ k.is,

@@ -7,7 +7,8 @@ use Rattle.vx_grouped.specs.SiteMaps.{CameMapped}
 use Rattle.vx_grouped.specs.SiteReturns.{SiteImports}
 use Rattle.vx_diskset.proofs.KeepsFailing.{failing_same}
 use Rattle.vx_diskset.specs.Asked.{FuseGoesOn, SameFailing}
-use Rattle.vx_diskset.specs.GroupCalls.{OnSites}
+use Rattle.vx_diskset.specs.GroupCalls.{ImportsOn}
+use Rattle.vx_diskset.specs.OverStarts.{ImportsIn}
 use Rattle.vx_diskset.specs.Recovers.{cut_past}
 use Rattle.vx_diskset.specs.declared.disk_set.DiskSet.TheVariants.{Gone}
 use Rattle.vx_events.specs.GroupNotes.{note_at}
@@ -21,28 +22,30 @@ use Rattle.vx_yard.specs.Stands.{AreTold}
 use Rattle.vx_yard.specs.Yards.{in_files}
 use Rattle.std.proofs.lemmas.Option.{slice_get_within}
 use Rattle.vx_model.proofs.Lists.{get_there}
+use Rattle.vx_above.proofs.Works.{beside_over}
 use Rattle.vx_group_lines.proofs.GroupLeads.{or_stops}
-use Rattle.vx_group_lines.proofs.GroupImports.{import_done, import_stopped}
 use Rattle.vx_group_lines.proofs.GroupNamed.{away_named, if_ok, reply_same, unbegun_over}
+use Rattle.vx_group_lines.proofs.ImportBeside.{import_came, import_kept}
 use Rattle.vx_group_lines.proofs.Tests.{import_may}
 use Rattle.vx_group_lines.proofs.import.import_line.Goals as goal
 
 pub site_of-site-requires-clause-named : goal.site_of-site-requires-clause-named
 site_of-site-requires-clause-named g c κs within = named_some c.args.yard.now c.args.name.now (import_may c.args.yard.now.facts.items (in_files c.args.yard.now) c.args.name.now c.requires.free).site
 
-pub returns-in_err-room-clause-leads : goal.returns-in_err-room-clause-leads
-returns-in_err-room-clause-leads g c = λ d stands over.
+pub returns-in_err-room-clause-beside : goal.returns-in_err-room-clause-beside
+returns-in_err-room-clause-beside g c = λ d stands over.
     let p = err_from_is_err_and c.from_residual.result c.from_residual.ensures.1 in
-    or_stops d (GroupImport c.args.name.now) c.args.yard.now _ c.from_residual.result
+    beside_over d (GroupImport c.args.name.now) c.args.yard.now _ c.from_residual.result over
+    (or_stops d (GroupImport c.args.name.now) c.args.yard.now _ c.from_residual.result
     (unbegun_over d (GroupImport c.args.name.now) c.args.yard.now _ c.from_residual.result p.0 p.1
-    (unbegun_by d (GroupImport c.args.name.now) c.args.yard.now _ c.from_residual.result p.0 p.1 refl refl refl (record { flight = refl; assemblies = refl; feeders = refl }) stands))
+    (unbegun_by d (GroupImport c.args.name.now) c.args.yard.now _ c.from_residual.result p.0 p.1 refl refl refl (record { flight = refl; assemblies = refl; feeders = refl }) stands)))
 
 pub returns-in_err-room-clause-asked : goal.returns-in_err-room-clause-asked
 returns-in_err-room-clause-asked g c = λ d stands over.
     unbegun_site SameFailing d c.args.yard.now c.args.name.now failing_same stands (import_may c.args.yard.now.facts.items (in_files c.args.yard.now) c.args.name.now c.requires.free).site
 
-pub returns-in-Ok-clause-leads : goal.returns-in-Ok-clause-leads
-returns-in-Ok-clause-leads g c = λ d stands over.
+pub returns-in-Ok-clause-beside : goal.returns-in-Ok-clause-beside
+returns-in-Ok-clause-beside g c = λ d stands over.
     let y = c.args.yard.now in
     let s = c.site_of-site.result in
     let sets = y.disk_sets.items in
@@ -55,26 +58,24 @@ returns-in-Ok-clause-leads g c = λ d stands over.
     let note = note_at (d.world.nodes s) in
     let f = fact_of_group (d.world.nodes s) (note_at (d.world.nodes s)) in
     let same = c.note_up.ensures.same in
-    import_done d y c.note_up.new.yard c.args.name.now s before after stands
+    let now = ap (λ es. slice_get es s) twice ∙ get-set_same sets s after (slice_get_within sets s before there) in
+    import_came d y c.note_up.new.yard c.args.name.now s before after stands
     (record {
       at = up.at;
       changed = record { there = there; later = c.import_group-disk_set.ensures.later; disk_sets = ap (λ es. es.items) same.disk_sets ∙ twice; racks = same.racks };
       failing = c.import_group-disk_set.ensures.failing;
     })
-    (place_at d y c.args.name.now s stands c.site_of-site.ensures.seat).number up.away up.is_away
-    (subst (λ r. OnSites (λ o e. SiteImports n note o e r) before after) c.in-Ok.is (c.import_group-disk_set.ensures.imported n note up.noted))
-    (subst (λ r. OnSites (λ o e. CameMapped o e r) before after) c.in-Ok.is (c.import_group-disk_set.ensures.maps n note up.noted))
-    (c.import_group-disk_set.ensures.cut ∙ ap (λ r. cut_past r before) c.in-Ok.is)
+    (place_at d y c.args.name.now s stands c.site_of-site.ensures.seat).number up.away up.is_away over
+    (subst (λ r. ImportsIn before after r) c.in-Ok.is c.import_group-disk_set.ensures.brought)
+    (subst (λ r. ImportsOn (λ o e. SiteImports n note o e r) before after) c.in-Ok.is (c.import_group-disk_set.ensures.imported n note up.noted))
+    (subst (λ r. ImportsOn (λ o e. CameMapped o e r) before after) c.in-Ok.is (c.import_group-disk_set.ensures.maps n note up.noted))
+    (c.import_group-disk_set.ensures.cut ∙ ap (λ r. cut_past r before) c.in-Ok.is) c.import_group-disk_set.ensures.found
     (record { flight = same.flight; assemblies = ap (λ xs. xs.items) c.note_up.ensures.assemblies; feeders = ap (λ xs. xs.items) same.feeders })
-    (λ x has. ?)
-    (λ x has. c.note_up.ensures.facts f x up.at.fact (record {
-      disk_set = after;
-      there = ap (λ es. slice_get es s) twice ∙ get-set_same sets s after (slice_get_within sets s before there);
-      is = has;
-    }))
+    (λ x has plain none. c.note_up.ensures.facts f x up.at.fact (record { disk_set = after; there = now; is = has }) plain (record { disk_set = after; there = now; is = none }))
+    (λ core x has at. c.note_up.ensures.made f x core up.at.fact (record { disk_set = after; there = now; is = at }) (record { disk_set = after; there = now; is = has }))
 
-pub returns-in-Err-clause-leads : goal.returns-in-Err-clause-leads
-returns-in-Err-clause-leads g c = λ d stands over.
+pub returns-in-Err-clause-beside : goal.returns-in-Err-clause-beside
+returns-in-Err-clause-beside g c = λ d stands over.
     let y = c.args.yard.now in
     let s = c.site_of-site.result in
     let sets = y.disk_sets.items in
@@ -88,17 +89,18 @@ returns-in-Err-clause-leads g c = λ d stands over.
     let f = fact_of_group (d.world.nodes s) (note_at (d.world.nodes s)) in
     let reply = c.group_stopped.ensures f up.at.fact in
     let same = reply_same s f c.in-Err.stop _ c.group_stopped.new.yard c.group_stopped.result reply in
-    import_stopped d y c.group_stopped.new.yard c.args.name.now s before after stands
+    import_kept d y c.group_stopped.new.yard c.args.name.now s before after stands
     (record {
       at = up.at;
       changed = record { there = there; later = c.import_group-disk_set.ensures.later; disk_sets = ap (λ es. es.items) same.disk_sets ∙ twice; racks = same.racks };
       failing = c.import_group-disk_set.ensures.failing;
     })
-    (place_at d y c.args.name.now s stands c.site_of-site.ensures.seat).number up.away up.is_away
+    (place_at d y c.args.name.now s stands c.site_of-site.ensures.seat).number up.away up.is_away over
     _ (record { facts = refl; load = record { flight = refl; assemblies = refl; feeders = refl } }) c.group_stopped.result
     (c.import_group-disk_set.ensures.cut ∙ ap (λ r. cut_past r before) c.in-Err.is) c.in-Err.stop
-    (subst (λ r. OnSites (λ o e. SiteImports n note o e r) before after) c.in-Err.is (c.import_group-disk_set.ensures.imported n note up.noted))
-    (subst (λ r. OnSites (λ o e. CameMapped o e r) before after) c.in-Err.is (c.import_group-disk_set.ensures.maps n note up.noted)) over reply
+    (subst (λ r. ImportsIn before after r) c.in-Err.is c.import_group-disk_set.ensures.brought)
+    (subst (λ r. ImportsOn (λ o e. SiteImports n note o e r) before after) c.in-Err.is (c.import_group-disk_set.ensures.imported n note up.noted))
+    (subst (λ r. ImportsOn (λ o e. CameMapped o e r) before after) c.in-Err.is (c.import_group-disk_set.ensures.maps n note up.noted)) reply
 
 pub returns-in-Ok-clause-asked : goal.returns-in-Ok-clause-asked
 returns-in-Ok-clause-asked g c = λ d stands over.
