@@ -165,7 +165,7 @@ module _ (By To : VolumeEntry → PlexEntry → PlexState → Type 0) (fails : F
 
 -- ---- what the tests see of volumes
 
-fact_moves : (By : VolumeEntry → PlexEntry → PlexState → Type 0) (v u : VolumeEntry) → VolumeMoves By v u → plain_fact u ≡ plain_fact v
+pub fact_moves : (By : VolumeEntry → PlexEntry → PlexState → Type 0) (v u : VolumeEntry) → VolumeMoves By v u → plain_fact u ≡ plain_fact v
 fact_moves By v u it =
     ap (λ (x : List ℕ). let f : VolumeFacts = record (plain_fact u) { name = x } in f) it.name
     ∙ ap (λ (x : ℕ). let f : VolumeFacts = record (plain_fact u) { name = v.name; blocks = x } in f) it.blocks

@@ -28,7 +28,7 @@ group_like IsUp m next fuse = refl
 group_like Deported m next fuse = refl
 group_like IsDown m next fuse = refl
 
-table_by : (n : Node) → is_over_rvg n ≡ true → table_at n ≡ over_table n (note_at n)
+pub table_by : (n : Node) → is_over_rvg n ≡ true → table_at n ≡ over_table n (note_at n)
 table_by n over = ap (λ (b : Bool). if b then over_table n (note_at n) else map volume_fact n.volumes) over
 
 module _ (m : Node) (next : GroupNode) (fuse : Fuse) (was : is_over_rvg m ≡ true) (over : is_over_rvg (noted_node m next fuse) ≡ true) (table : over_table (noted_node m next fuse) next ≡ over_table m (note_at m)) where

@@ -148,6 +148,8 @@ module _ {R : Type 0} {g : Ghosts R} where
     pub told : IsTrue (laid_disks laid).tells
     pub bright : is_dimmed old ≡ false
     pub named : group.config.now.rvg ≡ Some (units_of n)
+    -- no further volume was found
+    pub seen : (note.loose ≡ false) ⊎ (length group.config.now.volumes ≡ length group.config.was.volumes)
     pub worked : GroupNode
     pub works : NoteWorks group.middle worked
     pub goes : ConfigGoes (LosesSome (laid_disks laid) (site_disks (site_in s))) group.middle worked (Up laid) (site_in s)
