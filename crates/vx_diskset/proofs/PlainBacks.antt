@@ -125,20 +125,20 @@ fused_back NoFuse it = it
 fused_back (FuseSet calls) it = tt
 fused_back (FuseLit most) it = tt
 
-never_down : (stop : Stop) → stops_down stop ≡ false → stop ≡ Refused IsOff → ⊥
+pub never_down : (stop : Stop) → stops_down stop ≡ false → stop ≡ Refused IsOff → ⊥
 never_down stop up is = let clash : false ≡ true = sym up ∙ ap (λ (s : Stop). stops_down s) is in cc
 
 module _ {R : Type 0} {g : Ghosts R} where
   -- ---- the disks
 
   -- a group crashed, and its disks tell nothing from then on
-  record Back (mid : Laid R g) (m : Meaning) (told : Bool) : Type 0 where
-    none : TellsNone m
-    units : m.units ≡ (laid_disks mid).units
-    size : (u : ℕ) → m.size u ≡ (laid_disks mid).size u
-    counts : (d : ℕ) → m.disk_faults d ≡ (laid_disks mid).disk_faults d
-    unarmed : IsFalse m.armed
-    less : IsTrue told → IsTrue (laid_below mid).tells
+  pub record Back (mid : Laid R g) (m : Meaning) (told : Bool) : Type 0 where
+    pub none : TellsNone m
+    pub units : m.units ≡ (laid_disks mid).units
+    pub size : (u : ℕ) → m.size u ≡ (laid_disks mid).size u
+    pub counts : (d : ℕ) → m.disk_faults d ≡ (laid_disks mid).disk_faults d
+    pub unarmed : IsFalse m.armed
+    pub less : IsTrue told → IsTrue (laid_below mid).tells
 
   dark_fell : (rested : Option Rested) (mid : Laid R g) (idle : Idle R g) → FellDark rested mid idle → Back mid (idle_disks idle) (idle_below idle).tells
   dark_fell rested mid idle it =
@@ -158,7 +158,7 @@ module _ {R : Type 0} {g : Ghosts R} where
   }
 
   -- and they are up again
-  dark_risen : (rested : Option Rested) (mid : Laid R g) (fell idle : Idle R g) → FellDark rested mid fell → Revived fell idle → Back mid (idle_disks idle) (idle_below idle).tells
+  pub dark_risen : (rested : Option Rested) (mid : Laid R g) (fell idle : Idle R g) → FellDark rested mid fell → Revived fell idle → Back mid (idle_disks idle) (idle_below idle).tells
   dark_risen rested mid fell idle it up =
       let was = dark_fell rested mid fell it in
       record {
@@ -172,9 +172,9 @@ module _ {R : Type 0} {g : Ghosts R} where
 
   -- ---- the start
 
-  record Went (laid mid : Laid R g) : Type 0 where
-    since : CalledSince (laid_disks laid) (laid_disks mid)
-    told : TellsLess (laid_below laid) (laid_below mid)
+  pub record Went (laid mid : Laid R g) : Type 0 where
+    pub since : CalledSince (laid_disks laid) (laid_disks mid)
+    pub told : TellsLess (laid_below laid) (laid_below mid)
 
   went_none : (laid : Laid R g) → Went laid laid
   went_none laid = record { since = since_none (laid_disks laid); told = λ told. told }
@@ -184,7 +184,7 @@ module _ {R : Type 0} {g : Ghosts R} where
   went_on units laid mid (Refused why) (inr it) = record { since = it.1.starts.since; told = it.1.starts.told }
   went_on units laid mid OutOfMemory it = subst (λ (x : Laid R g). Went laid x) (sym it) (went_none laid)
 
-  went_by : (units : Units) (laid mid : Laid R g) (stop : Stop) → PlainTried units laid mid stop → Went laid mid
+  pub went_by : (units : Units) (laid mid : Laid R g) (stop : Stop) → PlainTried units laid mid stop → Went laid mid
   went_by units laid mid stop (inl it) = went_on units laid mid stop it.1
   went_by units laid mid stop (inr it) = subst (λ (x : Laid R g). Went laid x) (sym it.0) (went_none laid)
 
@@ -213,7 +213,7 @@ module _ {R : Type 0} {g : Ghosts R} where
     off_tried other off (inl it) = absurd (let clash : false ≡ true = off in cc)
 
     -- the disks are down where the fuse ran out
-    off_by : (stop : Stop) → stops_down stop ≡ true → PlainTried units laid mid stop → IsTrue (laid_disks mid).down
+    pub off_by : (stop : Stop) → stops_down stop ≡ true → PlainTried units laid mid stop → IsTrue (laid_disks mid).down
     off_by stop off (inr it) = absurd (let clash : false ≡ true = sym (ap (λ (s : Stop). stops_down s) it.1) ∙ off in cc)
     off_by (Refused why) off (inl it) = off_tried why off it.1
     off_by OutOfMemory off (inl it) = absurd (let clash : false ≡ true = off in cc)
@@ -234,7 +234,7 @@ module _ {R : Type 0} {g : Ghosts R} where
       why_tried why up (inl it) = cause why up it.does.2
       why_tried why up (inr it) = subst (λ (x : No). ImportWhy told known old m (Refused x)) (sym it.0) (λ sure. absurd (unknown sure))
 
-      why_by : (stop : Stop) → (stop ≡ Refused IsOff → ⊥) → PlainTried units laid mid stop → ImportWhy told known old m stop
+      pub why_by : (stop : Stop) → (stop ≡ Refused IsOff → ⊥) → PlainTried units laid mid stop → ImportWhy told known old m stop
       why_by stop up (inr it) = subst (λ (s : Stop). ImportWhy told known old m s) (sym it.1) (refl, refl)
       why_by (Refused why) up (inl it) = why_tried why (λ is. up (ap (λ (x : No). Refused x) is)) it.1
       why_by OutOfMemory up (inl it) = tt

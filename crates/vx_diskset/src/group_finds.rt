@@ -5,17 +5,59 @@ ghost use Rattle.vx_history.specs.World.{Node};
 ghost use Rattle.vx_model.specs.declared.site.SiteState.TheVariants.{Bare as BareState};
 ghost use Rattle.vx_diskset.specs.Asked.{SameFailing};
 ghost use Rattle.vx_diskset.specs.DiskSets.{Later};
-ghost use Rattle.vx_diskset.specs.GroupFinds.{FindsIs, FindsOn};
+ghost use Rattle.vx_diskset.specs.GroupFinds.{FindsIs, FindsOn, StartsBare, bare_again as bare_again_of, bare_site as bare_site_of};
+ghost use Rattle.vx_untold.specs.Shades.{rack_of};
 ghost use Rattle.vx_diskset.specs.Holds.{KeptBeside};
 ghost use Rattle.vx_diskset.specs.Stands.{IsToldAt, SiteStands};
 
-use crate::DiskSet;
+use crate::group_set::CutWrite;
 use crate::labels::has_label;
-use crate::over_starts::with_rvg;
+use crate::over_starts::with_plain;
+use crate::{DiskSet, GroupSet};
 use std::alloc::Global;
 use vx_disk::Rack;
-use vx_grouped::find_group;
+use vx_grouped::{GroupSite, find_group};
 use vx_model::{No, Stop};
+use vx_untold::Shade;
+
+// The rack, whatever is told of it.
+fn rack_in<R: Rack>(shade: Shade<R>) -> R
+    ensures { result ≡ rack_of shade }
+{
+    match shade {
+        Shade::Bright(rack) | Shade::Dark(rack) => rack,
+    }
+}
+
+// Disks by themselves are those of a bare site again.
+fn bare_site<R: Rack>(site: GroupSite<R>, cut: Option<CutWrite>) -> DiskSet<R>
+    ensures { result ≡ bare_site_of site cut }
+{
+    match site {
+        GroupSite::Deported(idle) => DiskSet::Bare(rack_in(idle.rack)),
+        site => DiskSet::OfGroup(GroupSet { site, cut }),
+    }
+}
+
+fn bare_again<R: Rack>(disk_set: DiskSet<R>) -> DiskSet<R>
+    ensures { result ≡ bare_again_of disk_set }
+{
+    match disk_set {
+        DiskSet::OfGroup(group) => bare_site(group.site, group.cut),
+        other => other,
+    }
+}
+
+// A group that was found, with the replicated volume group that it has. Where that is not taken up, the disks are those of a bare site again.
+fn found_with<R: Rack>(alloc: Global, group: GroupSite<R>) -> (DiskSet<R>, Result<(), Stop>)
+    ensures { StartsBare group result.0 result.1 }
+{
+    let (disk_set, started) = with_plain(alloc, group, None, true, None);
+    match started {
+        Ok(()) => (disk_set, Ok(())),
+        Err(stop) => (bare_again(disk_set), Err(stop)),
+    }
+}
 
 // Imports a group that lies on the disks of a rack; else the disks are those of a bare site still.
 fn find_on<R: Rack>(alloc: Global, rack: R, site: u32) -> (DiskSet<R>, Result<(), Stop>)
@@ -24,7 +66,7 @@ fn find_on<R: Rack>(alloc: Global, rack: R, site: u32) -> (DiskSet<R>, Result<()
     ensures later { Later (DiskSet.Bare rack) result.0 }
 {
     match find_group(alloc, rack, site) {
-        Ok(group) => with_rvg(alloc, group, None, false),
+        Ok(group) => found_with(alloc, group),
         Err((rack, stop)) => (DiskSet::Bare(rack), Err(stop)),
     }
 }

@@ -1,37 +1,38 @@
 -- `find_on`: the group that was found, or the disks that were handed back.
 use Rattle.std.proofs.Common.{subst}
-use Rattle.std.specs.Prelude.{IfErr, None}
-use Rattle.vx_untold.specs.Shades.{shade_rack}
+use Rattle.std.specs.Prelude.{IfErr}
+use Rattle.vx_untold.specs.Shades.{shade_lawful, shade_rack}
 use Rattle.vx_grouped.specs.Finds.{FindStops, FindsUp, FoundSince, FoundTells}
 use Rattle.vx_grouped.specs.GroupSites.{site_disks, site_below}
 use Rattle.vx_diskset.proofs.GroupCalling.{rises_returned}
-use Rattle.vx_diskset.proofs.GroupFinding.{back_failing, back_later, finds_with, found_failing, found_later}
-use Rattle.vx_diskset.proofs.OverImports.{with_rises, with_tells}
+use Rattle.vx_diskset.proofs.GroupFinding.{back_failing, back_later, finds_with, starts_failing, starts_later}
 use Rattle.vx_diskset.proofs.group_finds.find_on.Goals as goal
 
 pub returns-in-Ok-clause-found : goal.returns-in-Ok-clause-found
 returns-in-Ok-clause-found g c = λ n can.
-    finds_with c.args.site n (g.R.Shelf.meaning c.args.rack) c.in-Ok.group c.with_rvg.result.0 c.with_rvg.result.1 c.with_rvg.ensures.over
-    (subst (λ r. FindsUp c.args.site n r) c.in-Ok.is (c.find_group.ensures.found n can))
+    let is_rack = (g.met.R.Rack g.world.𝓛 g.world.𝓜 g.world.𝓡 ((λ s x. x), (λ x. x), (λ x. x), λ x. x)).rack in
+    let lawful = (g.met.R.Shelf g.world.𝓛 g.world.𝓜 g.world.𝓡 ((λ s x. x), (λ x. x), (λ x. x), λ x. x)).lawful in
+    let racks = shade_rack g.R.Shelf.meaning is_rack in
+    finds_with racks c.args.site n c.args.rack can
+    (λ laid units s up dark started beside sure unlinked. ?)
+    c.in-Ok.group c.found_with.result.0 c.found_with.result.1 (subst (λ r. FindsUp c.args.site n r) c.in-Ok.is (c.find_group.ensures.found n can))
+    (subst (λ r. FoundSince (g.R.Shelf.meaning c.args.rack) (λ x. g.R.Shelf.meaning x) (λ e. site_disks e) r) c.in-Ok.is c.find_group.ensures.since) c.found_with.ensures
 
 pub returns-in-Ok-clause-failing : goal.returns-in-Ok-clause-failing
 returns-in-Ok-clause-failing g c =
     let is_rack = (g.met.R.Rack g.world.𝓛 g.world.𝓜 g.world.𝓡 ((λ s x. x), (λ x. x), (λ x. x), λ x. x)).rack in
-    found_failing c.args.rack c.with_rvg.result.0
-    (with_rises (shade_rack g.R.Shelf.meaning is_rack) (g.R.Shelf.meaning c.args.rack) c.in-Ok.group None c.with_rvg.result.0 c.with_rvg.result.1
+    starts_failing (shade_rack g.R.Shelf.meaning is_rack) c.args.rack c.in-Ok.group
     (rises_returned (g.R.Shelf.meaning c.args.rack) (site_disks c.in-Ok.group) (subst (λ r. FoundSince (g.R.Shelf.meaning c.args.rack) (λ x. g.R.Shelf.meaning x) (λ e. site_disks e) r) c.in-Ok.is c.find_group.ensures.since))
-    c.with_rvg.ensures.over)
+    c.found_with.result.0 c.found_with.result.1 c.found_with.ensures
 
 pub returns-in-Ok-clause-later : goal.returns-in-Ok-clause-later
 returns-in-Ok-clause-later g c =
     let is_rack = (g.met.R.Rack g.world.𝓛 g.world.𝓜 g.world.𝓡 ((λ s x. x), (λ x. x), (λ x. x), λ x. x)).rack in
-    found_later c.args.rack c.with_rvg.result.0
-    (with_rises (shade_rack g.R.Shelf.meaning is_rack) (g.R.Shelf.meaning c.args.rack) c.in-Ok.group None c.with_rvg.result.0 c.with_rvg.result.1
+    starts_later (shade_rack g.R.Shelf.meaning is_rack) c.args.rack c.in-Ok.group
     (rises_returned (g.R.Shelf.meaning c.args.rack) (site_disks c.in-Ok.group) (subst (λ r. FoundSince (g.R.Shelf.meaning c.args.rack) (λ x. g.R.Shelf.meaning x) (λ e. site_disks e) r) c.in-Ok.is c.find_group.ensures.since))
-    c.with_rvg.ensures.over)
-    (with_tells (g.R.Shelf.meaning c.args.rack) c.in-Ok.group None c.with_rvg.result.0 c.with_rvg.result.1
+    c.found_with.result.0 c.found_with.result.1
     (subst (λ r. FoundTells (g.R.Shelf.meaning c.args.rack) (λ x. g.R.Shelf.meaning x) (λ e. site_below e) r) c.in-Ok.is c.find_group.ensures.told)
-    c.with_rvg.ensures.over)
+    c.found_with.ensures
 
 pub returns-in-Err-clause-found : goal.returns-in-Err-clause-found
 returns-in-Err-clause-found g c = λ n can. subst (λ r. IfErr r (λ e. FindStops n (g.R.Shelf.meaning c.args.rack) (g.R.Shelf.meaning e.0) e.1)) c.in-Err.is (c.find_group.ensures.stops n can)
