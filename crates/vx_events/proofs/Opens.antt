@@ -108,4 +108,4 @@ module _ (w : World) (none : HasNoRvgs w) where
   open_none (Read site volume start count) = volume_none site volume
   open_none (Show site volume start count) = volume_none site volume
   open_none (Apply site to) = none (site_number w site)
-  open_none other = links_none w none other
+  open_none other = links_none other
