@@ -69,8 +69,7 @@ module _ {R : Type 0} {g : Ghosts R} where
   beside_over d line old new (Ok said) over leads = record {
     next = leads.next;
     fails = leads.fails;
-    works = AsBefore (works_told (λ (t : told_for (IsTold new) d line). told_less (IsTold new) d (is_of_links line) t) (is_for_group d.world line) d line leads.fails said leads.next
-        (subst (λ (b : Bool). WorksOver b (IsTold new) d line leads.fails said leads.next) (sym over) leads.done)) (found_plain line (group_place d.world line) leads.next new leads.stands);
+    works = AsBefore (subst (λ (b : Bool). WorksOver b (IsTold new) d line leads.fails said leads.next) (sym over) leads.done) (found_plain line (group_place d.world line) leads.next new leads.stands);
     stands = leads.stands;
     carries = leads.carries;
     rose = leads.rose;
