@@ -45,6 +45,11 @@ first_none (line ∷ before) others makes = (makes.0, first_none before others m
 begins : Stands (sure empty_world)
 begins = record { notes = record { sites = λ i. refl; doubts = λ i a is. absurd (cc) }; calm = refl }
 
+-- such lines leave a world that has not strayed
+pub runs_calm : (files : Bool) (lines : List (List ℕ)) (failures : List Fails) (texts : List (List ℕ)) (new : Doubted) → NoneMakesGroups lines
+    → RunsLines (Unit {0}) files (sure empty_world) lines failures texts new → new.strayed ≡ false
+runs_calm files lines failures texts new makes run = let s : Stands new = runs_stand files (sure empty_world) lines failures texts new begins makes run in s.calm
+
 pub none_open : (files : Bool) (status : Status) (lines : List (List ℕ)) → NoneMakesGroups lines → StopsOpen (Unit {0}) files status lines → ⊥
 none_open files status lines makes stops =
     let first = first_none stops.before (stops.next ∷ stops.others) (subst NoneMakesGroups stops.split makes) in

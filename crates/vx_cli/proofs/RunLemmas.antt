@@ -44,7 +44,7 @@ begins_good = quiet_good (sure empty_world) empty_good (λ s. refl)
 module _ {R : Type 0} {g : Ghosts R} where
   -- where a run begins
   pub begins : (y : Yard R g) → StandsFor (sure empty_world) y → Carries (sure empty_world) y → Serves (sure empty_world) y
-  begins y stands carries = record { stands = stands; carries = carries; good = λ _. begins_good }
+  begins y stands carries = record { stands = stands; carries = carries; good = λ tells calm. begins_good }
 
   -- what a run of a yard came to, with the racks that come back from it
   pub run_is : (files : Bool) (racks : List R) (status : Status) (old new : Yard R g) (left now_left w0 w1 : Option (List ℕ)) (f0 f1 : ℕ → ℕ → ℕ)
@@ -73,7 +73,7 @@ module _ {R : Type 0} {g : Ghosts R} where
           appends = o.appends;
           rose = rose_same (fails_of_lines o.part.failures) (count_of old) (count_of new) f0 f1 (λ s d. sym (counts s d)) (after o.world o.leaves.stands) o.rose;
           leaves = record {
-            good = λ t. o.leaves.good (tells t);
+            good = λ t calm. o.leaves.good (tells t) calm;
             holds = holds o.world o.leaves.stands;
             groups = λ t. groups o.world o.leaves.stands (tells t);
           };
@@ -84,7 +84,7 @@ module _ {R : Type 0} (meaning : R → Meaning) where
   -- the racks of a world without sites hold it
   fresh_leave : (racks : List R) → AreFresh meaning racks → LeavesRacks meaning racks (sure empty_world)
   fresh_leave racks fresh = record {
-    good = λ _. begins_good;
+    good = λ tells calm. begins_good;
     holds = record {
       eight = fresh.eight;
       each = λ s r below apart at. absurd (omega arith);

@@ -1,5 +1,5 @@
 -- One turn of the loop, and the loop.
-use Rattle.std.proofs.Common.{◌≡◌, ◌≤◌, ◌<◌, ℕ, ◌+◌, Bool, List, [], ◌∷◌, ◌++◌, Option, Some, None, Result, Ok, Err, refl, arith, sym, subst, ◌∙◌, append-nil, inl, inr, ◌⊎◌}
+use Rattle.std.proofs.Common.{◌≡◌, ◌≤◌, ◌<◌, ℕ, ◌+◌, Bool, false, List, [], ◌∷◌, ◌++◌, Option, Some, None, Result, Ok, Err, refl, arith, sym, subst, ◌∙◌, append-nil, inl, inr, ◌⊎◌}
 use Rattle.std.specs.Io.KnownBytes.{Appends}
 use Rattle.vx_history.specs.Doubts.{Doubted}
 use Rattle.vx_history.specs.World.{empty_world}
@@ -26,7 +26,7 @@ use Rattle.vx_cli.specs.Turns.{BadIs, Did, DidPart, StaysServing, MemoryStops, S
 use Rattle.vx_cli.proofs.StepLemmas.{script_line_long, rose_none, line_told}
 use Rattle.vx_cli.proofs.EndsLemmas.{no_part, one_part, outcome_more, ends_within, ends_here, ends_one, bad_next, bad_first, zero_more}
 use Rattle.vx_cli.proofs.ReaderLemmas.{ahead_some}
-use Rattle.vx_cli.proofs.Sounds.{part_good, said_good}
+use Rattle.vx_cli.proofs.Sounds.{said_calm, said_good, short_calm, short_full_good}
 
 -- a count that rose behind one that did not fall
 pub rose_behind : (a b c : ℕ) → a ≤ b → StreamRose b c → StreamRose a c
@@ -70,7 +70,9 @@ module _ {R : Type 0} {g : Ghosts R} where
         serves = record {
           stands = steps.stands;
           carries = steps.carries serves.carries;
-          good = λ t. said_good t (in_files old) w (script_line line) steps.fails text steps.next (serves.good (told t)) step;
+          good = λ t calm.
+              let was : w.strayed ≡ false = said_calm (IsTold new) (in_files old) w (script_line line) steps.fails text steps.next step calm in
+              said_good t (in_files old) w (script_line line) steps.fails text steps.next (serves.good (told t) was) calm step;
         };
         rose = steps.rose;
       }
@@ -80,7 +82,13 @@ module _ {R : Type 0} {g : Ghosts R} where
   did_part w words old new serves told stops = record {
     next = stops.next;
     part = stops.part;
-    serves = record { stands = stops.stands; carries = stops.carries serves.carries; good = λ t. part_good t w words stops.next (serves.good (told t)) stops.part };
+    serves = record {
+      stands = stops.stands;
+      carries = stops.carries serves.carries;
+      good = λ t calm.
+          let was : w.strayed ≡ false = short_calm (IsTold new) w words stops.next stops.part calm in
+          short_full_good t w words stops.next (serves.good (told t) was) was stops.part;
+    };
     rose = stops.rose;
   }
 

@@ -1,5 +1,5 @@
 -- Whole runs: the lines, the failed calls in each, and the text of each.
-use Rattle.std.specs.Prelude.{◌≡◌, ℕ, Bool, List, [], ◌∷◌, ◌++◌}
+use Rattle.std.specs.Prelude.{◌≡◌, ℕ, Bool, false, List, [], ◌∷◌, ◌++◌}
 use Rattle.vx_history.specs.Doubts.{Doubted}
 use Rattle.vx_world.specs.Lines.{GoodDoubted}
 use Rattle.vx_disk.specs.Shelf.{Meaning}
@@ -24,8 +24,9 @@ fails_of_lines (fails ∷ failures) = fails ++ fails_of_lines failures
 
 module _ {R : Type 0} (meaning : R → Meaning) where
   -- The world at the end of a run: the racks hold it. Where they tell their contents they hold the groups of its sites too, and it is good, as every world
-  -- is that comes about, whichever of the sites in doubt are as they may be on their disks.
+  -- is that comes about, whichever of the sites in doubt are as they may be on their disks, as long as it has not strayed: no log came up from disks of which
+  -- nothing was known.
   pub record LeavesRacks (racks : List R) (d : Doubted) : Type 0 where
-    pub good : RacksTell meaning racks → GoodDoubted d
+    pub good : RacksTell meaning racks → d.strayed ≡ false → GoodDoubted d
     pub holds : RacksHold meaning d racks
     pub groups : RacksTell meaning racks → GroupsHold meaning d racks
