@@ -65,18 +65,18 @@ module _ (c x : Config) (j : Image) where
   shows = record { here = λ v b in_it. by_here v b in_it (inside c v b); beyond = λ v b out. by_beyond v b out (inside c v b) }
 
   -- there is no other
-  shows_one : (above : Image) → Shows c x j above → above ≡ shown
+  pub shows_one : (above : Image) → Shows c x j above → above ≡ shown
   shows_one above it = λ t. λ v. λ b. same v b t
     where
       same : (v b : ℕ) → above v b ≡ shown v b
       same v b = ⊎_elim (λ in_it. it.here v b in_it ∙ sym (shows.here v b in_it)) (λ out. it.beyond v b out ∙ sym (shows.beyond v b out)) (inside c v b)
 
-found_some : (o : ImportOutcome Config) → is_found o ≡ true → (x : Config) × (o ≡ Found x)
+pub found_some : (o : ImportOutcome Config) → is_found o ≡ true → (x : Config) × (o ≡ Found x)
 found_some (Found x) some = (x, refl)
 found_some other none = absurd (cc)
 
 -- behind a crash there is one image
-image_one : (m : Meaning) (i j : Image) → Lawful m → IsRack m → IsTrue m.down → IsTrue m.tells → m.now j → Each m.leaves i → i ≡ j
+pub image_one : (m : Meaning) (i j : Image) → Lawful m → IsRack m → IsTrue m.down → IsTrue m.tells → m.now j → Each m.leaves i → i ≡ j
 image_one m i j lawful rack down tells now each = λ t. λ u. λ b. same u b t
   where
     same : (u b : ℕ) → i u b ≡ j u b

@@ -1,5 +1,5 @@
 -- A replicated volume group over a group of disks comes up with it, where contents are told.
-use Rattle.std.proofs.Common.{◌≡◌, IsTrue, refl}
+use Rattle.std.proofs.Common.{◌≡◌, ◌∙◌, ◌<◌, IsTrue}
 use Rattle.std.specs.Prelude.{None, Some}
 use Rattle.vx_disk.specs.Racks.{IsRack}
 use Rattle.vx_disk.specs.Shelf.{Lawful, Meaning}
@@ -9,6 +9,7 @@ use Rattle.vx_history.specs.Groups.{GroupNode}
 use Rattle.vx_history.specs.World.{Fuse, Node}
 use Rattle.vx_rvg.specs.Starts.{IsStarted}
 use Rattle.vx_rvg.specs.Views.{IsSound}
+use Rattle.vx_srl.specs.Views.{most_number}
 use Rattle.vx_untold.specs.Shades.{shade_meaning}
 use Rattle.vx_untold.specs.declared.shade.Shade.{Shade}
 use Rattle.vx_group.specs.Holding.{wide}
@@ -23,13 +24,14 @@ use Rattle.vx_grouped.specs.declared.laid.Laid.{Laid}
 use Rattle.vx_diskset.specs.Fuses.{FuseOn}
 use Rattle.vx_diskset.specs.Holds.{KeptBeside}
 use Rattle.vx_diskset.specs.Layouts.{config_units, units_of}
+use Rattle.vx_diskset.specs.OverRises.{came_with}
 use Rattle.vx_diskset.specs.OverStarts.{Started}
-use Rattle.vx_diskset.specs.Stands.{AwayOver, FellOver, IsOverSite, IsUpAt, RestsOver, SiteStands, idle_ready, RvgSettles, FellSettles}
+use Rattle.vx_diskset.specs.Stands.{FellOver, IsOverSite, IsUpAt, RestsOver, SiteStands, idle_ready, RvgSettles, FellSettles}
 use Rattle.vx_diskset.specs.Works.{OnlyLog}
 use Rattle.vx_diskset.specs.declared.disk_set.DiskSet.TheVariants.{Over}
 use Rattle.vx_diskset.specs.declared.over_set.OverSet.{OverSet}
-use Rattle.vx_diskset.proofs.OverCame.{alike_rests, away_laid, away_left, away_there, fell_laid, fell_left, fell_there, rack_rests, told_rest}
-use Rattle.vx_diskset.proofs.OverUp.{came_with, over_came, set_came}
+use Rattle.vx_diskset.proofs.OverCame.{alike_rests, fell_laid, fell_left, fell_there, rack_rests, told_rest}
+use Rattle.vx_diskset.proofs.OverUp.{over_came, over_session, set_came}
 use Rattle.vx_logimport.specs.declared.rested.Rested.{Rested}
 
 never_none : {A : Type 0} {x : A} → Some x ≡ None → ⊥
@@ -67,19 +69,12 @@ module _ {R : Type 0} {g : Ghosts R} (racks : (s : Shade R) → IsRack (shade_me
         (fell_laid n (idle_ready idle) first laid.core (laid_disks laid) brings.revived brings.brings first_rests rests settled told) (fell_there n (idle_ready idle) first laid.core (laid_disks laid) brings.revived brings.brings first_rests rests settled told)
         (fell_left n (idle_ready idle) first laid.core (laid_disks laid) brings.revived brings.brings first_rests rests settled told) does.0 does.1 does.2 does.3 here on
 
+    -- there was a further session
+    pub fell_session : n.session < most_number
+    fell_session =
+        over_session {beside} n note fuse (laid_volumes laid) (laid_volumes started.laid) started.core units rests.low rests.logged rests.sure (rests.begun fell_told)
+        (fell_laid n (idle_ready idle) first laid.core (laid_disks laid) brings.revived brings.brings first_rests rests settled told) (fell_there n (idle_ready idle) first laid.core (laid_disks laid) brings.revived brings.brings first_rests rests settled told)
+        (fell_left n (idle_ready idle) first laid.core (laid_disks laid) brings.revived brings.brings first_rests rests settled told) does.0 does.1 does.2 does.3 here on (started.starts.since.tells ∙ told)
+
     pub fell_again : SiteStands beside (came_with fuse note n) (Over s)
-    fell_again = (over_again beside n note fuse rests.sure over, set_came beside (came_with fuse note n) s started.laid started.core started.site started.above fell_up refl rests.logged)
-
-  -- of disks that were deported
-  module _ (rests : RestsOver (λ c. AwayOver c beside n (idle_ready idle)) beside n (idle_ready idle)) where
-    away_told : IsTrue (idle_ready idle).tells
-    away_told = told_rest (idle_ready idle) first laid.core (laid_disks laid) brings.revived brings.brings told
-
-    away_up : IsUpAt beside (came_with fuse note n) started.core (laid_volumes started.laid)
-    away_up =
-        over_came n note fuse (laid_volumes laid) (laid_volumes started.laid) started.core units rests.low rests.logged rests.sure (rests.begun away_told)
-        (away_laid n (idle_ready idle) first laid.core (laid_disks laid) brings.revived brings.brings rests told) (away_there n (idle_ready idle) first laid.core (laid_disks laid) brings.revived brings.brings rests told)
-        (away_left n (idle_ready idle) first laid.core (laid_disks laid) brings.revived brings.brings rests told) does.0 does.1 does.2 does.3 here on
-
-    pub away_again : SiteStands beside (came_with fuse note n) (Over s)
-    away_again = (over_again beside n note fuse rests.sure over, set_came beside (came_with fuse note n) s started.laid started.core started.site started.above away_up refl rests.logged)
+    fell_again = (over_again beside n note fuse rests.sure over, set_came beside (came_with fuse note n) s started.laid started.core started.site started.above fell_up)

@@ -6,7 +6,6 @@ use Rattle.vx_disk.specs.declared.shelf.Shelf.{Ghosts}
 use Rattle.vx_events.specs.GroupViews.{config_of}
 use Rattle.vx_events.specs.RvgNotes.{inside_of}
 use Rattle.vx_history.specs.Groups.{GroupNode}
-use Rattle.vx_history.specs.Steps.{recovered}
 use Rattle.vx_history.specs.World.{Fuse, Node}
 use Rattle.vx_model.specs.Sites.{is_origin}
 use Rattle.vx_model.specs.declared.state.State.{State}
@@ -26,24 +25,19 @@ use Rattle.vx_diskset.specs.Holds.{HasWrites, KeptBeside, most_header, state_wit
 use Rattle.vx_diskset.specs.Lasts.{HasLast, LeftWith, StandsHolding}
 use Rattle.vx_diskset.specs.Layouts.{IsLaid, config_units, units_of}
 use Rattle.vx_diskset.specs.Needs.{NoneNeeds}
-use Rattle.vx_diskset.specs.OverStarts.{above_by}
-use Rattle.vx_diskset.specs.Stands.{AboveStands, IsUpAt, OverStands}
+use Rattle.vx_diskset.specs.OverRises.{came_with}
+use Rattle.vx_diskset.specs.Stands.{IsUpAt, OverStands}
 use Rattle.vx_diskset.specs.Works.{OnlyLog}
 use Rattle.vx_diskset.specs.declared.above.Above.{Above}
-use Rattle.vx_diskset.specs.declared.above.Above.TheVariants.{Origin, Receiver}
+use Rattle.vx_diskset.specs.declared.above.Above.TheVariants.{Origin}
 use Rattle.vx_diskset.specs.declared.over_set.OverSet.{OverSet}
 use Rattle.vx_diskset.proofs.BesideLemmas.{never_besides}
 use Rattle.vx_diskset.proofs.LastWrites.{stands_with}
 use Rattle.vx_diskset.proofs.Laying.{laid_as}
 use Rattle.vx_diskset.proofs.NeedLemmas.{takes_told}
 use Rattle.vx_diskset.proofs.OverFrames.{OverUp, over_from}
-use Rattle.vx_diskset.proofs.Receiving.{risen_receiver}
 use Rattle.vx_diskset.proofs.Sessions.{found_below_most, next_below}
 use Rattle.vx_diskset.proofs.StaysUp.{not_true, writes_found}
-
--- the site in its next session, with this note of its group and this fuse
-abbrev pub came_with : Fuse → GroupNode → Node → Node
-came_with fuse note n = record (recovered n) { fuse = fuse; group = Some note }
 
 module _ {beside : KeptBeside} (n : Node) (note : GroupNode) (fuse : Fuse) (v new : Meaning) (core : Core) (units : config_units (config_of note.config) ≡ units_of n) (low : n.low ≡ 1) (logged : length n.log ≡ n.safe) (sure : beside.doubt ≡ None)
     (begun : 0 < n.session) (laid : IsLaid (units_of n) n.ring n.volumes n.base.size v) (there : (k : ℕ) → inside_of (units_of n) k ≡ true → k < v.units)
@@ -121,13 +115,8 @@ module _ {beside : KeptBeside} (n : Node) (note : GroupNode) (fuse : Fuse) (v ne
       let i = after.image told in
       next_below n.session has.1 (found_below_most core.units core.log.ring core.log.header.state core.log.header.incarnation core.log.header.stamp i.0 n.log n.base (stands_with core n.log n.base new i.0 sound.log_unit after stood i.1))
 
--- by its role it is an origin, or it receives
-above_came : (b : Bool) {beside : KeptBeside} (n : Node) (core : Core) (m : Meaning) → is_origin core.log.header.state.role ≡ b → IsUpAt beside n core m → n.halted ≡ None → length n.log ≡ n.safe → AboveStands beside n (if b then Origin core else Receiver core []) m
-above_came true n core m is up running whole = up
-above_came false n core m is up running whole = risen_receiver n core m up running whole is
-
 module _ {R : Type 0} {g : Ghosts R} where
-  pub set_came : (beside : KeptBeside) (n : Node) (s : OverSet R g) (laid : Laid R g) (core : Core) → site_in s ≡ Up laid → above_in s ≡ above_by core → IsUpAt beside n core (laid_volumes laid) → n.halted ≡ None → length n.log ≡ n.safe → OverStands beside n s.site
-  set_came beside n s laid core site above up running whole =
+  pub set_came : (beside : KeptBeside) (n : Node) (s : OverSet R g) (laid : Laid R g) (core : Core) → site_in s ≡ Up laid → above_in s ≡ Origin core → IsUpAt beside n core (laid_volumes laid) → OverStands beside n s.site
+  set_came beside n s laid core site above up =
       over_from beside n s.site
-      (subst (λ (a : Above). OverUp beside n a (site_in s)) (sym above) (subst (λ (e : GroupSite R g). OverUp beside n (above_by core) e) (sym site) (above_came (is_origin core.log.header.state.role) n core (laid_volumes laid) refl up running whole)))
+      (subst (λ (a : Above). OverUp beside n a (site_in s)) (sym above) (subst (λ (e : GroupSite R g). OverUp beside n (Origin core) e) (sym site) up))
