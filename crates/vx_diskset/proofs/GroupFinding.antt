@@ -28,7 +28,7 @@ use Rattle.vx_grouped.specs.declared.laid.Laid.{Laid}
 use Rattle.vx_model.specs.declared.units.Units.{Units}
 use Rattle.vx_diskset.specs.Asked.{SameFailing}
 use Rattle.vx_diskset.specs.DiskSets.{Later}
-use Rattle.vx_diskset.specs.GroupFinds.{FindsIs, FindsOn, FoundIn, FoundUp, InBare, StartsBare, bare_again, bare_site}
+use Rattle.vx_diskset.specs.GroupFinds.{FindsIs, FindsOn, FoundIn, FoundUp, InBare, StartsBare, bare_again, given_bare}
 use Rattle.vx_diskset.specs.Holds.{KeptBeside}
 use Rattle.vx_diskset.specs.Stands.{IsCleanAt, IsGroupSet, IsRackTold, IsToldAt, SiteStands, OverStands}
 use Rattle.vx_diskset.specs.declared.disk_set.DiskSet.{DiskSet}
@@ -94,7 +94,7 @@ module _ {R : Type 0} {g : Ghosts R} where
   rack_rises m (Bright r) it = it
   rack_rises m (Dark r) it = record { counts = it.counts; rack = it.rack; failing = it.failing; passes = it.passes }
 
-  site_rises : (rack : R) (e : GroupSite R g) (cut : Option CutWrite) → RisesSince (g.meaning rack) (site_disks e) → SameFailing (Bare rack) (bare_site e cut)
+  site_rises : (rack : R) (e : GroupSite R g) (cut : Option CutWrite) → RisesSince (g.meaning rack) (site_disks e) → SameFailing (Bare rack) (given_bare e cut)
   site_rises rack (Deported idle) cut it =
       failing_risen (Bare rack) (Bare (rack_of idle.rack)) (g.meaning rack) (g.meaning (rack_of idle.rack)) (has_bare (Bare rack) rack refl) (has_bare (Bare (rack_of idle.rack)) (rack_of idle.rack) refl) (rack_rises (g.meaning rack) idle.rack it)
   site_rises rack (Up laid) cut it = found_failing rack (let s : GroupSet R g = record { site = Up laid; cut = cut } in OfGroup s) it
@@ -112,7 +112,7 @@ module _ {R : Type 0} {g : Ghosts R} where
   again_failing rack (Over s) it = found_failing rack (Over s) it
   again_failing rack GoneSet it = absurd it
 
-  site_later : (rack : R) (e : GroupSite R g) (cut : Option CutWrite) → RisesSince (g.meaning rack) (site_disks e) → TellsLess (g.meaning rack) (site_below e) → Later (Bare rack) (bare_site e cut)
+  site_later : (rack : R) (e : GroupSite R g) (cut : Option CutWrite) → RisesSince (g.meaning rack) (site_disks e) → TellsLess (g.meaning rack) (site_below e) → Later (Bare rack) (given_bare e cut)
   site_later rack (Deported idle) cut it less =
       later_risen (Bare rack) (Bare (rack_of idle.rack)) (g.meaning rack) (g.meaning (rack_of idle.rack)) (has_bare (Bare rack) rack refl) (has_bare (Bare (rack_of idle.rack)) (rack_of idle.rack) refl) (rack_rises (g.meaning rack) idle.rack it) less
   site_later rack (Up laid) cut it less = found_later rack (let s : GroupSet R g = record { site = Up laid; cut = cut } in OfGroup s) it less
@@ -144,7 +144,7 @@ module _ {R : Type 0} {g : Ghosts R} where
         (again_later rack it.0 (with_rises racks true None (g.meaning rack) e None it.0 (Err stop) since it.2) (with_tells true None (g.meaning rack) e None it.0 (Err stop) less it.2))
 
   -- what stays as it is
-  pub site_rest : (e : GroupSite R g) (cut : Option CutWrite) → ((idle : Idle R g) → e ≡ Deported idle → ⊥) → (let s : GroupSet R g = record { site = e; cut = cut } in OfGroup s) ≡ bare_site e cut
+  pub site_rest : (e : GroupSite R g) (cut : Option CutWrite) → ((idle : Idle R g) → e ≡ Deported idle → ⊥) → (let s : GroupSet R g = record { site = e; cut = cut } in OfGroup s) ≡ given_bare e cut
   site_rest (Deported idle) cut never = absurd (never idle refl)
   site_rest (Up laid) cut never = refl
   site_rest (Down idle) cut never = refl
@@ -187,7 +187,7 @@ module _ {R : Type 0} {g : Ghosts R} where
             why = why_by units laid mid (g.meaning rack) (g.meaning (rack_of idle.rack)) since.counts counts ⊥ ⊥ (λ none. none) (λ none. none) stop (never_down stop off) tried;
           }
 
-      in_bare : (t : Bool) → stops_down stop ≡ t → (e : GroupSite R g) (cut : Option CutWrite) → DarkBack (not t) None mid e → InBare (λ m. FindStops n (g.meaning rack) m stop) (bare_site e cut)
+      in_bare : (t : Bool) → stops_down stop ≡ t → (e : GroupSite R g) (cut : Option CutWrite) → DarkBack (not t) None mid e → InBare (λ m. FindStops n (g.meaning rack) m stop) (given_bare e cut)
       in_bare true off e cut fell = absurd (bare_up off)
       in_bare false off (Deported idle) cut fell = back_stops fell.0 idle off fell.1 fell.2
       in_bare false off (Up x) cut fell = absurd fell

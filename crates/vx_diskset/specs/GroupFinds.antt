@@ -57,12 +57,12 @@ module _ {R : Type 0} {g : Ghosts R} where
   FindsOn site n old new (Err stop) = InBare (λ m. FindStops n old m stop) new
 
   -- disks by themselves are those of a bare site again
-  abbrev pub bare_site : GroupSite R g → Option CutWrite → DiskSet R g
-  bare_site (Deported idle) cut = Bare (rack_of idle.rack)
-  bare_site other cut = let s : GroupSet R g = record { site = other; cut = cut } in OfGroup s
+  abbrev pub given_bare : GroupSite R g → Option CutWrite → DiskSet R g
+  given_bare (Deported idle) cut = Bare (rack_of idle.rack)
+  given_bare other cut = let s : GroupSet R g = record { site = other; cut = cut } in OfGroup s
 
   abbrev pub bare_again : DiskSet R g → DiskSet R g
-  bare_again (OfGroup s) = bare_site s.site s.cut
+  bare_again (OfGroup s) = given_bare s.site s.cut
   bare_again other = other
 
   -- what was started over a group that was found; the disks of one that is not taken up are those of a bare site again

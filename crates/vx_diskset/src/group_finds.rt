@@ -5,7 +5,7 @@ ghost use Rattle.vx_history.specs.World.{Node};
 ghost use Rattle.vx_model.specs.declared.site.SiteState.TheVariants.{Bare as BareState};
 ghost use Rattle.vx_diskset.specs.Asked.{SameFailing};
 ghost use Rattle.vx_diskset.specs.DiskSets.{Later};
-ghost use Rattle.vx_diskset.specs.GroupFinds.{FindsIs, FindsOn, StartsBare, bare_again as bare_again_of, bare_site as bare_site_of};
+ghost use Rattle.vx_diskset.specs.GroupFinds.{FindsIs, FindsOn, StartsBare, bare_again as bare_again_of, given_bare as given_bare_of};
 ghost use Rattle.vx_untold.specs.Shades.{rack_of};
 ghost use Rattle.vx_diskset.specs.Holds.{KeptBeside};
 ghost use Rattle.vx_diskset.specs.Stands.{IsToldAt, SiteStands};
@@ -30,8 +30,8 @@ fn rack_in<R: Rack>(shade: Shade<R>) -> R
 }
 
 // Disks by themselves are those of a bare site again.
-fn bare_site<R: Rack>(site: GroupSite<R>, cut: Option<CutWrite>) -> DiskSet<R>
-    ensures { result ≡ bare_site_of site cut }
+fn given_bare<R: Rack>(site: GroupSite<R>, cut: Option<CutWrite>) -> DiskSet<R>
+    ensures { result ≡ given_bare_of site cut }
 {
     match site {
         GroupSite::Deported(idle) => DiskSet::Bare(rack_in(idle.rack)),
@@ -43,7 +43,7 @@ fn bare_again<R: Rack>(disk_set: DiskSet<R>) -> DiskSet<R>
     ensures { result ≡ bare_again_of disk_set }
 {
     match disk_set {
-        DiskSet::OfGroup(group) => bare_site(group.site, group.cut),
+        DiskSet::OfGroup(group) => given_bare(group.site, group.cut),
         other => other,
     }
 }
