@@ -48,12 +48,10 @@ use Rattle.vx_events.specs.RvgSteps.{FoundOne}
 use Rattle.vx_events.specs.StepsOver.{fact_of_group, group_place, over_group_at}
 use Rattle.vx_events.specs.declared.said.Said.{Said}
 use Rattle.vx_events.specs.declared.said.Said.TheVariants.{Done}
-use Rattle.vx_site_lines.specs.Rises.{own_disks}
 use Rattle.vx_yard.proofs.Carrying.{SameLoad}
 use Rattle.vx_yard.proofs.OneSite.{Changed}
 use Rattle.vx_yard.proofs.OverGroup.{over_rvg}
 use Rattle.vx_yard.specs.AboveLines.{LeadsBeside, LeadsBesideIs}
-use Rattle.vx_yard.specs.Carries.{Carries}
 use Rattle.vx_yard.specs.GroupFacts.{group_up_facts}
 use Rattle.vx_yard.specs.Standing.{StandsFor}
 use Rattle.vx_yard.specs.Yards.{IsTold}
@@ -61,15 +59,15 @@ use Rattle.vx_yard.specs.declared.yard.Yard.{Yard}
 use Rattle.vx_above.proofs.FuseGoing.{fused_goes, some_disks}
 use Rattle.vx_above.proofs.Works.{beside_over}
 use Rattle.vx_group_lines.specs.Noting.{made_facts, reply_noted}
-use Rattle.vx_group_lines.specs.RvgRises.{rests_as}
+use Rattle.vx_group_lines.specs.RvgRises.{rests_world}
 use Rattle.vx_group_lines.proofs.GroupAt.{away_notes}
 use Rattle.vx_group_lines.proofs.GroupCalls.{Called}
 use Rattle.vx_group_lines.proofs.GroupEnding.{Midway}
 use Rattle.vx_group_lines.proofs.GroupImports.{import_done, import_stopped}
 use Rattle.vx_group_lines.proofs.ImportWhys.{imported_disks}
 use Rattle.vx_group_lines.proofs.RvgComing.{none_after}
-use Rattle.vx_group_lines.proofs.RvgFound.{FoundCall, FoundHere, FoundIn, FoundLeads, found_leads, found_up}
-use Rattle.vx_group_lines.proofs.RvgStanding.{rvg_over}
+use Rattle.vx_group_lines.proofs.RvgFound.{FoundCall, FoundHere, found_carries, found_ends, found_fails, found_left, found_rose, found_sits, found_stands, found_up}
+use Rattle.vx_group_lines.proofs.RvgStanding.{RvgOver, rvg_over}
 
 never_ok : (stop : Stop) (r : Result (Unit {0}) Stop) → r ≡ Err stop → r ≡ Ok tt → ⊥
 never_ok stop r err ok = cc
@@ -79,8 +77,8 @@ fuse_then : (a b c : Option (ℕ × ℕ)) → FuseGoes a b → FuseGoes b c → 
 fuse_then a b c first second = record { set = second.set ∙ first.set; left = omega (arith, first.left, second.left); pick = second.pick ∙ first.pick }
 
 -- a site that was deported does not crash first
-rest_away : (d : Doubted) (s : ℕ) → (d.world.nodes s).state ≡ IsDeported → rests_as d s 0 false ≡ d
-rest_away d s away = ap (λ (t : SiteState). own_disks false s d.world (run_as false d (fall_first t s 0))) away
+rest_away : (d : Doubted) (s : ℕ) → (d.world.nodes s).state ≡ IsDeported → rests_world d s 0 false ≡ d
+rest_away d s away = ap (λ (t : SiteState). run_as false d (fall_first t s 0)) away
 
 module _ {R : Type 0} {g : Ghosts R} where
   -- ---- what the import brought
@@ -186,7 +184,7 @@ module _ {R : Type 0} {g : Ghosts R} where
     abbrev note : GroupNode
     note = note_at (d.world.nodes s)
 
-    rest : rests_as d s 0 false ≡ d
+    rest : rests_world d s 0 false ≡ d
     rest = rest_away d s away
 
     stood : SiteStands (beside_of d s) (d.world.nodes s) before
@@ -200,14 +198,14 @@ module _ {R : Type 0} {g : Ghosts R} where
       up : IsTrue (site_disks (site_in p)).down → ⊥
       up = (rvg_over (beside_of d s) here.node here.next (Over p) here.stands here.noted (rvg_apart here.node (over_rvg (beside_of d s) here.node p here.stands)) here.same.up here.origin).up
 
-      found_here : FoundIn d d d (GroupImport name) s old new before p (burned (d.world.nodes s).fuse)
-      found_here = record {
+      rests : FoundCall d d (GroupImport name) s false old new before p (burned (d.world.nodes s).fuse)
+      rests = record {
         stands = stands;
         fits = stands.links;
         below = call.at.below;
         sure = none_after d.world s (d.after s) (call.at.stands.sure call.at.made);
         links = call.at.stands.unlinked call.at.made;
-        group = refl;
+        note = refl;
         changed = subst (λ (x : DiskSet R g). Changed old new s before x) is call.changed;
         failing = subst (λ (x : DiskSet R g). SameFailing before x) is call.failing;
         brings = tt;
@@ -218,26 +216,23 @@ module _ {R : Type 0} {g : Ghosts R} where
             (stands.fuses s before call.at.below call.changed.there);
       }
 
-      rests : FoundCall d (GroupImport name) s 0 false old new before p (burned (d.world.nodes s).fuse)
-      rests = subst (λ (x : Doubted). FoundIn d x x (GroupImport name) s old new before p (burned (d.world.nodes s).fuse)) (sym rest) found_here
+      sits : RvgOver (beside_of (found_left d d (GroupImport name) s false old new before p (burned (d.world.nodes s).fuse) rests) s) here.node here.next (Over p)
+      sits = found_sits d d (GroupImport name) s false old new before p (burned n.fuse) rests
 
       over_leads : SameLoad old new
           → ((core : Core) (c : Config) → core_in after ≡ Some core → AtSite (λ x. site_config x ≡ Some c) after
           → new.facts.items ≡ slice_set old.facts.items s (made_facts core c (fact_of_group (d.world.nodes s) (note_at (d.world.nodes s))))) → LeadsBeside d (GroupImport name) Done old new
-      over_leads load made =
-          let leads : FoundLeads d (GroupImport name) s 0 false Done old new = found_leads d (GroupImport name) s 0 false old new before p (burned (d.world.nodes s).fuse) rests Done refl
-          (λ core c has at.
-          made core c (subst (λ (x : DiskSet R g). core_in x ≡ Some core) (sym is) has) (subst (λ (x : DiskSet R g). AtSite (λ y. site_config y ≡ Some c) x) (sym is) at)
-          ∙ ap (λ (x : Doubted). slice_set old.facts.items s (made_facts core c (fact_of_group (x.world.nodes s) (note_at (x.world.nodes s))))) (sym rest))
-          load in
-          record {
-            next = leads.next;
-            fails = leads.fails;
-            works = FoundOne (subst (λ (k : ℕ). RvgFinds (IsTold new) d (GroupImport name) k leads.fails Done leads.next) (sym place) leads.finds);
-            stands = leads.stands;
-            carries = λ carried. leads.carries (subst (λ (x : Doubted). Carries x old) (sym rest) carried);
-            rose = leads.rose;
-          }
+      over_leads load made = record {
+        next = found_left d d (GroupImport name) s false old new before p (burned n.fuse) rests;
+        fails = found_fails d d (GroupImport name) s false old new before p (burned n.fuse) rests;
+        works = FoundOne (subst (λ (k : ℕ). let e : Doubted = found_left d d (GroupImport name) s false old new before p (burned n.fuse) rests in
+            RvgFinds (IsTold new) d (GroupImport name) k (found_fails d d (GroupImport name) s false old new before p (burned n.fuse) rests) Done e) (sym place)
+            (found_ends d d (GroupImport name) s false old new before p (burned n.fuse) rests 0 Done (sym rest) refl));
+        stands = found_stands d d (GroupImport name) s false old new before p (burned n.fuse) rests
+            (made sits.core sits.config (subst (λ (x : DiskSet R g). core_in x ≡ Some sits.core) (sym is) sits.has_core) (subst (λ (x : DiskSet R g). AtSite (λ y. site_config y ≡ Some sits.config) x) (sym is) sits.has));
+        carries = λ carried. found_carries d d (GroupImport name) s false old new before p (burned n.fuse) rests load carried;
+        rose = found_rose d d (GroupImport name) s false old new before p (burned n.fuse) rests;
+      }
 
     -- it is done
     pub import_came : ImportsIn before after (Ok tt) → ImportsOn (λ o e. SiteImports (d.world.nodes s) (note_at (d.world.nodes s)) o e (Ok (tt {0}))) before after → ImportsOn (λ o e. CameMapped o e (Ok (tt {0}))) before after → cut_in after ≡ None

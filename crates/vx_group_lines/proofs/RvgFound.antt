@@ -238,52 +238,35 @@ module _ {R : Type 0} {g : Ghosts R} where
     stands = stands;
   }
 
-  -- What the line is done from: the yard stands for the world b in which the site rests, of which h is the same but for the disks that are made to fail, and the call
-  -- brought this up.
-  pub record FoundIn (d b h : Doubted) (line : ScriptLine) (s : ℕ) (old new : Yard R g) (before : DiskSet R g) (p : OverSet R g) (lit : Fuse) : Type 0 where
-    pub stands : StandsFor b old
+  -- What the line is done from: the yard stands for the world h in which the site rests, with the disks that are made to fail, and the call brought this up.
+  pub record FoundCall (d h : Doubted) (line : ScriptLine) (s : ℕ) (taken : Bool) (old new : Yard R g) (before : DiskSet R g) (p : OverSet R g) (lit : Fuse) : Type 0 where
+    pub stands : StandsFor (own_disks taken s d.world h) old
     pub fits : LinksFit h
-    pub below : s < b.world.sites
-    pub sure : b.after s ≡ None
-    pub links : header_links b.world s ≡ []
-    pub group : (b.world.nodes s).group ≡ (d.world.nodes s).group
+    pub below : s < (own_disks taken s d.world h).world.sites
+    pub sure : h.after s ≡ None
+    pub links : header_links (own_disks taken s d.world h).world s ≡ []
+    pub note : note_at ((own_disks taken s d.world h).world.nodes s) ≡ note_at (d.world.nodes s)
     pub changed : Changed old new s before (Over p)
     pub failing : SameFailing before (Over p)
     pub brings : BringsUp line
-    pub over : FoundHere (beside_of b s) (b.world.nodes s) lit p
-    pub less : KnowsLess (note_at (b.world.nodes s)) over.next (site_in p)
-    pub lit_is : lit_by line (b.world.nodes s).fuse ≡ lit
+    pub over : FoundHere (beside_of (own_disks taken s d.world h) s) ((own_disks taken s d.world h).world.nodes s) lit p
+    pub less : KnowsLess (note_at ((own_disks taken s d.world h).world.nodes s)) over.next (site_in p)
+    pub lit_is : lit_by line ((own_disks taken s d.world h).world.nodes s).fuse ≡ lit
     pub fused : FusedAs over.node (Over p)
 
-  abbrev pub FoundCall : Doubted → ScriptLine → (s kept : ℕ) → (taken : Bool) → Yard R g → Yard R g → DiskSet R g → OverSet R g → Fuse → Type 0
-  FoundCall d line s kept taken old new before p lit = FoundIn d (rests_as d s kept taken) (rests_world d s kept taken) line s old new before p lit
-
-  -- what it leads to
-  pub record FoundLeads (d : Doubted) (line : ScriptLine) (s kept : ℕ) (taken : Bool) (said : Said) (old new : Yard R g) : Type 0 where
-    pub next : Doubted
-    pub fails : Fails
-    pub finds : RvgFinds (IsTold new) d line s fails said next
-    pub stands : StandsFor next new
-    pub carries : Carries (rests_as d s kept taken) old → Carries next new
-    pub rose : RoseAll fails (count_of old) (count_of new)
-
-  module _ (d : Doubted) (line : ScriptLine) (s kept : ℕ) (taken : Bool) (old new : Yard R g) (before : DiskSet R g) (p : OverSet R g) (lit : Fuse)
-      (call : FoundCall d line s kept taken old new before p lit) where
-    -- behind the crash, and the same with the disks that are made to fail
-    abbrev h : Doubted
-    h = rests_world d s kept taken
-
+  module _ (d h : Doubted) (line : ScriptLine) (s : ℕ) (taken : Bool) (old new : Yard R g) (before : DiskSet R g) (p : OverSet R g) (lit : Fuse) (call : FoundCall d h line s taken old new before p lit) where
+    -- with the disks that are made to fail
     abbrev b : Doubted
-    b = rests_as d s kept taken
+    b = own_disks taken s d.world h
 
     abbrev was : Node
     was = d.world.nodes s
 
     abbrev at : Node
-    at = (rests_world d s kept taken).world.nodes s
+    at = h.world.nodes s
 
     abbrev n : Node
-    n = (rests_as d s kept taken).world.nodes s
+    n = (own_disks taken s d.world h).world.nodes s
 
     -- what came up, and what it is before the line notes its disks
     abbrev m : Node
@@ -293,35 +276,35 @@ module _ {R : Type 0} {g : Ghosts R} where
     next = call.over.next
 
     abbrev k : Node
-    k = came_with ((rests_world d s kept taken).world.nodes s) call.over.node
+    k = came_with (h.world.nodes s) call.over.node
 
     abbrev row : ℕ → Link
-    row = (rests_world d s kept taken).world.links s
+    row = h.world.links s
 
     abbrev pub found_world : Doubted
-    found_world = found_linked (rests_world d s kept taken) s (came_with ((rests_world d s kept taken).world.nodes s) call.over.node) ((rests_world d s kept taken).world.links s)
+    found_world = found_linked h s (came_with (h.world.nodes s) call.over.node) (h.world.links s)
 
     abbrev shown : Doubted
-    shown = own_disks taken s d.world (found_linked (rests_world d s kept taken) s (came_with ((rests_world d s kept taken).world.nodes s) call.over.node) ((rests_world d s kept taken).world.links s))
+    shown = own_disks taken s d.world (found_linked h s (came_with (h.world.nodes s) call.over.node) (h.world.links s))
 
     abbrev pub found_left : Doubted
-    found_left = let e : Doubted = found_linked (rests_world d s kept taken) s (came_with ((rests_world d s kept taken).world.nodes s) call.over.node) ((rests_world d s kept taken).world.links s) in
+    found_left = let e : Doubted = found_linked h s (came_with (h.world.nodes s) call.over.node) (h.world.links s) in
         record (gone_astray e) { world = group_noted s line (noting (with_disks taken s d.world e.world) s call.over.next) }
 
-    here : (rests_as d s kept taken).world.nodes s ≡ own_node taken (d.world.nodes s) ((rests_world d s kept taken).world.nodes s)
+    here : (own_disks taken s d.world h).world.nodes s ≡ own_node taken (d.world.nodes s) (h.world.nodes s)
     here = own_is s d.world h taken
 
-    same : OwnSame taken (d.world.nodes s) ((rests_world d s kept taken).world.nodes s)
+    same : OwnSame taken (d.world.nodes s) (h.world.nodes s)
     same = own_same taken was at
 
-    below_h : s < (rests_world d s kept taken).world.sites
+    below_h : s < h.world.sites
     below_h = subst (λ (i : ℕ). s < i) (own_sites s d.world h taken) call.below
 
     -- ---- what it came up as
 
-    comes_as : ComesUpAs s (rests_world d s kept taken).world.sites
-        (let x : Node = record ((rests_world d s kept taken).world.nodes s) { volumes = call.over.node.volumes; group = call.over.node.group } in x)
-        (came_with ((rests_world d s kept taken).world.nodes s) call.over.node) ((rests_world d s kept taken).world.links s)
+    comes_as : ComesUpAs s h.world.sites
+        (let x : Node = record (h.world.nodes s) { volumes = call.over.node.volumes; group = call.over.node.group } in x)
+        (came_with (h.world.nodes s) call.over.node) (h.world.links s)
     comes_as = record {
       same = record {
         name = call.over.same.name ∙ ap (λ (x : Node). x.name) here ∙ same.name;
@@ -344,15 +327,15 @@ module _ {R : Type 0} {g : Ghosts R} where
     is_over : is_over_rvg call.over.node ≡ true
     is_over = over_rvg (beside_of b s) m p call.over.stands
 
-    some : (own_node taken (d.world.nodes s) (came_with ((rests_world d s kept taken).world.nodes s) call.over.node)).volumes ≡ [] → ⊥
+    some : (own_node taken (d.world.nodes s) (came_with (h.world.nodes s) call.over.node)).volumes ≡ [] → ⊥
     some none = some_data m is_over (sym (own_same taken was k).volumes ∙ none)
 
-    effect : EffectAt s (rests_as d s kept taken) shown (own_node taken (d.world.nodes s) (came_with ((rests_world d s kept taken).world.nodes s) call.over.node)) ((rests_world d s kept taken).world.links s)
-        ((rests_world d s kept taken).world.headers s) ((rests_world d s kept taken).after s)
-        ((rests_world d s kept taken).world.packets ++ recovery_greeting s (came_with ((rests_world d s kept taken).world.nodes s) call.over.node)) ((rests_world d s kept taken).world.gathering s)
+    effect : EffectAt s (own_disks taken s d.world h) shown (own_node taken (d.world.nodes s) (came_with (h.world.nodes s) call.over.node)) (h.world.links s)
+        (h.world.headers s) (h.after s)
+        (h.world.packets ++ recovery_greeting s (came_with (h.world.nodes s) call.over.node)) (h.world.gathering s)
     effect = behind_disks s d.world h (found_linked h s k row) k row (h.world.headers s) (h.after s) (h.world.packets ++ recovery_greeting s k) (h.world.gathering s) taken (found_effect h s k row)
 
-    came : Arrives (rests_as d s kept taken) shown s (own_node taken (d.world.nodes s) (came_with ((rests_world d s kept taken).world.nodes s) call.over.node)) ((rests_as d s kept taken).world.gathering s)
+    came : Arrives (own_disks taken s d.world h) shown s (own_node taken (d.world.nodes s) (came_with (h.world.nodes s) call.over.node)) ((own_disks taken s d.world h).world.gathering s)
     came =
         subst (λ (o : Option Gathering). Arrives b shown s (own_node taken was k) o) (sym (own_gathering s d.world h taken))
         (arrives_then b b shown s n (own_node taken was k) row (h.world.headers s) (h.after s) (h.world.packets ++ recovery_greeting s k) (b.world.gathering s) (h.world.gathering s)
@@ -364,7 +347,7 @@ module _ {R : Type 0} {g : Ghosts R} where
         (λ _ made none. absurd (some none)))
 
     -- behind the line
-    pub found_arrives : Arrives (rests_as d s kept taken) found_left s call.over.node ((rests_as d s kept taken).world.gathering s)
+    pub found_arrives : Arrives (own_disks taken s d.world h) found_left s call.over.node ((own_disks taken s d.world h).world.gathering s)
     found_arrives =
         arrives_astray b (record shown { world = group_noted s line (noting shown.world s next) }) s m (b.world.gathering s)
         (arrives_as b (record shown { world = group_noted s line (noting shown.world s next) }) s
@@ -373,10 +356,10 @@ module _ {R : Type 0} {g : Ghosts R} where
         (ap (λ (f : Fuse). lit_by line f) (sym same.fuse ∙ ap (λ (x : Node). x.fuse) (sym here)) ∙ call.lit_is ∙ sym call.over.same.fuse))
         (arrives_left line call.brings b shown s (own_node taken was k) next (b.world.gathering s) came))
 
-    headers : found_left.world.headers s ≡ (rests_as d s kept taken).world.headers s
+    headers : found_left.world.headers s ≡ (own_disks taken s d.world h).world.headers s
     headers = headers_left line call.brings shown.world s next ∙ effect.is.headers ∙ sym (own_headers s d.world h taken)
 
-    beside : beside_of found_left s ≡ beside_of (rests_as d s kept taken) s
+    beside : beside_of found_left s ≡ beside_of (own_disks taken s d.world h) s
     beside =
         beside_sure found_left s [] (b.world.headers s) found_arrives.links headers found_arrives.sure
         ∙ sym (beside_sure b s [] (b.world.headers s) call.links refl call.sure)
@@ -386,7 +369,7 @@ module _ {R : Type 0} {g : Ghosts R} where
 
     -- ---- the yard stands for it
 
-    comes : Comes (rests_as d s kept taken) found_left s (Over p)
+    comes : Comes (own_disks taken s d.world h) found_left s (Over p)
     comes = record {
       changes = found_arrives.site;
       links = found_arrives.fits;
@@ -417,18 +400,18 @@ module _ {R : Type 0} {g : Ghosts R} where
     fits_here : FitsRvg call.over.node (at_serial 0 found_sits.config) call.over.units
     fits_here = subst (λ (c : Config). FitsRvg m c call.over.units) (sym found_config) call.over.fits
 
-    seen : made_facts found_sits.core found_sits.config (fact_of_group ((rests_as d s kept taken).world.nodes s) (note_at ((rests_as d s kept taken).world.nodes s))) ≡ fact_over found_left.world s
+    seen : made_facts found_sits.core found_sits.config (fact_of_group ((own_disks taken s d.world h).world.nodes s) (note_at ((own_disks taken s d.world h).world.nodes s))) ≡ fact_over found_left.world s
     seen =
         gained_fact found_left.world s n m (note_at n) next found_sits.core found_sits.config call.over.units found_arrives.node found_noted (notes_config next found_sits.config found_sits.noted) call.over.same.up is_over (rvg_apart m is_over)
         fits_here.rvg fits_here.volumes found_arrives.links call.over.same.name call.over.same.disks call.over.same.blocks
         (up_seen (beside_of found_left s) m found_sits.core found_sits.volumes found_sits.stands call.over.same.running call.over.whole)
 
-    pub found_stands : new.facts.items ≡ slice_set old.facts.items s (made_facts found_sits.core found_sits.config (fact_of_group ((rests_as d s kept taken).world.nodes s) (note_at ((rests_as d s kept taken).world.nodes s)))) → StandsFor found_left new
+    pub found_stands : new.facts.items ≡ slice_set old.facts.items s (made_facts found_sits.core found_sits.config (fact_of_group ((own_disks taken s d.world h).world.nodes s) (note_at ((own_disks taken s d.world h).world.nodes s)))) → StandsFor found_left new
     found_stands facts =
         stands_at b found_left old new s (made_facts found_sits.core found_sits.config (fact_of_group n (note_at n))) before (Over p) call.stands call.below call.changed comes
         (λ was. subst (λ (x : Node). BeginsFirst s x) (sym found_arrives.node) (found_arrives.first was)) (λ _. subst (λ (x : Node). NotedAt x (Over p)) (sym found_arrives.node) here_noted) seen facts
 
-    found_carries : SameLoad old new → Carries (rests_as d s kept taken) old → Carries found_left new
+    pub found_carries : SameLoad old new → Carries (own_disks taken s d.world h) old → Carries found_left new
     found_carries load carries =
         carries_at s b found_left old new carries load (record { site = found_arrives.site; packets = found_arrives.packets; gathering = found_arrives.gathering })
         (feeds_none n (found_left.world.nodes s) (λ up receives. both_ways call.over.origin (ap (λ (x : Node). is_origin x.role) (sym found_arrives.node) ∙ receives)))
@@ -443,61 +426,69 @@ module _ {R : Type 0} {g : Ghosts R} where
 
     known : KnowsNothing (IsTold new) (note_at (d.world.nodes s))
     known =
-        subst (λ (o : Option GroupNode). KnowsNothing (IsTold new) (unwrap_or o no_note)) call.group
+        subst (λ (x : GroupNode). KnowsNothing (IsTold new) x) call.note
         (knows_nothing (IsTold new) (site_below (site_in p)).tells (note_at n) told_below call.less.was)
 
-    abbrev fails : Fails
-    fails = calls s old new n.disks
+    abbrev pub found_fails : Fails
+    found_fails = calls s old new ((own_disks taken s d.world h).world.nodes s).disks
+
+    pub found_rose : RoseAll found_fails (count_of old) (count_of new)
+    found_rose = rose_below old new s before (Over p) call.changed n.disks
 
     -- the line finds it, and says so in the world in which it came up
-    pub found_leads : (said : Said) → SaysFoundUp line s call.over.next found_world.world said
-        → ((core : Core) (c : Config) → core_in (Over p) ≡ Some core → AtSite (λ x. site_config x ≡ Some c) (Over p)
-        → new.facts.items ≡ slice_set old.facts.items s (made_facts core c (fact_of_group ((rests_as d s kept taken).world.nodes s) (note_at ((rests_as d s kept taken).world.nodes s)))))
-        → SameLoad old new → FoundLeads d line s kept taken said old new
-    found_leads said says facts load = record {
-      next = found_left;
-      fails = fails;
-      finds = FindsRvg kept taken next h (let x : Node = record at { volumes = m.volumes; group = m.group } in x) k row call.over.now call.over.units
-          (calls_of s (count_of old s) (count_of new s) n.disks) call.brings known (λ told. call.less.dark (told_below told)) refl refl comes_as call.over.is
-          (record { rvg = call.over.fits.rvg; volumes = call.over.fits.volumes; ring = call.over.fits.ring }) call.over.has says (record { world = refl; after = λ i. refl; strayed = refl });
-      stands = found_stands (facts found_sits.core found_sits.config found_sits.has_core found_sits.has);
-      carries = λ carried. found_carries load carried;
-      rose = rose_below old new s before (Over p) call.changed n.disks;
-    }
+    pub found_ends : (kept : ℕ) (said : Said) → h ≡ rests_world d s kept taken → SaysFoundUp line s call.over.next found_world.world said → RvgFinds (IsTold new) d line s found_fails said found_left
+    found_ends kept said is says =
+        FindsRvg kept taken next h (let x : Node = record at { volumes = m.volumes; group = m.group } in x) k row call.over.now call.over.units
+        (calls_of s (count_of old s) (count_of new s) n.disks) call.brings known (λ told. call.less.dark (told_below told)) is refl comes_as call.over.is
+        (record { rvg = call.over.fits.rvg; volumes = call.over.fits.volumes; ring = call.over.fits.ring }) call.over.has says (record { world = refl; after = λ i. refl; strayed = refl })
 
   -- ---- a recovery shows how the site stands then
 
-  module _ (d : Doubted) (name : List ℕ) (s kept : ℕ) (taken : Bool) (old new : Yard R g) (before : DiskSet R g) (p : OverSet R g) (lit : Fuse) (call : FoundCall d (Recover name) s kept taken old new before p lit) where
+  module _ (d h : Doubted) (name : List ℕ) (s : ℕ) (taken : Bool) (old new : Yard R g) (before : DiskSet R g) (p : OverSet R g) (lit : Fuse) (call : FoundCall d h (Recover name) s taken old new before p lit) where
     abbrev left : Doubted
-    left = found_left d (Recover name) s kept taken old new before p lit call
+    left = found_left d h (Recover name) s taken old new before p lit call
 
     abbrev up : Doubted
-    up = found_world d (Recover name) s kept taken old new before p lit call
+    up = found_world d h (Recover name) s taken old new before p lit call
 
     abbrev v : World
-    v = (own_disks taken s d.world (found_world d (Recover name) s kept taken old new before p lit call)).world
+    v = (own_disks taken s d.world (found_world d h (Recover name) s taken old new before p lit call)).world
 
-    same_view : linked_view (found_left d (Recover name) s kept taken old new before p lit call).world s ≡ linked_view (found_world d (Recover name) s kept taken old new before p lit call).world s
+    same_view : linked_view (found_left d h (Recover name) s taken old new before p lit call).world s ≡ linked_view (found_world d h (Recover name) s taken old new before p lit call).world s
     same_view = view_noted v s (v.nodes s).failing (Some call.over.next) ∙ own_view taken s d.world up
 
-    up_node : (found_world d (Recover name) s kept taken old new before p lit call).world.nodes s ≡ came_with ((rests_world d s kept taken).world.nodes s) call.over.node
-    up_node = at_place (rests_world d s kept taken).world.nodes s (came_with ((rests_world d s kept taken).world.nodes s) call.over.node)
+    up_node : (found_world d h (Recover name) s taken old new before p lit call).world.nodes s ≡ came_with (h.world.nodes s) call.over.node
+    up_node = at_place h.world.nodes s (came_with (h.world.nodes s) call.over.node)
 
     -- by the world in which it came up
-    shown_as : (let l : Doubted = found_left d (Recover name) s kept taken old new before p lit call in over_disks (l.world.nodes s) (note_at (l.world.nodes s)) (linked_view l.world s))
-        ≡ (let u : Doubted = found_world d (Recover name) s kept taken old new before p lit call in over_disks (u.world.nodes s) call.over.next (linked_view u.world s))
+    shown_as : (let l : Doubted = found_left d h (Recover name) s taken old new before p lit call in over_disks (l.world.nodes s) (note_at (l.world.nodes s)) (linked_view l.world s))
+        ≡ (let u : Doubted = found_world d h (Recover name) s taken old new before p lit call in over_disks (u.world.nodes s) call.over.next (linked_view u.world s))
     shown_as =
-        ap (λ (x : Node). over_disks x (note_at x) (linked_view left.world s)) (found_arrives d (Recover name) s kept taken old new before p lit call).node
-        ∙ ap (λ (x : GroupNode). over_disks call.over.node x (linked_view left.world s)) (found_noted d (Recover name) s kept taken old new before p lit call)
+        ap (λ (x : Node). over_disks x (note_at x) (linked_view left.world s)) (found_arrives d h (Recover name) s taken old new before p lit call).node
+        ∙ ap (λ (x : GroupNode). over_disks call.over.node x (linked_view left.world s)) (found_noted d h (Recover name) s taken old new before p lit call)
         ∙ ap (λ (x : Node). over_disks x call.over.next (linked_view left.world s)) (sym up_node)
         ∙ ap (λ (x : SiteView). over_disks (up.world.nodes s) call.over.next x) same_view
 
-    pub found_raises : (said : Said) (shown : Option Kept)
-        → (let l : Doubted = found_left d (Recover name) s kept taken old new before p lit call in said ≡ Resumed (over_disks (l.world.nodes s) (note_at (l.world.nodes s)) (linked_view l.world s)) shown)
-        → ((core : Core) (c : Config) → core_in (Over p) ≡ Some core → AtSite (λ x. site_config x ≡ Some c) (Over p)
-        → new.facts.items ≡ slice_set old.facts.items s (made_facts core c (fact_of_group ((rests_as d s kept taken).world.nodes s) (note_at ((rests_as d s kept taken).world.nodes s)))))
-        → SameLoad old new → RaisesFor d (Recover name) s kept taken said old new
-    found_raises said shown is facts load =
-        let it : FoundLeads d (Recover name) s kept taken said old new
-        = found_leads d (Recover name) s kept taken old new before p lit call said (shown, is ∙ ap (λ (x : SiteView). Resumed x shown) shown_as) facts load in
-        record { next = it.next; fails = it.fails; works = inr it.finds; stands = it.stands; carries = it.carries; rose = it.rose }
+    pub found_says : (said : Said) (shown : Option Kept)
+        → (let l : Doubted = found_left d h (Recover name) s taken old new before p lit call in said ≡ Resumed (over_disks (l.world.nodes s) (note_at (l.world.nodes s)) (linked_view l.world s)) shown)
+        → SaysFoundUp (Recover name) s call.over.next (found_world d h (Recover name) s taken old new before p lit call).world said
+    found_says said shown is = (shown, is ∙ ap (λ (x : SiteView). Resumed x shown) shown_as)
+
+  -- of a site with a replicated volume group, in which nothing was known of the disks
+  pub found_raises : (d : Doubted) (name : List ℕ) (s kept : ℕ) (taken : Bool) (old new : Yard R g) (before : DiskSet R g) (p : OverSet R g) (lit : Fuse)
+      (call : FoundCall d (rests_world d s kept taken) (Recover name) s taken old new before p lit) (said : Said) (shown : Option Kept)
+      → (let l : Doubted = found_left d (rests_world d s kept taken) (Recover name) s taken old new before p lit call in said ≡ Resumed (over_disks (l.world.nodes s) (note_at (l.world.nodes s)) (linked_view l.world s)) shown)
+      → ((core : Core) (c : Config) → core_in (Over p) ≡ Some core → AtSite (λ x. site_config x ≡ Some c) (Over p)
+      → new.facts.items ≡ slice_set old.facts.items s (made_facts core c (fact_of_group ((rests_as d s kept taken).world.nodes s) (note_at ((rests_as d s kept taken).world.nodes s)))))
+      → SameLoad old new → RaisesFor d (Recover name) s kept taken said old new
+  found_raises d name s kept taken old new before p lit call said shown is facts load =
+      let h : Doubted = rests_world d s kept taken in
+      let sits = found_sits d h (Recover name) s taken old new before p lit call in
+      record {
+        next = found_left d h (Recover name) s taken old new before p lit call;
+        fails = found_fails d h (Recover name) s taken old new before p lit call;
+        works = inr (found_ends d h (Recover name) s taken old new before p lit call kept said refl (found_says d h name s taken old new before p lit call said shown is));
+        stands = found_stands d h (Recover name) s taken old new before p lit call (facts sits.core sits.config sits.has_core sits.has);
+        carries = λ carried. found_carries d h (Recover name) s taken old new before p lit call load carried;
+        rose = found_rose d h (Recover name) s taken old new before p lit call;
+      }
