@@ -43,7 +43,7 @@ use Rattle.vx_events.specs.Stamps.{most_stamp, most_stamp_at}
 use Rattle.vx_events.specs.declared.said.Said.{Said}
 use Rattle.vx_events.specs.declared.said.Said.TheVariants.{Refused}
 use Rattle.vx_yard.proofs.Carrying.{SameLoad}
-use Rattle.vx_yard.proofs.ChangeSite.{rose_still}
+use Rattle.vx_yard.proofs.CrashLine.{rose_still}
 use Rattle.vx_yard.specs.Stands.{RoseAll}
 use Rattle.vx_yard.specs.Yards.{IsTold, count_of}
 use Rattle.vx_yard.specs.declared.yard.Yard.{Yard}
