@@ -99,6 +99,7 @@ module _ {R : Type 0} {g : Ghosts R} where
     pub quiet : node.phase ≡ Quiet
     pub origin : is_origin node.role ≡ true
     pub rests : node.fed_by ≡ node.other
+    pub clear : next.cut ≡ None
     pub is : config_of next.config ≡ Some now
     pub fits : FitsRvg node now units
     pub has : HasUnits now.volumes units
