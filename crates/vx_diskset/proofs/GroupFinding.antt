@@ -7,6 +7,7 @@ use Rattle.vx_model.specs.declared.errors.Stop.TheVariants.{No as Refused}
 use Rattle.vx_model.specs.declared.no.No.TheVariants.{NoConfig}
 use Rattle.vx_model.specs.declared.site.SiteState.TheVariants.{Bare as IsBare, Up as IsUp, Down as IsDown, Deported as IsDeported}
 use Rattle.vx_diskset.specs.declared.over_set.OverSite.TheVariants.{Origin as OriginSite, Receiver as ReceiverSite, Deported as GroupAway, Down as GroupFell, Gone as NoGroup}
+use Rattle.vx_config.specs.declared.config.Config.{Config}
 use Rattle.vx_disk.specs.Shelf.{Keeps, Lawful, Meaning}
 use Rattle.vx_disk.specs.declared.shelf.Shelf.{Ghosts}
 use Rattle.vx_history.specs.Steps.{burned}
@@ -28,7 +29,7 @@ use Rattle.vx_grouped.specs.declared.laid.Laid.{Laid}
 use Rattle.vx_model.specs.declared.units.Units.{Units}
 use Rattle.vx_diskset.specs.Asked.{SameFailing}
 use Rattle.vx_diskset.specs.DiskSets.{Later}
-use Rattle.vx_diskset.specs.GroupFinds.{FindsIs, FindsOn, FoundIn, FoundUp, InBare, StartsBare, bare_again, given_bare}
+use Rattle.vx_diskset.specs.GroupFinds.{FindsIs, FindsOn, FoundIn, FoundUp, HasPlain, InBare, StartsBare, bare_again, given_bare}
 use Rattle.vx_diskset.specs.Holds.{KeptBeside}
 use Rattle.vx_diskset.specs.Stands.{IsCleanAt, IsGroupSet, IsRackTold, IsToldAt, SiteStands, OverStands}
 use Rattle.vx_diskset.specs.declared.disk_set.DiskSet.{DiskSet}
@@ -208,9 +209,15 @@ module _ {R : Type 0} {g : Ghosts R} where
           (record { laid = laid; up = up; over = over laid units s up it.0 started }, ap (λ (k : Option CutWrite). cut_value k) started.cut)
       done_starts units GoneSet done it = absurd it
 
-      done_units : (rvg : Option Units) (new : DiskSet R g) (done : Unit {0}) → PlainUnits true None rvg laid None new (Ok done) → FoundIn site n new × (cut_in new ≡ None)
-      done_units None new done it = subst (λ (x : DiskSet R g). FoundIn site n x × (cut_in x ≡ None)) (sym it.0) (up, refl)
-      done_units (Some units) new done it = done_starts units new done it
+      up_plain : laid.core.inner.config.rvg ≡ None → HasPlain (Up laid)
+      up_plain none c is = ap (λ (k : Config). k.rvg) (one c laid.core.inner.config (sym is)) ∙ none
+        where
+          one : (x y : Config) → Some x ≡ Some y → x ≡ y
+          one x y same = cc
+
+      done_units : (rvg : Option Units) (new : DiskSet R g) (done : Unit {0}) → laid.core.inner.config.rvg ≡ rvg → PlainUnits true None rvg laid None new (Ok done) → FoundIn site n new × (cut_in new ≡ None)
+      done_units None new done none it = subst (λ (x : DiskSet R g). FoundIn site n x × (cut_in x ≡ None)) (sym it.0) ((up, up_plain none), refl)
+      done_units (Some units) new done none it = done_starts units new done it
 
       stop_starts : (units : Units) (mid : DiskSet R g) (stop : Stop) → PlainStarts true None units laid None mid (Err stop) → InBare (λ m. FindStops n (g.meaning rack) m stop) (bare_again mid)
       stop_starts units (Bare r) stop it = absurd it
@@ -232,7 +239,7 @@ module _ {R : Type 0} {g : Ghosts R} where
       stop_units (Some units) mid stop it = stop_starts units mid stop it
 
     pub finds_with : (e : GroupSite R g) (new : DiskSet R g) (r : Result (Unit {0}) Stop) → FoundUp site n e → ReturnSince (g.meaning rack) (site_disks e) → StartsBare e new r → FindsOn site n (g.meaning rack) new r
-    finds_with (Up laid) new (Ok done) up since it = done_units laid up since laid.core.inner.config.rvg new done it
+    finds_with (Up laid) new (Ok done) up since it = done_units laid up since laid.core.inner.config.rvg new done refl it
     finds_with (Up laid) new (Err stop) up since it =
         subst (λ (x : DiskSet R g). InBare (λ m. FindStops n (g.meaning rack) m stop) x) (sym it.1) (stop_units laid up since laid.core.inner.config.rvg it.0 stop it.2)
     finds_with (Deported idle) new r up since it = absurd up.4

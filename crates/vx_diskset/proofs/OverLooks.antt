@@ -133,7 +133,7 @@ module _ {R : Type 0} {g : Ghosts R} where
       noted_so looks.0 s new_at new_above was last fell named cut_is,
       looks.1,
       subst (λ (e : GroupSite R g). Rose ((site_disks e).disk_faults disk) ((site_disks (site_in last)).disk_faults disk)) at
-      (subst (λ (x : ℕ). Rose ((site_disks site).disk_faults disk) x) (sym (crash_counts pick (site_in s) (site_in last) stopped disk))
-      (subst (λ (e : GroupSite R g). Rose ((site_disks site).disk_faults disk) ((site_disks e).disk_faults disk)) (sym new_at) looks.2)),
+          (subst (λ (x : ℕ). Rose ((site_disks site).disk_faults disk) x) (sym (crash_counts pick (site_in s) (site_in last) stopped disk))
+          (subst (λ (e : GroupSite R g). Rose ((site_disks site).disk_faults disk) ((site_disks e).disk_faults disk)) (sym new_at) looks.2)),
     )
     looks_lost other looks s new_at new_above was last crash fell named cut_is pick stopped = absurd looks

@@ -1,5 +1,5 @@
 -- A group that an earlier run left on the disks of a bare site, of which it is not known what they hold.
-use Rattle.std.specs.Prelude.{◌≡◌, ◌⊎◌, ℕ, [], Option, Result, Ok, Err, None, true}
+use Rattle.std.specs.Prelude.{◌≡◌, ◌⊎◌, ℕ, [], Option, Result, Ok, Err, Some, None, true}
 use Rattle.vx_model.specs.declared.errors.Stop.{Stop}
 use Rattle.vx_model.specs.declared.errors.Stop.TheVariants.{No as Refused}
 use Rattle.vx_model.specs.declared.no.No.TheVariants.{NoConfig}
@@ -11,7 +11,7 @@ use Rattle.vx_history.specs.Steps.{burned}
 use Rattle.vx_history.specs.World.{Node}
 use Rattle.vx_grouped.specs.Begins.{group_begun}
 use Rattle.vx_grouped.specs.Finds.{FindStops, IsFoundNote}
-use Rattle.vx_grouped.specs.GroupSites.{UpNoted}
+use Rattle.vx_grouped.specs.GroupSites.{UpNoted, site_config}
 use Rattle.vx_grouped.specs.SiteEnds.{HasNow}
 use Rattle.vx_grouped.specs.SiteMaps.{StandMaps}
 use Rattle.vx_grouped.specs.SiteReturns.{ImportWhy}
@@ -35,6 +35,10 @@ module _ {R : Type 0} {g : Ghosts R} where
   abbrev pub FoundUp : ℕ → Node → GroupSite R g → Type 0
   FoundUp site n e = (note : GroupNode) × (c : Config) × IsFoundNote note c × HasNow c e × UpNoted (group_begun note site n) note e × StandMaps note e
 
+  -- there is no replicated volume group over it
+  abbrev pub HasPlain : GroupSite R g → Type 0
+  HasPlain e = (c : Config) → site_config e ≡ Some c → c.rvg ≡ None
+
   -- it came up with a replicated volume group over it
   pub record FoundWith (site : ℕ) (n : Node) (s : OverSet R g) : Type 0 where
     pub laid : Laid R g
@@ -42,7 +46,7 @@ module _ {R : Type 0} {g : Ghosts R} where
     pub over : (beside : KeptBeside) → beside.doubt ≡ None → beside.links ≡ [] → FoundOver beside n up.0 (burned n.fuse) laid s
 
   abbrev pub FoundIn : ℕ → Node → DiskSet R g → Type 0
-  FoundIn site n (OfGroup s) = FoundUp site n s.site
+  FoundIn site n (OfGroup s) = FoundUp site n s.site × HasPlain s.site
   FoundIn site n (Over s) = FoundWith site n s
   FoundIn site n other = ⊥
 
