@@ -1,5 +1,5 @@
 -- What a line leads to that starts what an earlier run left on the disks of a bare site.
-use Rattle.std.proofs.Common.{◌≡◌, ◌∙◌, ◌<◌, ◌++◌, ◌-◌, ◌⊎◌, ℕ, true, false, List, [], ◌∷◌, ap, sym, subst, refl, arith, inl}
+use Rattle.std.proofs.Common.{◌≡◌, ◌∙◌, ◌<◌, ◌++◌, ◌-◌, ℕ, true, false, List, [], ◌∷◌, ap, sym, subst, refl, arith, inl}
 use Rattle.std.specs.Prelude.{Some, None, Err, ◌&&◌, ◌||◌, map, slice_get, slice_set}
 use Rattle.std.proofs.lemmas.Option.{slice_get_within}
 use Rattle.vx_model.specs.Sites.{is_origin}
