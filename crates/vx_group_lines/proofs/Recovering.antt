@@ -144,7 +144,7 @@ module _ {R : Type 0} {g : Ghosts R} where
 
   module _ (old mid new : Yard R g) (s : ℕ) (before between : DiskSet R g) (first : RaisedTo old mid s before between) where
     -- the disks that came up are those that were looked at
-    same_between : (cut : Option CutWrite) (result : Result Said OutOfMemory) (st : StoodUp s cut mid new result) → between ≡ st.before
+    pub same_between : (cut : Option CutWrite) (result : Result Said OutOfMemory) (st : StoodUp s cut mid new result) → between ≡ st.before
     same_between cut result st =
         some_same
         (sym (ap (λ (es : List (DiskSet R g)). slice_get es s) first.disk_sets ∙ get-set_same old.disk_sets.items s between (slice_get_within old.disk_sets.items s before first.there)) ∙ st.there)

@@ -200,6 +200,9 @@ module _ {R : Type 0} {g : Ghosts R} (d : Doubted) (s kept : ℕ) (taken : Bool)
 
     -- ---- what is shown
 
+    pub risen_below : s < risen_world.world.sites
+    risen_below = omega (arith, call.below, arrives.site.sites)
+
     pub over_risen : is_over_rvg (risen_world.world.nodes s) ≡ true
     over_risen = ap (λ (k : Node). is_over_rvg k) arrives.node ∙ over
 
