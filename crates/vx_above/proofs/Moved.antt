@@ -114,8 +114,7 @@ module _ {R : Type 0} {g : Ghosts R} where
     call_named it m volumes group =
         let first : it.0 ≡ at_serial 0 moved.2.was = some_same (sym it.2 ∙ was_config) in
         let same : map plain_fact it.0.volumes ≡ map plain_fact moved.2.now.volumes =
-        ap (λ (o : Option Config). map plain_fact (volumes_of o)) (sym it.2) ∙ sym seen_same ∙ ap (λ (o : Option Config). map plain_fact (volumes_of o)) now_config in
-        (
+        ap (λ (o : Option Config). map plain_fact (volumes_of o)) (sym it.2) ∙ sym seen_same ∙ ap (λ (o : Option Config). map plain_fact (volumes_of o)) now_config in (
           at_serial 0 moved.2.now,
           it.1,
           ap (λ (o : Option GroupNode). config_of (unwrap_or o no_note).config) group ∙ now_config,

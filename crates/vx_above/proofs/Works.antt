@@ -76,6 +76,22 @@ module _ {R : Type 0} {g : Ghosts R} where
   }
   beside_over d line old new (Err e) over stops = stops_full d line old new stops
 
+  -- a recovery that looked for a group on disks of which nothing is told, and found none with a replicated volume group
+  pub beside_found : (d : Doubted) (line : ScriptLine) (old new : Yard R g) (r : Result Said OutOfMemory) → is_for_group d.world line ≡ false → LeadsFoundIs d line old new r → LeadsBesideIs d line old new r
+  beside_found d line old new (Ok said) plain leads = record {
+    next = leads.next;
+    fails = leads.fails;
+    works = AsBefore (subst (λ (b : Bool). WorksOver b (IsTold new) d line leads.fails said leads.next) (sym plain) leads.done) (found_plain line (group_place d.world line) leads.next new leads.stands);
+    stands = leads.stands;
+    carries = leads.carries;
+    rose = leads.rose;
+  }
+  beside_found d line old new (Err e) plain stays = stops_full d line old new (stays_short d line old new stays)
+
+  -- one of which nothing was done, as memory was short
+  pub beside_short : (d : Doubted) (line : ScriptLine) (old new : Yard R g) → StaysFor d old new → StopsAbove d line old new
+  beside_short d line old new stays = stops_full d line old new (stays_short d line old new stays)
+
   -- a line for which memory was short before it began
   pub works_short : (d : Doubted) (line : ScriptLine) (old new : Yard R g) (r : Result Said OutOfMemory) (e : OutOfMemory) → r ≡ Err e → LeadsIs d line old new r → WorksIs d line old new r
   works_short d line old new (Ok said) e is leads = absurd (cc)
@@ -99,19 +115,6 @@ module _ {R : Type 0} {g : Ghosts R} where
 
     pub works_whole : (r : Result Said OutOfMemory) → is_for_group d.world line ≡ false → LeadsIs d line old new r → WorksIs d line old new r
     works_whole r plain leads = works_plain r plain (leads_whole d line old new r leads)
-
-    -- a recovery that looked for a group on disks of which nothing is told
-    pub works_found : (r : Result Said OutOfMemory) → is_for_group d.world line ≡ false → LeadsFoundIs d line old new r → WorksIs d line old new r
-    works_found (Ok said) plain leads = record {
-      next = leads.next;
-      fails = leads.fails;
-      works = beside_full (IsTold new) d line leads.fails said leads.next none closed off
-          (AsBefore (subst (λ (b : Bool). WorksOver b (IsTold new) d line leads.fails said leads.next) (sym plain) leads.done) (found_plain line (group_place d.world line) leads.next new leads.stands));
-      stands = leads.stands;
-      carries = leads.carries;
-      rose = leads.rose;
-    }
-    works_found (Err e) plain stays = stops_full d line old new (stays_short d line old new stays)
 
     -- one that works on a group
     pub works_over : (r : Result Said OutOfMemory) → is_for_group d.world line ≡ true → LeadsOverOrStops d line old new r → WorksIs d line old new r

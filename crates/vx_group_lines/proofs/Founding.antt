@@ -1,5 +1,6 @@
 -- What a recovery of a bare site leads a yard to, on whose disks an earlier run may have left a group.
-use Rattle.std.proofs.Common.{◌≡◌, ◌∙◌, ◌⊎◌, inl, inr, ℕ, Bool, true, false, List, [], ◌∷◌, map, ap, sym, subst, refl}
+use Rattle.std.proofs.Common.{◌≡◌, ◌∙◌, ◌⊎◌, ◌<◌, inl, inr, ℕ, Bool, true, false, List, [], ◌∷◌, map, ap, sym, subst, refl, arith, IsTrue}
+use Rattle.std.proofs.lemmas.Option.{slice_get_within}
 use Rattle.std.specs.Prelude.{Option, Some, None, Result, Ok, Err, slice_get, slice_set}
 use Rattle.vx_model.specs.declared.errors.OutOfMemory.{OutOfMemory as MemoryError}
 use Rattle.vx_model.specs.declared.errors.Stop.{Stop}
@@ -12,35 +13,46 @@ use Rattle.vx_model.specs.Refusals.{IsNoDevice}
 use Rattle.vx_config.specs.declared.config.Config.{Config}
 use Rattle.vx_disk.specs.Counts.{Rose}
 use Rattle.vx_disk.specs.declared.shelf.Shelf.{Ghosts}
-use Rattle.vx_history.specs.Doubts.{Doubted, happened}
+use Rattle.vx_history.specs.Doubts.{After, Doubted, happened}
 use Rattle.vx_history.specs.Groups.{GroupNode}
-use Rattle.vx_history.specs.Steps.{group_set, raw_set}
-use Rattle.vx_history.specs.World.{Node, NoFuse, World}
+use Rattle.vx_history.specs.Steps.{burned, group_set, raw_set}
+use Rattle.vx_history.specs.World.{Fuse, Node, NoFuse, World}
 use Rattle.vx_history.specs.declared.event.Event.TheVariants.{Group as MakeGroup, Recover as RecoverAt}
+use Rattle.vx_order.specs.declared.facts.LinkFacts.{LinkFacts}
 use Rattle.vx_order.specs.declared.facts.SiteFacts.{SiteFacts}
 use Rattle.vx_order.specs.declared.facts.VolumeFacts.{VolumeFacts}
 use Rattle.vx_report.specs.declared.view.SiteView.{SiteView}
+use Rattle.vx_rvg.specs.Views.{Core}
 use Rattle.vx_script.specs.declared.line.ScriptLine.TheVariants.{Recover}
 use Rattle.vx_grouped.specs.Begins.{group_begun}
-use Rattle.vx_grouped.specs.GroupSites.{UpNoted, site_config}
+use Rattle.vx_grouped.specs.GroupSites.{UpNoted, site_below, site_config}
 use Rattle.vx_grouped.specs.SiteReturns.{ImportWhy}
+use Rattle.vx_diskset.specs.Aboves.{site_in}
 use Rattle.vx_diskset.specs.Asked.{IsRawSet, FailsAs, SameFailing}
-use Rattle.vx_diskset.specs.GroupCalls.{AtSite, bare_disks, cut_in}
-use Rattle.vx_diskset.specs.GroupFinds.{FindsIs, FoundUp}
+use Rattle.vx_diskset.specs.GroupCalls.{AtSite, bare_disks, core_in, cut_in}
+use Rattle.vx_diskset.specs.GroupFinds.{FindsIs, FoundIn, FoundUp, FoundWith}
 use Rattle.vx_diskset.specs.GroupSets.{cut_value}
-use Rattle.vx_diskset.specs.Holds.{beside_of}
-use Rattle.vx_diskset.specs.Stands.{IsToldAt, SiteStands, faults_at}
+use Rattle.vx_diskset.specs.Holds.{beside_of, doubt_of, header_links}
+use Rattle.vx_diskset.specs.Stands.{IsRackTold, IsToldAt, SiteStands, faults_at}
 use Rattle.vx_diskset.specs.declared.disk_set.DiskSet.{DiskSet}
-use Rattle.vx_diskset.specs.declared.disk_set.DiskSet.TheVariants.{OfGroup}
+use Rattle.vx_diskset.specs.declared.disk_set.DiskSet.TheVariants.{Bare, Spoiled, Up as UpSet, Receives, Down as DownSet, OfGroup, Over, Gone as GoneSet}
+use Rattle.vx_diskset.specs.declared.group_set.GroupSet.{GroupSet}
+use Rattle.vx_diskset.specs.declared.over_set.OverSet.{OverSet}
 use Rattle.vx_events.specs.Doubts.{run_as}
 use Rattle.vx_events.specs.Ends.{DiskFails, Ends, FindsNone, FromBare}
 use Rattle.vx_events.specs.Facts.{seat_of, site_number}
 use Rattle.vx_events.specs.Fails.{Fails}
 use Rattle.vx_events.specs.GroupEnds.{FindsGroup, GroupEnds}
 use Rattle.vx_events.specs.GroupLines.{group_recovery, is_over_group}
+use Rattle.vx_events.specs.GroupNotes.{note_at}
 use Rattle.vx_events.specs.GroupViews.{grouped_view, noted_table, plain_fact}
+use Rattle.vx_events.specs.LinkViews.{linked_view}
 use Rattle.vx_events.specs.LinkedFacts.{linked_fact, links_by, links_of_site}
-use Rattle.vx_events.specs.StepsOver.{FindsKept, fact_of_group}
+use Rattle.vx_events.specs.RvgBack.{RvgFinds, fall_first}
+use Rattle.vx_events.specs.RvgFits.{config_rvg}
+use Rattle.vx_events.specs.RvgSteps.{FoundOne}
+use Rattle.vx_events.specs.RvgViews.{is_over_rvg, over_disks}
+use Rattle.vx_events.specs.StepsOver.{FindsKept, fact_of_group, is_for_group}
 use Rattle.vx_events.specs.declared.said.Said.{Said}
 use Rattle.vx_events.specs.declared.said.Said.TheVariants.{Refused as SaidNo, Resumed}
 use Rattle.vx_events.proofs.Places.{some_same}
@@ -48,13 +60,15 @@ use Rattle.vx_yard.proofs.Carrying.{SameLoad, carries_same}
 use Rattle.vx_yard.proofs.CrashLine.{rose_still}
 use Rattle.vx_yard.proofs.FailsStay.{fails_then}
 use Rattle.vx_yard.proofs.FuseStays.{fused_none}
+use Rattle.vx_yard.proofs.Lists.{get-set_same}
 use Rattle.vx_yard.proofs.NamedSite.{place_at, unbegun_for}
 use Rattle.vx_yard.proofs.NoteSite.{comes_same}
 use Rattle.vx_yard.proofs.OfSites.{recovers_rest}
 use Rattle.vx_yard.proofs.OneSite.{Changed, role_off, rose_at, stands_still, told_by}
-use Rattle.vx_yard.proofs.OverGroup.{noted_none}
+use Rattle.vx_yard.proofs.OverGroup.{bare_apart, noted_none, over_rvg}
 use Rattle.vx_yard.proofs.RecoverLine.{bare_events, recover_done}
 use Rattle.vx_yard.proofs.SiteEvents.{first_choice}
+use Rattle.vx_yard.specs.AboveLines.{LeadsBeside, LeadsBesideIs}
 use Rattle.vx_yard.specs.GroupFacts.{group_up_facts}
 use Rattle.vx_yard.specs.OfSites.{OfSite, RecoversAs}
 use Rattle.vx_yard.specs.Replies.{reply_to}
@@ -64,15 +78,20 @@ use Rattle.vx_yard.proofs.RawSites.{bare_set, raw_rack, raw_told}
 use Rattle.vx_yard.specs.Yards.{IsTold, count_of}
 use Rattle.vx_yard.specs.declared.yard.Yard.{Yard}
 use Rattle.vx_group_lines.specs.Founds.{IsBareUntold}
+use Rattle.vx_above.proofs.Works.{beside_found, beside_short}
+use Rattle.vx_group_lines.specs.Noting.{made_facts}
+use Rattle.vx_group_lines.specs.RvgRises.{rests_world}
 use Rattle.vx_group_lines.specs.Views.{view_with}
 use Rattle.vx_group_lines.proofs.Arriving.{Arrives, arrives_made, arrives_none, arrives_noted, noted_at}
 use Rattle.vx_group_lines.proofs.BareSites.{IsBareSite, bare_counts, bare_sure, bare_unfused, blank_links, never_up, over_state}
 use Rattle.vx_group_lines.proofs.GroupAt.{up_notes}
-use Rattle.vx_group_lines.proofs.GroupCalls.{SetThen, set_then}
+use Rattle.vx_group_lines.proofs.GroupCalls.{SetThen}
 use Rattle.vx_group_lines.proofs.GroupLeads.{Follows, follows_on, up_set}
 use Rattle.vx_group_lines.proofs.GroupShown.{view_up}
 use Rattle.vx_above.proofs.GroupStatus.{table_is}
 use Rattle.vx_group_lines.proofs.Rising.{HasUp, has_up}
+use Rattle.vx_group_lines.proofs.RvgFound.{FoundCall, FoundHere, found_arrives, found_carries, found_ends, found_fails, found_left, found_rose, found_says, found_sits, found_stands, found_up}
+use Rattle.vx_group_lines.proofs.RvgStanding.{RvgOver}
 
 -- what the tests see of a bare site that is a group with these volumes
 found_fact : (w : World) (s : ℕ) (note : GroupNode) (volumes : List VolumeFacts) → (w.nodes s).state ≡ IsBare → noted_table note ≡ volumes
@@ -151,18 +170,23 @@ module _ {R : Type 0} {g : Ghosts R} where
       by_stop (Refused why) (inr because) here facts = by_why why because here facts
       by_stop OutOfMemory (inr because) here facts = bare_stays here facts
 
-      pub found_none : (stop : Stop) (said : Result Said MemoryError) → said ≡ reply_to stop → FindsIs s n before after (Err stop) → new.facts.items ≡ old.facts.items → LeadsFoundIs d (Recover name) old new said
+      -- the site is over no group
+      alone : is_for_group d.world (Recover name) ≡ false
+      alone = ap (λ (k : ℕ). is_over_group (d.world.nodes k)) site.number ∙ bare_apart n site.is
+
+      pub found_none : (stop : Stop) (said : Result Said MemoryError) → said ≡ reply_to stop → FindsIs s (d.world.nodes s) before after (Err stop) → new.facts.items ≡ old.facts.items → LeadsBesideIs d (Recover name) old new said
       found_none stop said says found facts =
-          subst (λ (r : Result Said MemoryError). LeadsFoundIs d (Recover name) old new r) (sym says) (by_stop stop found.1 (found.0 (beside_of d s)) facts)
+          beside_found d (Recover name) old new said alone
+          (subst (λ (r : Result Said MemoryError). LeadsFoundIs d (Recover name) old new r) (sym says) (by_stop stop found.1 (found.0 (beside_of d s)) facts))
 
       -- ---- a group came up
 
-      pub found_done : (done : Unit {0}) (view : SiteView) → FindsIs s n before after (Ok done)
-          → ((c : Config) → AtSite (λ e. site_config e ≡ Some c) after
+      found_done : (view : SiteView) (t : GroupSet R g) → after ≡ OfGroup t → FoundUp s (d.world.nodes s) t.site → ((c : Config) → site_config t.site ≡ Some c → c.rvg ≡ None) → cut_in after ≡ None
+          → ((c : Config) → AtSite (λ e. site_config e ≡ Some c) after → c.rvg ≡ None → core_in after ≡ None
           → (new.facts.items ≡ slice_set old.facts.items s (group_up_facts (map plain_fact c.volumes) (linked_fact d.world s)))
           × (view ≡ view_with (group_up_facts (map plain_fact c.volumes) (linked_fact d.world s)) (Some c)))
           → LeadsFound d (Recover name) (Resumed view None) old new
-      found_done done view found seen = record {
+      found_done view t is found none clear seen = record {
         next = e;
         fails = [];
         done = inr (subst (λ (k : ℕ). FindsKept (IsTold new) d (Recover name) k [] (Resumed view None) e) (sym site.number) (record {
@@ -180,7 +204,7 @@ module _ {R : Type 0} {g : Ghosts R} where
       }
         where
           to : SetThen (FoundUp s n) after
-          to = set_then (FoundUp s n) after found.1
+          to = record { set = t; is = is; holds = found }
 
           note : GroupNode
           note = to.holds.0
@@ -198,7 +222,7 @@ module _ {R : Type 0} {g : Ghosts R} where
           facts_now = group_up_facts (map plain_fact has.config.volumes) (linked_fact d.world s)
 
           so : (new.facts.items ≡ slice_set old.facts.items s facts_now) × (view ≡ view_with facts_now (Some has.config))
-          so = seen has.config (subst (λ (x : DiskSet R g). AtSite (λ y. site_config y ≡ Some has.config) x) (sym to.is) has.has)
+          so = seen has.config (subst (λ (x : DiskSet R g). AtSite (λ y. site_config y ≡ Some has.config) x) (sym to.is) has.has) (none has.config has.has) (ap (λ (x : DiskSet R g). core_in x) is)
 
           h : Doubted
           h = happened d (MakeGroup s) false
@@ -210,7 +234,7 @@ module _ {R : Type 0} {g : Ghosts R} where
           fact = found_fact d.world s note (map plain_fact has.config.volumes) site.bare (table_is note has.config has.reads)
 
           cut : cut_value to.set.cut ≡ None
-          cut = ap (λ (x : DiskSet R g). cut_in x) (sym to.is) ∙ found.2
+          cut = ap (λ (x : DiskSet R g). cut_in x) (sym to.is) ∙ clear
 
           comes : Arrives d e s m (d.world.gathering s)
           comes =
@@ -224,7 +248,7 @@ module _ {R : Type 0} {g : Ghosts R} where
               (subst (λ (x : DiskSet R g). Changed old new s before x) to.is changed)
               comes
               (up_notes m note to.set.site up).0
-              (up_set m note to.set (record { few = site.few; some = site.some }) up to.holds.5 ? cut to.holds.2.cut)
+              (up_set m note to.set (record { few = site.few; some = site.some }) up to.holds.5 (ap (λ (o : Option Config). config_rvg o) has.reads ∙ none has.config has.has) cut to.holds.2.cut)
               (subst (λ (x : DiskSet R g). FailsAs m x) to.is (fails_as m refl)) (fused_none m (OfGroup to.set) unfused) fact so.0 load
 
           shown : view ≡ grouped_view (record n { state = IsUp }) note
@@ -235,6 +259,110 @@ module _ {R : Type 0} {g : Ghosts R} where
               subst (λ (x : Doubted). GroupEnds (IsTold new) d (Recover name) s [] (Resumed view None) (noted_at x s note))
               (ap (λ (t : SiteState). run_as false d (group_recovery t s)) site.bare)
               (FindsGroup note tt tt (inl never) (λ told. absurd (never told)) (None, ap (λ (v : SiteView). Resumed v None) shown) (record { world = refl; after = λ i. refl; strayed = refl }))
+
+      -- ---- a group came up with a replicated volume group
+
+      module _ (p : OverSet R g) (is : after ≡ Over p) (dark : IsRackTold after → ⊥) (found : FoundWith s (d.world.nodes s) p) where
+        calm : d.after s ≡ None
+        calm = bare_sure d s site.bare stands.links
+
+        blank : header_links d.world s ≡ []
+        blank = blank_links d s (stands.links.bare s site.bare)
+
+        here : FoundHere (beside_of d s) (d.world.nodes s) (burned (d.world.nodes s).fuse) p
+        here = found_up (beside_of d s) n found.up.0 (burned n.fuse) found.laid p (found.over (beside_of d s) (ap (λ (o : Option After). doubt_of d.world s o) calm) blank)
+
+        dark_below : IsTrue (site_below (site_in p)).tells → ⊥
+        dark_below = subst (λ (x : DiskSet R g). IsRackTold x → ⊥) is dark
+
+        call : FoundCall d d (Recover name) s false old new before p (burned (d.world.nodes s).fuse)
+        call = record {
+          stands = stands;
+          fits = stands.links;
+          below = site.below;
+          sure = calm;
+          links = blank;
+          note = refl;
+          changed = subst (λ (x : DiskSet R g). Changed old new s before x) is changed;
+          failing = subst (λ (x : DiskSet R g). SameFailing before x) is failing;
+          brings = tt;
+          over = here;
+          less = record { was = λ it. absurd (dark_below it); dark = λ it. absurd (dark_below it) };
+          lit_is = unfused ∙ sym (ap (λ (f : Fuse). burned f) unfused);
+          fused = fused_none here.node (Over p) (here.same.fuse ∙ ap (λ (f : Fuse). burned f) unfused);
+        }
+
+        abbrev left : Doubted
+        left = found_left d d (Recover name) s false old new before p (burned n.fuse) call
+
+        sits : RvgOver (beside_of (found_left d d (Recover name) s false old new before p (burned (d.world.nodes s).fuse) call) s) here.node here.next (Over p)
+        sits = found_sits d d (Recover name) s false old new before p (burned n.fuse) call
+
+        arrives : Arrives d (found_left d d (Recover name) s false old new before p (burned (d.world.nodes s).fuse) call) s here.node (d.world.gathering s)
+        arrives = found_arrives d d (Recover name) s false old new before p (burned n.fuse) call
+
+        -- nothing is seen of links at a bare site
+        bare_links : links_by (d.world.nodes s).state (links_of_site d.world s) ≡ []
+        bare_links = ap (λ (t : SiteState). links_by t (links_of_site d.world s)) site.bare
+
+        bare_made : (core : Core) (c : Config) → made_facts core c (linked_fact d.world s) ≡ made_facts core c (fact_of_group (d.world.nodes s) (note_at (d.world.nodes s)))
+        bare_made core c = ap (λ (ls : List LinkFacts). let f : SiteFacts = record (made_facts core c (linked_fact d.world s)) { links = ls } in f) bare_links
+
+        rest : rests_world d s 0 false ≡ d
+        rest = ap (λ (t : SiteState). run_as false d (fall_first t s 0)) site.bare
+
+        found_over : (view : SiteView)
+            → ((core : Core) (c : Config) → core_in after ≡ Some core → AtSite (λ e. site_config e ≡ Some c) after → new.facts.items ≡ slice_set old.facts.items s (made_facts core c (linked_fact d.world s)))
+            → ((e : Doubted) (f : SiteFacts) → StandsFor e new → s < e.world.sites → is_over_rvg (e.world.nodes s) ≡ true → slice_get new.facts.items s ≡ Some f → f.links ≡ []
+            → view ≡ over_disks (e.world.nodes s) (note_at (e.world.nodes s)) (linked_view e.world s)) → LeadsBeside d (Recover name) (Resumed view None) old new
+        found_over view made shows = record {
+          next = left;
+          fails = found_fails d d (Recover name) s false old new before p (burned n.fuse) call;
+          works = FoundOne (subst (λ (k : ℕ). RvgFinds (IsTold new) d (Recover name) k (found_fails d d (Recover name) s false old new before p (burned n.fuse) call) (Resumed view None) left) (sym site.number)
+              (found_ends d d (Recover name) s false old new before p (burned n.fuse) call 0 (Resumed view None) (sym rest)
+              (found_says d d name s false old new before p (burned n.fuse) call (Resumed view None) None (ap (λ (v : SiteView). Resumed v None) shown))));
+          stands = now_stands;
+          carries = λ carried. found_carries d d (Recover name) s false old new before p (burned n.fuse) call load carried;
+          rose = found_rose d d (Recover name) s false old new before p (burned n.fuse) call;
+        }
+          where
+            facts : new.facts.items ≡ slice_set old.facts.items s (made_facts sits.core sits.config (linked_fact d.world s))
+            facts = made sits.core sits.config (subst (λ (x : DiskSet R g). core_in x ≡ Some sits.core) (sym is) sits.has_core) (subst (λ (x : DiskSet R g). AtSite (λ y. site_config y ≡ Some sits.config) x) (sym is) sits.has)
+
+            now_stands : StandsFor left new
+            now_stands =
+                found_stands d d (Recover name) s false old new before p (burned n.fuse) call
+                (facts ∙ ap (λ (f : SiteFacts). slice_set old.facts.items s f) (bare_made sits.core sits.config))
+
+            there : slice_get new.facts.items s ≡ Some (made_facts sits.core sits.config (linked_fact d.world s))
+            there =
+                ap (λ (fs : List SiteFacts). slice_get fs s) facts
+                ∙ get-set_same old.facts.items s (made_facts sits.core sits.config (linked_fact d.world s)) (slice_get_within old.facts.items s (linked_fact d.world s) site.fact)
+
+            shown : view ≡ over_disks (left.world.nodes s) (note_at (left.world.nodes s)) (linked_view left.world s)
+            shown =
+                shows left (made_facts sits.core sits.config (linked_fact d.world s)) now_stands (omega (arith, site.below, arrives.site.sites))
+                (ap (λ (x : Node). is_over_rvg x) arrives.node ∙ over_rvg (beside_of d s) here.node p here.stands) there bare_links
+
+      -- whatever came up
+      pub found_came : (view : SiteView) → FindsIs s (d.world.nodes s) before after (Ok (tt {0}))
+          → ((c : Config) → AtSite (λ e. site_config e ≡ Some c) after → c.rvg ≡ None → core_in after ≡ None
+          → (new.facts.items ≡ slice_set old.facts.items s (group_up_facts (map plain_fact c.volumes) (linked_fact d.world s)))
+          × (view ≡ view_with (group_up_facts (map plain_fact c.volumes) (linked_fact d.world s)) (Some c)))
+          → ((core : Core) (c : Config) → core_in after ≡ Some core → AtSite (λ e. site_config e ≡ Some c) after → new.facts.items ≡ slice_set old.facts.items s (made_facts core c (linked_fact d.world s)))
+          → ((e : Doubted) (f : SiteFacts) → StandsFor e new → s < e.world.sites → is_over_rvg (e.world.nodes s) ≡ true → slice_get new.facts.items s ≡ Some f → f.links ≡ []
+          → view ≡ over_disks (e.world.nodes s) (note_at (e.world.nodes s)) (linked_view e.world s)) → LeadsBeside d (Recover name) (Resumed view None) old new
+      found_came view found seen made shows = by after refl found.1
+        where
+          by : (e : DiskSet R g) → after ≡ e → FoundIn s n e → LeadsBeside d (Recover name) (Resumed view None) old new
+          by (OfGroup t) is it = beside_found d (Recover name) old new (Ok (Resumed view None)) alone (found_done view t is it.0 it.1 found.2 seen)
+          by (Over p) is it = found_over p is found.0 it view made shows
+          by (Bare rack) is it = absurd it
+          by (Spoiled rack) is it = absurd it
+          by (UpSet rvg) is it = absurd it
+          by (Receives r) is it = absurd it
+          by (DownSet rack) is it = absurd it
+          by GoneSet is it = absurd it
 
   -- ---- the site of the line
 
@@ -267,5 +395,5 @@ module _ {R : Type 0} {g : Ghosts R} where
   }
 
   -- memory ran out before anything was done
-  pub unbegun_found : (d : Doubted) (name : List ℕ) (y : Yard R g) (r : Result Said MemoryError) (x : MemoryError) → r ≡ Err x → StandsFor d y → LeadsFoundIs d (Recover name) y y r
-  unbegun_found d name y r x is stands = subst (λ (q : Result Said MemoryError). LeadsFoundIs d (Recover name) y y q) (sym is) (unbegun_for d y stands)
+  pub unbegun_found : (d : Doubted) (name : List ℕ) (y : Yard R g) (r : Result Said MemoryError) (x : MemoryError) → r ≡ Err x → StandsFor d y → LeadsBesideIs d (Recover name) y y r
+  unbegun_found d name y r x is stands = subst (λ (q : Result Said MemoryError). LeadsBesideIs d (Recover name) y y q) (sym is) (beside_short d (Recover name) y y (unbegun_for d y stands))

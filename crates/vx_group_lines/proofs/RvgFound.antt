@@ -184,6 +184,7 @@ module _ {R : Type 0} {g : Ghosts R} where
     pub quiet : node.phase ≡ Quiet
     pub origin : is_origin node.role ≡ true
     pub rests : node.fed_by ≡ node.other
+    pub clear : next.cut ≡ None
     pub is : config_of next.config ≡ Some now
     pub fits : FitsRvg node now units
     pub has : HasUnits now.volumes units
@@ -202,6 +203,7 @@ module _ {R : Type 0} {g : Ghosts R} where
     quiet = it.quiet;
     origin = it.origin;
     rests = it.rests;
+    clear = it.clear;
     is = it.is;
     fits = it.fits;
     has = it.has;
@@ -231,6 +233,7 @@ module _ {R : Type 0} {g : Ghosts R} where
     quiet = it.quiet;
     origin = it.origin;
     rests = it.rests;
+    clear = it.clear;
     is = it.is;
     fits = record { rvg = it.fits.rvg; volumes = it.fits.volumes; ring = it.fits.ring };
     has = it.has;
@@ -385,7 +388,7 @@ module _ {R : Type 0} {g : Ghosts R} where
 
     named : IsNamed call.over.node
     named =
-        (call.over.now, call.over.units, ap (λ (x : GroupNode). config_of x.config) found_noted ∙ call.over.is, call.over.fits.rvg, call.over.fits.volumes, call.over.has)
+        (call.over.now, call.over.units, ap (λ (x : GroupNode). config_of x.config) found_noted ∙ call.over.is, call.over.fits.rvg, call.over.fits.volumes, call.over.has, ap (λ (x : GroupNode). x.cut) found_noted ∙ call.over.clear)
 
     here_noted : NotedAt call.over.node (Over p)
     here_noted = over_noted m next (Over p) call.over.same.group named call.over.noted

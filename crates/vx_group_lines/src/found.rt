@@ -5,8 +5,9 @@ ghost use Rattle.vx_script.specs.declared.line.ScriptLine.TheVariants.{Recover};
 ghost use Rattle.vx_group_lines.specs.Founds.{IsBareUntold};
 ghost use Rattle.vx_diskset.specs.Asked.{SameFailing};
 ghost use Rattle.vx_events.specs.Facts.{site_number};
+ghost use Rattle.vx_yard.specs.AboveLines.{LeadsBesideIs};
 ghost use Rattle.vx_yard.specs.OfSites.{AsAsked, OfSite};
-ghost use Rattle.vx_yard.specs.Standing.{LeadsFoundIs, StandsFor, StaysFor};
+ghost use Rattle.vx_yard.specs.Standing.{StandsFor, StaysFor};
 ghost use Rattle.vx_yard.specs.Working.{IsFree};
 ghost use Rattle.vx_yard.specs.Yards.{IsYardKept, IsTold, in_files};
 
@@ -49,7 +50,7 @@ pub fn recover_found<R: Rack>(
 ) -> Result<Said, OutOfMemory>
     requires kept { IsYardKept yard.old }
     requires free { IsFree yard.old (Recover name.now) }
-    ensures leads { (d : Doubted) → StandsFor d yard.old → IsBareUntold d name.now yard.old → LeadsFoundIs d (Recover name.now) yard.old yard.new result }
+    ensures leads { (d : Doubted) → StandsFor d yard.old → IsBareUntold d name.now yard.old → LeadsBesideIs d (Recover name.now) yard.old yard.new result }
     ensures asked { (d : Doubted) → StandsFor d yard.old → IsBareUntold d name.now yard.old → AsAsked d.world (Recover name.now) yard.old yard.new }
     ensures failing { (d : Doubted) → StandsFor d yard.old → OfSite SameFailing (site_number d.world name.now) yard.old yard.new }
     ensures told { IsTold yard.new → IsTold yard.old }

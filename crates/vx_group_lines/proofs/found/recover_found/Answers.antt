@@ -21,7 +21,7 @@ use Rattle.vx_yard.specs.GroupFacts.{group_up_facts}
 use Rattle.vx_yard.specs.Stands.{AreTold}
 use Rattle.vx_yard.specs.Yards.{in_files}
 use Rattle.vx_group_lines.proofs.BareSites.{bare_site}
-use Rattle.vx_group_lines.proofs.Founding.{bare_asks, found_done, found_none, unbegun_found}
+use Rattle.vx_group_lines.proofs.Founding.{bare_asks, found_came, found_none, unbegun_found}
 use Rattle.vx_group_lines.proofs.found.recover_found.Goals as goal
 
 pub site_of-site-requires-clause-named : goal.site_of-site-requires-clause-named
@@ -53,21 +53,20 @@ returns-in-Ok-clause-leads g c = λ d stands nothing.
     let site = bare_site d y c.args.name.now s before stands c.requires.kept seat there (ap (λ k. (d.world.nodes k).state) (sym place.number) ∙ nothing.bare) in
     let untold = nothing.untold before (ap (λ k. slice_get sets k) place.number ∙ there) in
     let same = c.note_up.ensures.same in
-    let here = ap (λ es. slice_get es.items s) same.disk_sets ∙ ap (λ es. slice_get es s) twice ∙ get-set_same sets s after (slice_get_within sets s before there) in
-    found_done d y c.note_up.new.yard c.args.name.now s before after stands site
+    let now = ap (λ es. slice_get es s) twice ∙ get-set_same sets s after (slice_get_within sets s before there) in
+    let here = ap (λ es. slice_get es.items s) same.disk_sets ∙ now in
+    found_came d y c.note_up.new.yard c.args.name.now s before after stands site
     (record { there = there; later = c.recover_bare_group-disk_set.ensures.later; disk_sets = ap (λ es. es.items) same.disk_sets ∙ twice; racks = same.racks })
     c.recover_bare_group-disk_set.ensures.failing
     (record { flight = same.flight; assemblies = ap (λ xs. xs.items) c.note_up.ensures.assemblies; feeders = ap (λ xs. xs.items) same.feeders })
-    untold _ c.view_at.result
+    untold c.view_at.result
     (subst (λ r. FindsIs s (d.world.nodes s) before after r) c.in-Ok.is (c.recover_bare_group-disk_set.ensures.found (beside_of d s) (d.world.nodes s) site.stood site.bare untold))
-    (λ x has.
-    let facts = c.note_up.ensures.facts (linked_fact d.world s) x site.fact (record {
-      disk_set = after;
-      there = ap (λ es. slice_get es s) twice ∙ get-set_same sets s after (slice_get_within sets s before there);
-      is = has;
-    }) in
+    (λ x has plain none.
+    let facts = c.note_up.ensures.facts (linked_fact d.world s) x site.fact (record { disk_set = after; there = now; is = has }) plain (record { disk_set = after; there = now; is = none }) in
     let f : SiteFacts = group_up_facts (map plain_fact x.volumes) (linked_fact d.world s) in
     (facts, c.view_at.ensures.up f x (ap (λ fs. slice_get fs s) facts ∙ get-set_same y.facts.items s f (slice_get_within y.facts.items s (linked_fact d.world s) site.fact)) refl (record { disk_set = after; there = here; is = has })))
+    (λ core x has at. c.note_up.ensures.made (linked_fact d.world s) x core site.fact (record { disk_set = after; there = now; is = at }) (record { disk_set = after; there = now; is = has }))
+    c.view_at.ensures.above
 
 pub returns-in-Err-clause-leads : goal.returns-in-Err-clause-leads
 returns-in-Err-clause-leads g c = λ d stands nothing.

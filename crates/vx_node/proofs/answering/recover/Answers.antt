@@ -7,7 +7,7 @@ use Rattle.vx_node.proofs.Built.{neither}
 use Rattle.vx_yard.proofs.OverGroup.{none_noted}
 use Rattle.vx_script.specs.declared.line.ScriptLine.TheVariants.{Recover}
 use Rattle.vx_yard.proofs.OfSites.{recovers_then}
-use Rattle.vx_above.proofs.Works.{works_found, works_then, works_whole}
+use Rattle.vx_above.proofs.Works.{works_beside, works_then, works_whole}
 use Rattle.vx_node.proofs.answering.recover.Goals as goal
 
 pub returns-then-holds_group-clause-leads : goal.returns-then-holds_group-clause-leads
@@ -17,7 +17,7 @@ returns-then-holds_group-clause-leads g c = λ d stands goes.
     let stays = c.holds_group.ensures.stays d stands in
     let off = neither (over_group_at d.world c.args.site.now) (over_rvg_at d.world c.args.site.now) goes in
     works_then d line c.args.yard.now mid c.recover_found.new.yard c.recover_found.result stays
-    (works_found d line mid c.recover_found.new.yard tt refl off.1 c.recover_found.result off.0
+    (works_beside d line mid c.recover_found.new.yard tt refl off.1 c.recover_found.result
     (c.recover_found.ensures.leads d stays.stands (c.holds_group.ensures.holds d stands c.if-holds_group.true)))
 
 pub returns-else-holds_group-clause-leads : goal.returns-else-holds_group-clause-leads
