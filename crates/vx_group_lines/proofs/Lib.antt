@@ -53,3 +53,4 @@ pub mod RvgWorlds
 pub mod RvgReturns
 pub mod RvgFound
 pub mod ImportBeside
+pub mod RecoverFound
