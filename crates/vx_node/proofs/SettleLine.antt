@@ -78,8 +78,9 @@ module _ {R : Type 0} {g : Ghosts R} where
       → Leads (noted_as serves.noted.fuses d) (Connect first second) said old mid → OnFor first second a b d (ConnectAt a b ∷ []) old mid
   connected d old mid first second a b said serves told asked calls leads =
       let n = serves.noted in
+      let less : CalmTold (IsTold mid) d → IsTold mid = λ t. t.0 in
       let is : said ≡ Done = connect_says (CalmTold (IsTold mid) d) a b d (λ t. t.1) serves.may n.fuses n.burns n.stands.links first second leads.fails said leads.next serves.from serves.to
-      (done_told (λ (t : CalmTold (IsTold mid) d). t.0) (noted_as n.fuses d) (Connect first second) leads.fails said leads.next leads.done).ends in
+      (done_told less (noted_as n.fuses d) (Connect first second) leads.fails said leads.next leads.done).ends in
       step_went first second a b d (ConnectAt a b ∷ []) old mid serves told asked (Connect first second)
       (λ fails x e done. connect_goes (CalmTold (IsTold mid) d) a b d (λ t. t.1) serves.may n.fuses n.burns n.stands.links first second fails x e serves.from serves.to done.ends) (Ok Done)
       (subst (λ (x : Said). Leads (noted_as n.fuses d) (Connect first second) x old mid) is leads) calls

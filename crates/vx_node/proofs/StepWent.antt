@@ -76,7 +76,9 @@ module _ {R : Type 0} {g : Ghosts R} where
     module _ (line : ScriptLine) (law : (fails : Fails) (said : Said) (e : Doubted) → IsDone (CalmTold (IsTold new) d) (noted_as serves.noted.fuses d) line fails said e → GoesTo (CalmTold (IsTold new) d) a b d events fails e said) where
       -- as what is told where the world has not strayed
       done_calm : (said : Said) (leads : Leads (noted_as serves.noted.fuses d) line said old new) → IsDone (CalmTold (IsTold new) d) (noted_as serves.noted.fuses d) line leads.fails said leads.next
-      done_calm said leads = done_told (λ (t : CalmTold (IsTold new) d). t.0) (noted_as serves.noted.fuses d) line leads.fails said leads.next leads.done
+      done_calm said leads =
+          let less : CalmTold (IsTold new) d → IsTold new = λ t. t.0 in
+          done_told less (noted_as serves.noted.fuses d) line leads.fails said leads.next leads.done
 
       on_by : (said : Said) (leads : Leads (noted_as serves.noted.fuses d) line said old new) → OnTo (CalmTold (IsTold new) d) a b d events leads.fails leads.next → BothSites (SettleBurns Done) a b old new → OnFor first second a b d events old new
       on_by said leads on calls =

@@ -231,7 +231,8 @@ module _ (told : Type 0) (d : Doubted) (known : CalmTold told d ⊎ (CalmTold to
       → LinkEnds told d (Settle p s) fails said new
   line_stopped fails said last new stop left = elim known [
     | inl tells ↦
-        links_told (λ (t : told). let both : CalmTold told d = (t, tells.1) in both) d (Settle p s) fails said new
+        let more : told → CalmTold told d = λ t. (t, tells.1) in
+        links_told more d (Settle p s) fails said new
         (line_stops (CalmTold told d) d (Settle p s) fails said last new (stop.exact tells) left)
     | inr untold ↦
         let rest = stop.other untold in
