@@ -1,6 +1,6 @@
 -- What a line that makes a replicated volume group leads its yard to, where it is done.
 use Rattle.std.proofs.Common.{◌≡◌, ◌∙◌, ◌⊎◌, ◌+◌, ℕ, false, List, length, ap, sym, subst, refl, arith}
-use Rattle.std.specs.Prelude.{Option, Some, slice_set}
+use Rattle.std.specs.Prelude.{Option, Some, None, slice_set}
 use Rattle.vx_model.specs.declared.site.SiteState.TheVariants.{Up as IsUp, Down as IsDown}
 use Rattle.vx_model.specs.declared.units.Units.{Units}
 use Rattle.vx_disk.specs.Shelf.{Meaning}

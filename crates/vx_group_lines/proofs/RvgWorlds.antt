@@ -1,5 +1,5 @@
 -- What the events make of a site by which its log comes up in its next session, where it keeps no link and writes of its line arise there.
-use Rattle.std.proofs.Common.{◌≡◌, ◌∙◌, ◌++◌, ◌<◌, ℕ, Bool, true, false, List, [], ap, sym, refl, arith}
+use Rattle.std.proofs.Common.{◌≡◌, ◌∙◌, ◌++◌, ◌+◌, ◌<◌, ℕ, Bool, true, false, List, [], ap, sym, refl, arith}
 use Rattle.std.proofs.lemmas.List.{append-nil}
 use Rattle.std.specs.Prelude.{Some, None, if◌then◌else◌}
 use Rattle.vx_model.specs.Sites.{is_origin}

@@ -1,5 +1,5 @@
 -- `import_in`: what an import leaves of the disks of the site.
-use Rattle.std.proofs.Common.{refl, subst}
+use Rattle.std.proofs.Common.{true, refl, subst}
 use Rattle.vx_untold.specs.Shades.{shade_lawful, shade_rack}
 use Rattle.vx_grouped.specs.GroupSites.{site_disks}
 use Rattle.vx_grouped.specs.SiteMaps.{CameMapped}

@@ -1,5 +1,5 @@
 -- `raise_in`: what the import of a recovery leaves of the disks of the site.
-use Rattle.std.proofs.Common.{refl, subst}
+use Rattle.std.proofs.Common.{false, refl, subst}
 use Rattle.vx_untold.specs.Shades.{shade_lawful, shade_rack}
 use Rattle.vx_grouped.specs.GroupSites.{site_disks}
 use Rattle.vx_grouped.specs.SiteReturns.{SiteRecovers}
