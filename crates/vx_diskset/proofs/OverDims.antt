@@ -1,6 +1,6 @@
 -- The disks of a site whose group has a replicated volume group, once it is no longer known what they hold.
-use Rattle.std.proofs.Common.{◌≡◌, true, IsTrue, refl, subst, sym}
-use Rattle.std.specs.Prelude.{Err, None, Option}
+use Rattle.std.proofs.Common.{◌≡◌, true, false, IsTrue, refl, subst, sym}
+use Rattle.std.specs.Prelude.{Err, IsSome, None, Option, Some}
 use Rattle.vx_config.specs.Checks.{blocks_of}
 use Rattle.vx_config.specs.declared.config.Config.{Config}
 use Rattle.vx_disk.specs.Shelf.{Lawful, Meaning}
@@ -9,25 +9,30 @@ use Rattle.vx_events.specs.RvgNotes.{inside_of}
 use Rattle.vx_grouped.specs.Brings.{RestKnown}
 use Rattle.vx_grouped.specs.Readies.{ready_of}
 use Rattle.vx_grouped.specs.SiteReturns.{LeftLess, LessLeft, stops_early}
-use Rattle.vx_grouped.specs.declared.group_site.GroupSite.TheVariants.{Deported, Down}
+use Rattle.vx_grouped.specs.declared.group_site.GroupSite.TheVariants.{Down}
 use Rattle.vx_grouped.specs.declared.idle.Idle.{Idle}
 use Rattle.vx_history.specs.Groups.{GroupNode}
-use Rattle.vx_history.specs.World.{Fuse, Node, NoFuse}
+use Rattle.vx_history.specs.World.{Fuse, NoFuse, Node}
+use Rattle.vx_logimport.specs.declared.rested.Rested.{Rested}
 use Rattle.vx_model.specs.declared.errors.Stop.{Stop}
 use Rattle.vx_model.specs.declared.site.SiteState.{SiteState}
-use Rattle.vx_model.specs.declared.site.SiteState.TheVariants.{Deported as IsAway, Down as IsDown}
+use Rattle.vx_model.specs.declared.site.SiteState.TheVariants.{Down as IsDown}
 use Rattle.vx_model.specs.declared.units.Units.{Units}
-use Rattle.vx_untold.specs.Shades.{shade_lawful}
+use Rattle.vx_untold.specs.Shades.{shade_meaning}
+use Rattle.vx_untold.specs.declared.shade.Shade.{Shade}
 use Rattle.vx_diskset.specs.Holds.{KeptBeside}
 use Rattle.vx_diskset.specs.Layouts.{IsLaidBy, units_by, units_of}
-use Rattle.vx_diskset.specs.Stands.{AwayOver, FellOver, FellSettles, IsOverSite, OverStands, RestsOver, RvgSettles, SiteStands, idle_ready}
+use Rattle.vx_diskset.specs.Stands.{FellOver, FellSettles, IsOverSite, OverStands, RestsOver, RvgSettles, SiteStands, idle_ready}
 use Rattle.vx_diskset.specs.declared.disk_set.DiskSet.TheVariants.{Over}
 use Rattle.vx_diskset.specs.declared.over_set.OverSet.{OverSet}
 use Rattle.vx_diskset.specs.declared.over_set.OverSite.{OverSite}
-use Rattle.vx_diskset.specs.declared.over_set.OverSite.TheVariants.{Deported as GroupAway, Down as GroupFell}
-use Rattle.vx_diskset.proofs.OverBacks.{some_in}
-use Rattle.vx_diskset.proofs.OverDisks.{LeavesLess, away_less, fell_less, settles_less}
+use Rattle.vx_diskset.specs.declared.over_set.OverSite.TheVariants.{Down as GroupFell}
+use Rattle.vx_diskset.proofs.OverDisks.{LeavesLess, fell_less, settles_less}
 use Rattle.vx_diskset.proofs.StaysUp.{not_true}
+
+pub some_in : (o : Option Rested) → IsSome o → (r : Rested) × (o ≡ Some r)
+some_in None is = absurd (let clash : false ≡ true = is in cc)
+some_in (Some r) is = (r, refl)
 
 -- disks that tell nothing leave no image
 settles_dim : (units : Units) (m : Meaning) → Lawful m → (IsTrue m.tells → ⊥) → RvgSettles units m
@@ -52,23 +57,15 @@ module _ (beside : KeptBeside) (n : Node) (state : SiteState) (fuse : Fuse) (gro
   ground_dim : (group ≡ None → ⊥) → IsOverSite beside n → IsOverSite beside k
   ground_dim has it = (has, it.1, it.2, it.3, it.4, it.5)
 
-module _ {R : Type 0} {g : Ghosts R} (beside : KeptBeside) (n : Node) (fuse : Fuse) (group : Option GroupNode) (units : units_by group n.disks ≡ units_of n) (has : group ≡ None → ⊥) (P : Config → Type 0) (a : Meaning) (rests : RestsOver P beside n a) (over : IsOverSite beside n) (idle : Idle R g)
+module _ {R : Type 0} {g : Ghosts R} (beside : KeptBeside) (n : Node) (group : Option GroupNode) (units : units_by group n.disks ≡ units_of n) (has : group ≡ None → ⊥) (P : Config → Type 0) (a : Meaning) (rests : RestsOver P beside n a) (over : IsOverSite beside n) (idle : Idle R g)
     (untold : IsTrue (idle_ready idle).tells → ⊥) where
-  away_by : (s : OverSite R g) → s ≡ GroupAway idle → OverStands beside (record n { state = IsAway; fuse = fuse; group = group }) s
-  away_by s is = subst (λ (x : OverSite R g). OverStands beside (record n { state = IsAway; fuse = fuse; group = group }) x) (sym is)
-      (refl, rests_dim beside n IsAway fuse group units P (λ c. AwayOver c beside (record n { state = IsAway; fuse = fuse; group = group }) (idle_ready idle)) a (idle_ready idle) untold rests)
-
-  -- they are by themselves
-  pub away_dim : (s : OverSet R g) → s.site ≡ GroupAway idle → SiteStands beside (record n { state = IsAway; fuse = fuse; group = group }) (Over s)
-  away_dim s is = (ground_dim beside n IsAway fuse group units has over, away_by s.site is)
-
-  module _ (laws : (r : R) → Lawful (g.meaning r)) where
+  module _ (laws : (s : Shade R) → Lawful (shade_meaning g.meaning s)) where
     fell_by : (s : OverSite R g) → s ≡ GroupFell idle → OverStands beside (record n { state = IsDown; fuse = NoFuse; group = group }) s
     fell_by s is = subst (λ (x : OverSite R g). OverStands beside (record n { state = IsDown; fuse = NoFuse; group = group }) x) (sym is) (
       refl,
       refl,
       rests_dim beside n IsDown NoFuse group units P (λ c. FellOver c beside (record n { state = IsDown; fuse = NoFuse; group = group }) (idle_ready idle)) a (idle_ready idle) untold rests,
-      λ r came. settles_dim (units_of (record n { state = IsDown; fuse = NoFuse; group = group })) (idle_ready idle) (shade_lawful g.meaning laws (ready_of idle.agreed idle.rack)) untold,
+      λ r came. settles_dim (units_of (record n { state = IsDown; fuse = NoFuse; group = group })) (idle_ready idle) (laws (ready_of idle.agreed idle.rack)) untold,
     )
 
     -- they are down
@@ -77,17 +74,10 @@ module _ {R : Type 0} {g : Ghosts R} (beside : KeptBeside) (n : Node) (fuse : Fu
 
 -- ---- an import that was refused before anything was written
 
-less_left : (m m' : Meaning) → LeftLess m m' → LeavesLess m m'
+pub less_left : (m m' : Meaning) → LeftLess m m' → LeavesLess m m'
 less_left m m' it = record { units = it.units; size = it.size; tells = it.tells; leaves = it.leaves }
 
 module _ {R : Type 0} {g : Ghosts R} (beside : KeptBeside) (n : Node) (s : OverSet R g) (stop : Stop) (early : stops_early stop ≡ true) (over : IsOverSite beside n) (idle now : Idle R g) where
-  -- the site was deported, and is so still
-  pub away_still : n.state ≡ IsAway → RestsOver (λ c. AwayOver c beside n (idle_ready idle)) beside n (idle_ready idle) → LessLeft (idle_ready idle) (Deported now) (Err stop) → s.site ≡ GroupAway now → SiteStands beside n (Over s)
-  away_still state rests less is = (
-    over,
-    subst (λ (x : OverSite R g). OverStands beside n x) (sym is) (state, away_less beside n (idle_ready idle) (idle_ready now) (less_left (idle_ready idle) (idle_ready now) (less early)) rests),
-  )
-
   -- it crashed, and is down still
   pub fell_still : n.state ≡ IsDown → n.fuse ≡ NoFuse → RestsOver (λ c. FellOver c beside n (idle_ready idle)) beside n (idle_ready idle) → FellSettles n idle → RestKnown idle.rested (Err stop) → LessLeft (idle_ready idle) (Down now) (Err stop) → s.site ≡ GroupFell now
       → SiteStands beside n (Over s)

@@ -20,7 +20,7 @@ use Rattle.vx_grouped.specs.declared.group_site.GroupSite.TheVariants.{Up, Depor
 use Rattle.vx_grouped.specs.declared.idle.Idle.{Idle}
 use Rattle.vx_grouped.specs.declared.laid.Laid.{Laid}
 use Rattle.vx_diskset.specs.Aboves.{AboveStays, site_in}
-use Rattle.vx_diskset.specs.GroupCalls.{AtSite, cut_in}
+use Rattle.vx_diskset.specs.GroupCalls.{AtOver, AtSite, cut_in}
 use Rattle.vx_diskset.specs.GroupSets.{cut_value}
 use Rattle.vx_diskset.specs.OverStarts.{BehindImport, BroughtBy, FellBack, HandsOut, RaisesOver, StartFails, Started, StartsOver, TriedOn, WithRvg, WithUnits}
 use Rattle.vx_diskset.specs.Recovers.{RisesSince}
@@ -99,7 +99,7 @@ module _ {R : Type 0} {g : Ghosts R} where
     is = subst (λ (k : Option CutWrite). HandsOut k started r) same hands;
   }
 
-  pub raises_stopped : (old mid : GroupSite R g) (cut : Option CutWrite) (new : DiskSet R g) (answer : Result (Unit {0}) Stop) (stop : Stop) → BroughtBy old mid answer → answer ≡ Err stop → AtSite (λ e. e ≡ mid) new → cut_in new ≡ cut_value cut → RaisesOver old cut new (Err stop)
+  pub raises_stopped : (old mid : GroupSite R g) (cut : Option CutWrite) (new : DiskSet R g) (answer : Result (Unit {0}) Stop) (stop : Stop) → BroughtBy old mid answer → answer ≡ Err stop → AtOver (λ e. e ≡ mid) new → cut_in new ≡ cut_value cut → RaisesOver old cut new (Err stop)
   raises_stopped old mid cut new answer stop by is at cut_is = record {
     mid = mid;
     answer = answer;
@@ -119,13 +119,13 @@ module _ {R : Type 0} {g : Ghosts R} where
     at_plain : (e : GroupSite R g) (cut : Option CutWrite) (new : DiskSet R g) → P e → new ≡ (let s : GroupSet R g = record { site = e; cut = cut } in OfGroup s) → AtSite P new
     at_plain e cut new it is = subst (λ (x : DiskSet R g). AtSite P x) (sym is) it
 
-    at_same : (mid : GroupSite R g) (new : DiskSet R g) → P mid → AtSite (λ e. e ≡ mid) new → AtSite P new
+    at_same : (mid : GroupSite R g) (new : DiskSet R g) → P mid → AtOver (λ e. e ≡ mid) new → AtSite P new
     at_same mid (Bare rack) it at = absurd at
     at_same mid (Spoiled rack) it at = absurd at
     at_same mid (UpSet rvg) it at = absurd at
     at_same mid (Receives s) it at = absurd at
     at_same mid (DownSet rack) it at = absurd at
-    at_same mid (OfGroup s) it at = subst P (sym at) it
+    at_same mid (OfGroup s) it at = absurd at
     at_same mid (Over s) it at = subst P (sym at) it
     at_same mid GoneSet it at = absurd at
 

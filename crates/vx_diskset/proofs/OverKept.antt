@@ -64,7 +64,7 @@ module _ {R : Type 0} {g : Ghosts R} where
   fell_idle : (x y : Idle R g) → ◌≡◌ {A = GroupSite R g} (Down x) (Down y) → x ≡ y
   fell_idle x y is = cc
 
-  fell_site : (s : OverSite R g) (idle : Idle R g) → below_site s ≡ Down idle → s ≡ GroupFell idle
+  pub fell_site : (s : OverSite R g) (idle : Idle R g) → below_site s ≡ Down idle → s ≡ GroupFell idle
   fell_site (OriginSite f) idle is = absurd (cc)
   fell_site (ReceiverSite f) idle is = absurd (cc)
   fell_site (GroupAway x) idle is = absurd (cc)

@@ -38,7 +38,7 @@ use Rattle.vx_diskset.specs.Lasts.{FoundWith, LeftWith}
 use Rattle.vx_diskset.specs.Layouts.{IsLaid, IsLaidBy, config_units, units_of}
 use Rattle.vx_diskset.specs.OverRises.{SessionFrom, rest_in}
 use Rattle.vx_diskset.specs.OverStarts.{all_latest}
-use Rattle.vx_diskset.specs.Stands.{FellOver, FellSettles, IsOverSite, OverStands, RestsOver, SiteStands, idle_ready}
+use Rattle.vx_diskset.specs.Stands.{FellOver, FellSettles, IsOverSite, OverStands, RestsOver, RvgSettles, SiteStands, idle_ready}
 use Rattle.vx_diskset.specs.Works.{OnlyLog}
 use Rattle.vx_diskset.specs.declared.disk_set.DiskSet.TheVariants.{Over}
 use Rattle.vx_diskset.specs.declared.over_set.OverSet.{OverSet}
@@ -204,8 +204,15 @@ module _ {R : Type 0} {g : Ghosts R} (racks : (s : Shade R) → IsRack (shade_me
         };
       }
 
-      fell_stands : n.state ≡ IsDown → n.fuse ≡ NoFuse → (s : OverSite R g) → s ≡ GroupFell fell → OverStands beside k s
-      fell_stands state unfused s at = subst (λ (x : OverSite R g). OverStands beside k x) (sym at) (state, unfused, rests_k, fell_settles mid k fell is.stopped is.lacking there_k)
+      -- of disks that are by themselves as the crash left them
+      module _ (last : Idle R g) (ready : idle_ready last ≡ idle_ready fell) (rested : last.rested ≡ fell.rested) where
+        fell_stands : n.state ≡ IsDown → n.fuse ≡ NoFuse → (s : OverSite R g) → s ≡ GroupFell last → OverStands beside k s
+        fell_stands state unfused s at = subst (λ (x : OverSite R g). OverStands beside k x) (sym at) (
+          state,
+          unfused,
+          subst (λ (m : Meaning). RestsOver (λ x. FellOver x beside k m) beside k m) (sym ready) rests_k,
+          λ q came. subst (λ (m : Meaning). RvgSettles (units_of k) m) (sym ready) (fell_settles mid k fell is.stopped is.lacking there_k q (sym rested ∙ came)),
+        )
 
-      pub lost_stands : IsOverSite beside n → n.state ≡ IsDown → n.fuse ≡ NoFuse → (s : OverSet R g) → s.site ≡ GroupFell fell → SiteStands beside k (Over s)
-      lost_stands over state unfused s at = (((λ none. never_none w none), over.1, over.2, over.3, over.4, over.5), fell_stands state unfused s.site at)
+        pub lost_stands : IsOverSite beside n → n.state ≡ IsDown → n.fuse ≡ NoFuse → (s : OverSet R g) → s.site ≡ GroupFell last → SiteStands beside k (Over s)
+        lost_stands over state unfused s at = (((λ none. never_none w none), over.1, over.2, over.3, over.4, over.5), fell_stands state unfused s.site at)

@@ -120,7 +120,7 @@ cut_as n note was old it told agreed m agrees none stopped units size = record {
   };
 }
 
-fused_back : (f : Fuse) → IsFused (burned f) → IsFused f
+pub fused_back : (f : Fuse) → IsFused (burned f) → IsFused f
 fused_back NoFuse it = it
 fused_back (FuseSet calls) it = tt
 fused_back (FuseLit most) it = tt
@@ -179,7 +179,7 @@ module _ {R : Type 0} {g : Ghosts R} where
   went_none : (laid : Laid R g) → Went laid laid
   went_none laid = record { since = since_none (laid_disks laid); told = λ told. told }
 
-  went_on : (units : Units) (laid mid : Laid R g) (stop : Stop) → TriedOn units laid mid stop → Went laid mid
+  pub went_on : (units : Units) (laid mid : Laid R g) (stop : Stop) → TriedOn units laid mid stop → Went laid mid
   went_on units laid mid (Refused why) (inl it) = record { since = it.since; told = it.told }
   went_on units laid mid (Refused why) (inr it) = record { since = it.1.starts.since; told = it.1.starts.told }
   went_on units laid mid OutOfMemory it = subst (λ (x : Laid R g). Went laid x) (sym it) (went_none laid)
@@ -207,7 +207,7 @@ module _ {R : Type 0} {g : Ghosts R} where
   -- ---- why it was refused
 
   module _ (units : Units) (laid mid : Laid R g) where
-    off_tried : (why : No) → stops_down (Refused why) ≡ true → TriedOn units laid mid (Refused why) → IsTrue (laid_disks mid).down
+    pub off_tried : (why : No) → stops_down (Refused why) ≡ true → TriedOn units laid mid (Refused why) → IsTrue (laid_disks mid).down
     off_tried why off (inr it) = absurd (let clash : false ≡ true = sym (ap (λ (x : No). stops_down (Refused x)) it.0) ∙ off in cc)
     off_tried IsOff off (inl it) = it.does.2
     off_tried other off (inl it) = absurd (let clash : false ≡ true = off in cc)
@@ -230,7 +230,7 @@ module _ {R : Type 0} {g : Ghosts R} where
       cause (Damaged disk block stored computed) up it = never
       cause other up it = absurd it
 
-      why_tried : (why : No) → (why ≡ IsOff → ⊥) → TriedOn units laid mid (Refused why) → ImportWhy told known old m (Refused why)
+      pub why_tried : (why : No) → (why ≡ IsOff → ⊥) → TriedOn units laid mid (Refused why) → ImportWhy told known old m (Refused why)
       why_tried why up (inl it) = cause why up it.does.2
       why_tried why up (inr it) = subst (λ (x : No). ImportWhy told known old m (Refused x)) (sym it.0) (λ sure. absurd (unknown sure))
 

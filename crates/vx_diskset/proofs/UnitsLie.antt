@@ -1,13 +1,15 @@
 -- The volumes of a replicated volume group lie on the group whose configuration has it.
 use Rattle.std.proofs.Common.{◌≡◌, ◌∙◌, ◌<◌, ◌≤◌, ℕ, zero, suc, Bool, true, false, List, [], ◌∷◌, ap, arith, length, refl, subst, sym}
 use Rattle.std.specs.Prelude.{Contains, Option, Some, ◌&&◌, ◌*◌, get_or, nat_le, nat_lt, not, slice_get, sum_by}
-use Rattle.std.specs.List.{list_all}
+use Rattle.std.specs.List.{AllByRecursion, list_all}
 use Rattle.std.proofs.lemmas.Bool.{and_parts, eq-eqb, leb-true, ltb-true}
+use Rattle.std.proofs.lemmas.Option.{slice_get_within}
 use Rattle.vx_config.specs.Checks.{blocks_of, group_or_none, is_group, is_sound, map_blocks_of, other_than, pairwise}
 use Rattle.vx_config.specs.declared.config.Config.{Config}
 use Rattle.vx_config.specs.declared.entry.VolumeEntry.{VolumeEntry}
 use Rattle.vx_disk.specs.Shelf.{Meaning}
 use Rattle.vx_disk.specs.declared.shelf.Shelf.{Ghosts}
+use Rattle.vx_events.specs.RvgFits.{HasUnits, HasVolume}
 use Rattle.vx_ground.specs.Lifted.{laid_volumes}
 use Rattle.vx_group.specs.Holding.{wide}
 use Rattle.vx_grouped.specs.GroupSites.{laid_disks}
@@ -65,6 +67,16 @@ module _ (vs : List VolumeEntry) (u : Units) (is : is_group vs u ≡ true) where
   counted =
       and_parts (nat_le 1 (length u.vols)) (nat_le (length u.vols) MOST_DATA_VOLUMES)
       (and_parts (nat_le 1 (length u.vols) && nat_le (length u.vols) MOST_DATA_VOLUMES) (list_all (λ n. nat_lt n (length vs)) (names_of u)) apart.0).0
+
+  -- its log, its maps and its data volumes are volumes of the group
+  has_each : (xs : List ℕ) → list_all (λ n. nat_lt n (length vs)) xs ≡ true → AllByRecursion (HasVolume vs) xs
+  has_each [] all = tt
+  has_each (x ∷ xs) all =
+      let parts = and_parts (nat_lt x (length vs)) (list_all (λ n. nat_lt n (length vs)) xs) all in
+      (slice_get_within vs x (ltb-true x (length vs) parts.0), has_each xs parts.1)
+
+  pub units_has : HasUnits vs u
+  units_has = let all = has_each (names_of u) below in record { srl = all.0; vols = all.1.1 }
 
   pub units_some : 1 ≤ length u.vols
   units_some = leb-true 1 (length u.vols) counted.0

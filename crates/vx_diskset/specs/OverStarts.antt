@@ -36,7 +36,7 @@ use Rattle.vx_watched.specs.Since.{CalledSince}
 use Rattle.vx_watched.specs.Traces.{TellsLess}
 use Rattle.vx_diskset.specs.Aboves.{above_in, site_in}
 use Rattle.vx_diskset.specs.Founded.{LaidFell}
-use Rattle.vx_diskset.specs.GroupCalls.{AtSite, cut_in}
+use Rattle.vx_diskset.specs.GroupCalls.{AtOver, cut_in}
 use Rattle.vx_diskset.specs.GroupSets.{cut_value}
 use Rattle.vx_diskset.specs.Works.{DoesStart}
 use Rattle.vx_diskset.specs.declared.above.Above.TheVariants.{Origin}
@@ -203,7 +203,7 @@ module _ {R : Type 0} {g : Ghosts R} where
   -- its replicated volume group, or what the refused import left
   abbrev pub BehindImport : GroupSite R g → Option CutWrite → DiskSet R g → Result (Unit {0}) Stop → Result (Unit {0}) Stop → Type 0
   BehindImport mid cut new (Ok done) r = WithRvg mid cut new r
-  BehindImport mid cut new (Err stop) r = AtSite (λ e. e ≡ mid) new × (cut_in new ≡ cut_value cut) × (r ≡ Err stop)
+  BehindImport mid cut new (Err stop) r = AtOver (λ e. e ≡ mid) new × (cut_in new ≡ cut_value cut) × (r ≡ Err stop)
 
   abbrev pub BehindPlain : (away : Bool) → Option Rested → GroupSite R g → Option CutWrite → DiskSet R g → Result (Unit {0}) Stop → Result (Unit {0}) Stop → Type 0
   BehindPlain away rested mid cut new (Ok done) r = WithPlain away rested mid cut new r
