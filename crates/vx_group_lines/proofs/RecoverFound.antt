@@ -1,36 +1,61 @@
 -- What a recovery is done from, where a replicated volume group is found over a group of which nothing was known.
-use Rattle.std.proofs.Common.{◌≡◌, ◌∙◌, ℕ, Bool, false, List, [], ap, sym}
-use Rattle.std.specs.Prelude.{Option, unwrap_or}
+use Rattle.std.proofs.Common.{◌≡◌, ◌∙◌, ◌<◌, ℕ, Bool, false, List, [], ap, sym, subst, refl, arith, IsTrue}
+use Rattle.std.specs.Prelude.{Option, Some, None, Result, Ok, Err, slice_get, slice_set, unwrap_or}
+use Rattle.vx_model.specs.declared.errors.OutOfMemory.{OutOfMemory}
+use Rattle.vx_model.specs.declared.errors.Stop.{Stop}
+use Rattle.vx_model.specs.declared.site.SiteState.{SiteState}
 use Rattle.vx_disk.specs.declared.shelf.Shelf.{Ghosts}
 use Rattle.vx_history.specs.Doubts.{Doubted}
 use Rattle.vx_history.specs.Groups.{GroupNode}
 use Rattle.vx_history.specs.Steps.{burned}
-use Rattle.vx_history.specs.World.{Fuse, NoFuse}
+use Rattle.vx_history.specs.World.{Fuse, Node, NoFuse}
+use Rattle.vx_order.specs.declared.facts.SiteFacts.{SiteFacts}
+use Rattle.vx_report.specs.declared.view.Kept.{Kept}
+use Rattle.vx_report.specs.declared.view.SiteView.{SiteView}
 use Rattle.vx_script.specs.declared.line.ScriptLine.TheVariants.{Recover}
-use Rattle.vx_grouped.specs.GroupSites.{DownNoted}
+use Rattle.vx_grouped.specs.GroupSites.{DownNoted, site_below, site_config}
 use Rattle.vx_diskset.specs.Aboves.{site_in}
+use Rattle.vx_diskset.specs.GroupCalls.{AtSite, config_in, core_in}
 use Rattle.vx_diskset.specs.Holds.{beside_of}
-use Rattle.vx_diskset.specs.OverRises.{KnowsLess}
+use Rattle.vx_diskset.specs.OverRises.{FoundAgain, KnowsLess, LookedOver}
+use Rattle.vx_diskset.specs.Stands.{IsRackTold}
 use Rattle.vx_diskset.specs.declared.disk_set.DiskSet.{DiskSet}
 use Rattle.vx_diskset.specs.declared.disk_set.DiskSet.TheVariants.{Over}
+use Rattle.vx_diskset.specs.declared.group_set.CutWrite.{CutWrite}
+use Rattle.vx_diskset.specs.declared.group_set.KeptWrite.{KeptWrite}
 use Rattle.vx_diskset.specs.declared.over_set.OverSet.{OverSet}
+use Rattle.vx_events.proofs.RvgEvents.{rvg_apart}
 use Rattle.vx_events.specs.GroupNotes.{no_note, note_at}
+use Rattle.vx_events.specs.GroupViews.{volumes_of}
+use Rattle.vx_events.specs.LinkViews.{linked_view}
+use Rattle.vx_events.specs.LinkedFacts.{linked_fact, links_by, links_of_site}
+use Rattle.vx_events.specs.RvgViews.{is_over_rvg, over_disks}
+use Rattle.vx_events.specs.declared.said.Said.{Said}
+use Rattle.vx_events.specs.declared.said.Said.TheVariants.{Resumed}
 use Rattle.vx_yard.proofs.FuseStays.{fused_none}
+use Rattle.vx_yard.proofs.OverGroup.{over_rvg}
+use Rattle.vx_yard.specs.Standing.{StandsFor}
 use Rattle.vx_yard.specs.declared.yard.Yard.{Yard}
-use Rattle.vx_group_lines.specs.RvgRises.{RestsSo, rests_as, rests_world}
+use Rattle.vx_group_lines.specs.Noting.{made_facts}
+use Rattle.vx_group_lines.specs.Rises.{StandsOver, StoodUp, kept_shown}
+use Rattle.vx_group_lines.specs.RvgRises.{RaisesIs, RestsSo, rests_as, rests_world}
+use Rattle.vx_group_lines.proofs.Arriving.{Arrives}
 use Rattle.vx_group_lines.proofs.GroupCalls.{Called}
-use Rattle.vx_group_lines.proofs.Raising.{Begins}
+use Rattle.vx_group_lines.proofs.Raising.{Begins, RaisedTo}
 use Rattle.vx_group_lines.proofs.Rising.{unfused_down}
-use Rattle.vx_group_lines.proofs.RvgComing.{DownCall, none_after, rest_links, rest_sure, rest_unfused}
-use Rattle.vx_group_lines.proofs.RvgFound.{FoundCall, FoundHere}
+use Rattle.vx_group_lines.proofs.RvgAtRest.{AtRest, LookedAt, called_over, first_fact, never_lost, rest_set, stood_changed, stood_failing, stood_load, stood_looks, stood_same}
+use Rattle.vx_group_lines.proofs.RvgComing.{DownCall, down_made, none_after, rest_links, rest_sure, rest_unfused}
+use Rattle.vx_group_lines.proofs.RvgFacts.{up_seen}
+use Rattle.vx_group_lines.proofs.RvgFound.{FoundCall, FoundHere, found_arrives, found_left, found_raises, found_stands_by, found_up, found_worked}
+use Rattle.vx_group_lines.proofs.RvgStanding.{RvgOver, rvg_over}
 
 module _ {R : Type 0} {g : Ghosts R} where
   -- of a site with a replicated volume group
-  pub over_call : (d : Doubted) (name : List ℕ) (s kept : ℕ) (taken : Bool) (old new : Yard R g) (o q : OverSet R g) → RestsSo d s kept taken → DownCall (rests_as d s kept taken) old new s o (Over q)
-      → (here : FoundHere (beside_of (rests_as d s kept taken) s) ((rests_as d s kept taken).world.nodes s) (burned ((rests_as d s kept taken).world.nodes s).fuse) q)
+  pub over_call : (d : Doubted) (name : List ℕ) (s kept : ℕ) (taken : Bool) (old new : Yard R g) (o q : OverSet R g) (lit : Fuse) → lit ≡ NoFuse → RestsSo d s kept taken → DownCall (rests_as d s kept taken) old new s o (Over q)
+      → (here : FoundHere (beside_of (rests_as d s kept taken) s) ((rests_as d s kept taken).world.nodes s) lit q)
       → KnowsLess (note_at ((rests_as d s kept taken).world.nodes s)) here.next (site_in q)
-      → FoundCall d (rests_world d s kept taken) (Recover name) s taken old new (Over o) q (burned ((rests_as d s kept taken).world.nodes s).fuse)
-  over_call d name s kept taken old new o q rests call here less =
+      → FoundCall d (rests_world d s kept taken) (Recover name) s taken old new (Over o) q lit
+  over_call d name s kept taken old new o q lit none rests call here less =
       let unfused : ((rests_as d s kept taken).world.nodes s).fuse ≡ NoFuse = rest_unfused (rests_as d s kept taken) old new s o (Over q) call in
       record {
         stands = call.stands;
@@ -44,16 +69,16 @@ module _ {R : Type 0} {g : Ghosts R} where
         brings = tt;
         over = here;
         less = less;
-        lit_is = unfused ∙ sym (ap (λ (f : Fuse). burned f) unfused);
-        fused = fused_none here.node (Over q) (here.same.fuse ∙ ap (λ (f : Fuse). burned f) unfused);
+        lit_is = unfused ∙ sym none;
+        fused = fused_none here.node (Over q) (here.same.fuse ∙ none);
       }
 
   -- of a site over a group without one, which is down in the world e
-  pub plain_call : (d e : Doubted) (name : List ℕ) (s : ℕ) (old new : Yard R g) (before : DiskSet R g) (q : OverSet R g) → Begins e s old → (call : Called e old new [] s before (Over q))
+  pub plain_call : (d e : Doubted) (name : List ℕ) (s : ℕ) (old new : Yard R g) (before : DiskSet R g) (q : OverSet R g) (lit : Fuse) → lit ≡ NoFuse → Begins e s old → (call : Called e old new [] s before (Over q))
       → note_at (e.world.nodes s) ≡ note_at (d.world.nodes s) → DownNoted (e.world.nodes s) (note_at (e.world.nodes s)) call.at.set.site
-      → (here : FoundHere (beside_of e s) (e.world.nodes s) (burned (e.world.nodes s).fuse) q) → KnowsLess (note_at (e.world.nodes s)) here.next (site_in q)
-      → FoundCall d e (Recover name) s false old new before q (burned (e.world.nodes s).fuse)
-  plain_call d e name s old new before q begin call same down here less =
+      → (here : FoundHere (beside_of e s) (e.world.nodes s) lit q) → KnowsLess (note_at (e.world.nodes s)) here.next (site_in q)
+      → FoundCall d e (Recover name) s false old new before q lit
+  plain_call d e name s old new before q lit none begin call same down here less =
       let unfused : (e.world.nodes s).fuse ≡ NoFuse = unfused_down (e.world.nodes s) (note_at (e.world.nodes s)) call.at.set.site down in
       record {
         stands = begin.stands;
@@ -67,6 +92,111 @@ module _ {R : Type 0} {g : Ghosts R} where
         brings = tt;
         over = here;
         less = less;
-        lit_is = unfused ∙ sym (ap (λ (f : Fuse). burned f) unfused);
-        fused = fused_none here.node (Over q) (here.same.fuse ∙ ap (λ (f : Fuse). burned f) unfused);
+        lit_is = unfused ∙ sym none;
+        fused = fused_none here.node (Over q) (here.same.fuse ∙ none);
       }
+
+  -- ---- what came up, behind the look at a write that was cut, of which there is none
+
+  -- what is known of the disks behind calls on them
+  less_on : (note next : GroupNode) (x q : OverSet R g) → (IsTrue (site_below (site_in q)).tells → IsTrue (site_below (site_in x)).tells) → KnowsLess note next (site_in x) → KnowsLess note next (site_in q)
+  less_on note next x q told less = record { was = λ it. less.was (told it); dark = λ it. less.dark (told it) }
+
+  pub found_stood : (d : Doubted) (name : List ℕ) (s kept : ℕ) (taken : Bool) (old mid new : Yard R g) (before between : DiskSet R g) (first : RaisedTo old mid s before between) (at : AtRest d s kept taken old)
+      (cut : Option CutWrite) (result : Result Said OutOfMemory) (st : StoodUp s cut mid new result) (x : OverSet R g) → between ≡ Over x → cut ≡ None
+      → FoundAgain (beside_of (rests_as d s kept taken) s) ((rests_as d s kept taken).world.nodes s) (note_at ((rests_as d s kept taken).world.nodes s)) (site_in (rest_set d s kept taken old mid new before between first at)) x
+      → RaisesIs d (Recover name) s kept taken old new result
+  found_stood d name s kept taken old mid new before between first at cut result st x is none again = by st.answer refl looks
+    where
+      b : Doubted
+      b = rests_as d s kept taken
+
+      n : Node
+      n = (rests_as d s kept taken).world.nodes s
+
+      o : OverSet R g
+      o = rest_set d s kept taken old mid new before between first at
+
+      looked : LookedAt None x st.after st.answer
+      looked = stood_looks d s kept taken old mid new before between first at cut result st x is none
+
+      p : OverSet R g
+      p = looked.set
+
+      here : FoundHere (beside_of (rests_as d s kept taken) s) ((rests_as d s kept taken).world.nodes s) (burned ((rests_as d s kept taken).world.nodes s).fuse) x
+      here = found_up (beside_of b s) n (burned n.fuse) x again.over
+
+      looks : LookedOver (beside_of (rests_as d s kept taken) s) here.node here.next None x p st.answer
+      looks = looked.looked (beside_of b s) here.node here.next here.stands here.same.up here.same.running here.noted here.clear
+
+      at_before : st.before ≡ Over x
+      at_before = sym (stood_same d s kept taken old mid new before between first at cut result st) ∙ is
+
+      call : DownCall (rests_as d s kept taken) old new s (rest_set d s kept taken old mid new before between first at) (Over p)
+      call =
+          called_over d s kept taken old mid new before between first at st.after p looked.is (stood_changed d s kept taken old mid new before between first at cut result st)
+          (stood_failing d s kept taken old mid new before between first at cut result st)
+
+      unfused : ((rests_as d s kept taken).world.nodes s).fuse ≡ NoFuse
+      unfused = rest_unfused b old new s o (Over p) call
+
+      sits : RvgOver (beside_of (rests_as d s kept taken) s) here.node here.next (Over x)
+      sits = rvg_over (beside_of b s) here.node here.next (Over x) here.stands here.noted (rvg_apart here.node (over_rvg (beside_of b s) here.node x here.stands)) here.same.up here.origin
+
+      f : SiteFacts
+      f = linked_fact (rests_as d s kept taken).world s
+
+      so : StandsOver s (linked_fact (rests_as d s kept taken).world s) sits.config sits.core st.after st.answer mid new result
+      so =
+          st.above f sits.config sits.core
+          (ap (λ (fs : List SiteFacts). slice_get fs s) first.facts ∙ first_fact d s kept taken old mid new before between first at)
+          (subst (λ (e : DiskSet R g). AtSite (λ y. site_config y ≡ Some sits.config) e) (sym at_before) sits.has) (subst (λ (e : DiskSet R g). core_in e ≡ Some sits.core) (sym at_before) sits.has_core)
+
+      by : (answer : Result (Option KeptWrite) Stop) → st.answer ≡ answer → LookedOver (beside_of (rests_as d s kept taken) s) here.node here.next None x p st.answer → RaisesIs d (Recover name) s kept taken old new result
+      by (Err stop) ends it = absurd (never_lost (beside_of b s) here.node here.next x p stop (subst (λ (a : Result (Option KeptWrite) Stop). LookedOver (beside_of b s) here.node here.next None x p a) ends it))
+      by (Ok read) ends it = subst (λ (r : Result Said OutOfMemory). RaisesIs d (Recover name) s kept taken old new r) (sym replied)
+          (found_raises d name s kept taken old new (Over o) p lit found (Resumed view shown) shown refl stands (stood_load d s kept taken old mid new before between first at cut result st done.1))
+        where
+          lit : Fuse
+          lit = burned (burned ((rests_as d s kept taken).world.nodes s).fuse)
+
+          done : StandsOver s (linked_fact (rests_as d s kept taken).world s) sits.config sits.core st.after (Ok read) mid new result
+          done = subst (λ (a : Result (Option KeptWrite) Stop). StandsOver s f sits.config sits.core st.after a mid new result) ends so
+
+          now : LookedOver (beside_of (rests_as d s kept taken) s) here.node here.next None x p (Ok read)
+          now = subst (λ (a : Result (Option KeptWrite) Stop). LookedOver (beside_of b s) here.node here.next None x p a) ends it
+
+          came : FoundHere (beside_of (rests_as d s kept taken) s) ((rests_as d s kept taken).world.nodes s) lit p
+          came = found_worked (beside_of b s) n (burned n.fuse) x p here now.0 now.1
+
+          tells : IsTrue (site_below (site_in p)).tells → IsTrue (site_below (site_in x)).tells
+          tells told = subst (λ (e : DiskSet R g). IsRackTold e) at_before (st.later.told (subst (λ (e : DiskSet R g). IsRackTold e) (sym looked.is) told))
+
+          found : FoundCall d (rests_world d s kept taken) (Recover name) s taken old new (Over o) p lit
+          found =
+              over_call d name s kept taken old new o p lit (ap (λ (x : Fuse). burned (burned x)) unfused) at.rests call came
+              (less_on (note_at n) here.next x p tells again.less)
+
+          left : Doubted
+          left = found_left d (rests_world d s kept taken) (Recover name) s taken old new (Over o) p lit found
+
+          arrives : Arrives (rests_as d s kept taken) left s came.node ((rests_as d s kept taken).world.gathering s)
+          arrives = found_arrives d (rests_world d s kept taken) (Recover name) s taken old new (Over o) p lit found
+
+          stands : StandsFor left new
+          stands =
+              found_stands_by d (rests_world d s kept taken) (Recover name) s taken old new (Over o) p lit found sits.core sits.config sits.noted
+              (up_seen (beside_of b s) here.node sits.core sits.volumes sits.stands here.same.running here.whole)
+              (done.0 ∙ ap (λ (fs : List SiteFacts). slice_set fs s (made_facts sits.core sits.config f)) first.facts
+              ∙ ap (λ (k : SiteFacts). slice_set old.facts.items s k) (down_made sits.core sits.config b.world s (note_at n) at.down))
+
+          shown : Option Kept
+          shown = kept_shown (volumes_of (config_in st.after)) read
+
+          view : SiteView
+          view = over_disks (left.world.nodes s) (note_at (left.world.nodes s)) (linked_view left.world s)
+
+          replied : result ≡ Ok (Resumed view shown)
+          replied =
+              done.2 left stands (omega (arith, at.below, arrives.site.sites)) (ap (λ (k : Node). is_over_rvg k) arrives.node ∙ over_rvg (beside_of b s) came.node p came.stands)
+              (ap (λ (t : SiteState). links_by t (links_of_site b.world s)) at.down)

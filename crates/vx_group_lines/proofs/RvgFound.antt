@@ -19,15 +19,15 @@ use Rattle.vx_history.specs.World.{Fuse, Gathering, Link, Node, Packet, World}
 use Rattle.vx_kept.specs.Cleans.{at_serial}
 use Rattle.vx_report.specs.declared.view.Kept.{Kept}
 use Rattle.vx_report.specs.declared.view.SiteView.{SiteView}
-use Rattle.vx_rvg.specs.Views.{Core}
+use Rattle.vx_rvg.specs.Views.{Core, last_of}
 use Rattle.vx_script.specs.declared.line.ScriptLine.{ScriptLine}
 use Rattle.vx_script.specs.declared.line.ScriptLine.TheVariants.{GroupImport, Recover}
-use Rattle.vx_grouped.specs.GroupSites.{site_below, site_config}
+use Rattle.vx_grouped.specs.GroupNotes.{NotesConfig}
+use Rattle.vx_grouped.specs.GroupSites.{site_below}
 use Rattle.vx_grouped.specs.declared.laid.Laid.{Laid}
 use Rattle.vx_diskset.proofs.Roles.{role_origin}
 use Rattle.vx_diskset.specs.Aboves.{site_in}
 use Rattle.vx_diskset.specs.Asked.{FailsAs, FusedAs, SameFailing}
-use Rattle.vx_diskset.specs.GroupCalls.{AtSite, core_in}
 use Rattle.vx_diskset.specs.Holds.{KeptBeside, beside_of, header_links}
 use Rattle.vx_diskset.specs.Noted.{IsNamed, NotedAt, SiteNoted}
 use Rattle.vx_diskset.specs.OverRises.{FoundOver, KnowsLess}
@@ -41,6 +41,7 @@ use Rattle.vx_events.proofs.RvgEvents.{rvg_apart}
 use Rattle.vx_events.specs.Doubts.{with_disks}
 use Rattle.vx_events.specs.Effects.{ChangesNode, EffectAt}
 use Rattle.vx_events.specs.Ends.{found_linked}
+use Rattle.vx_events.specs.Facts.{group_fact}
 use Rattle.vx_events.specs.Fails.{Fails}
 use Rattle.vx_events.specs.Found.{ComesUpAs, SameDisks}
 use Rattle.vx_events.specs.GroupEnds.{BringsUp, KnowsNothing}
@@ -66,6 +67,7 @@ use Rattle.vx_yard.proofs.OneSite.{Changed, Comes, stands_at, told_by}
 use Rattle.vx_yard.proofs.OverGroup.{both_ways, over_rvg}
 use Rattle.vx_yard.proofs.Rows.{row_links_same}
 use Rattle.vx_yard.specs.Carries.{Carries}
+use Rattle.vx_yard.specs.Changes.{up_group}
 use Rattle.vx_yard.specs.Standing.{BeginsFirst, StandsFor}
 use Rattle.vx_yard.specs.Stands.{RoseAll}
 use Rattle.vx_yard.specs.Yards.{IsTold, count_of}
@@ -74,7 +76,7 @@ use Rattle.vx_above.proofs.Changing.{notes_config}
 use Rattle.vx_above.proofs.Fails.{calls_of}
 use Rattle.vx_above.proofs.SiteCalls.{calls, rose_below}
 use Rattle.vx_group_lines.specs.Noting.{made_facts}
-use Rattle.vx_group_lines.specs.RvgRises.{RaisesFor, rests_as, rests_world}
+use Rattle.vx_group_lines.specs.RvgRises.{RaisesFor, rests_world}
 use Rattle.vx_group_lines.proofs.Arriving.{Arrives, arrives_as, arrives_none, arrives_noted, arrives_then, arrives_worked}
 use Rattle.vx_group_lines.proofs.RvgComing.{some_data}
 use Rattle.vx_group_lines.proofs.RvgFacts.{gained_fact, up_seen}
@@ -396,23 +398,25 @@ module _ {R : Type 0} {g : Ghosts R} where
     pub found_sits : RvgOver (beside_of found_left s) call.over.node call.over.next (Over p)
     found_sits = rvg_over (beside_of found_left s) m next (Over p) stood call.over.noted (rvg_apart m is_over) call.over.same.up call.over.origin
 
-    -- its configuration is the one that is noted
-    found_config : at_serial 0 found_sits.config ≡ call.over.now
-    found_config = some_same (sym (notes_config next found_sits.config found_sits.noted) ∙ call.over.is)
+    -- what the tests see of it, by a replicated volume group and a configuration that are those of the site
+    found_seen : (core : Core) (c : Config) → NotesConfig call.over.next c → up_group core.log.header.state (last_of core) core.log.ring ≡ group_fact call.over.node
+        → made_facts core c (fact_of_group ((own_disks taken s d.world h).world.nodes s) (note_at ((own_disks taken s d.world h).world.nodes s))) ≡ fact_over found_left.world s
+    found_seen core c notes shows =
+        let fits : FitsRvg m (at_serial 0 c) call.over.units = subst (λ (x : Config). FitsRvg m x call.over.units) (some_same (sym call.over.is ∙ notes_config next c notes)) call.over.fits in
+        gained_fact found_left.world s n m (note_at n) next core c call.over.units found_arrives.node found_noted (notes_config next c notes) call.over.same.up is_over (rvg_apart m is_over) fits.rvg fits.volumes found_arrives.links
+        call.over.same.name call.over.same.disks call.over.same.blocks shows
 
-    fits_here : FitsRvg call.over.node (at_serial 0 found_sits.config) call.over.units
-    fits_here = subst (λ (c : Config). FitsRvg m c call.over.units) (sym found_config) call.over.fits
-
-    seen : made_facts found_sits.core found_sits.config (fact_of_group ((own_disks taken s d.world h).world.nodes s) (note_at ((own_disks taken s d.world h).world.nodes s))) ≡ fact_over found_left.world s
-    seen =
-        gained_fact found_left.world s n m (note_at n) next found_sits.core found_sits.config call.over.units found_arrives.node found_noted (notes_config next found_sits.config found_sits.noted) call.over.same.up is_over (rvg_apart m is_over)
-        fits_here.rvg fits_here.volumes found_arrives.links call.over.same.name call.over.same.disks call.over.same.blocks
-        (up_seen (beside_of found_left s) m found_sits.core found_sits.volumes found_sits.stands call.over.same.running call.over.whole)
+    pub found_stands_by : (core : Core) (c : Config) → NotesConfig call.over.next c → up_group core.log.header.state (last_of core) core.log.ring ≡ group_fact call.over.node
+        → new.facts.items ≡ slice_set old.facts.items s (made_facts core c (fact_of_group ((own_disks taken s d.world h).world.nodes s) (note_at ((own_disks taken s d.world h).world.nodes s)))) → StandsFor found_left new
+    found_stands_by core c notes shows facts =
+        stands_at b found_left old new s (made_facts core c (fact_of_group n (note_at n))) before (Over p) call.stands call.below call.changed comes
+        (λ was. subst (λ (x : Node). BeginsFirst s x) (sym found_arrives.node) (found_arrives.first was)) (λ _. subst (λ (x : Node). NotedAt x (Over p)) (sym found_arrives.node) here_noted)
+        (found_seen core c notes shows) facts
 
     pub found_stands : new.facts.items ≡ slice_set old.facts.items s (made_facts found_sits.core found_sits.config (fact_of_group ((own_disks taken s d.world h).world.nodes s) (note_at ((own_disks taken s d.world h).world.nodes s)))) → StandsFor found_left new
     found_stands facts =
-        stands_at b found_left old new s (made_facts found_sits.core found_sits.config (fact_of_group n (note_at n))) before (Over p) call.stands call.below call.changed comes
-        (λ was. subst (λ (x : Node). BeginsFirst s x) (sym found_arrives.node) (found_arrives.first was)) (λ _. subst (λ (x : Node). NotedAt x (Over p)) (sym found_arrives.node) here_noted) seen facts
+        found_stands_by found_sits.core found_sits.config found_sits.noted
+        (up_seen (beside_of found_left s) m found_sits.core found_sits.volumes found_sits.stands call.over.same.running call.over.whole) facts
 
     pub found_carries : SameLoad old new → Carries (own_disks taken s d.world h) old → Carries found_left new
     found_carries load carries =
@@ -481,17 +485,15 @@ module _ {R : Type 0} {g : Ghosts R} where
   pub found_raises : (d : Doubted) (name : List ℕ) (s kept : ℕ) (taken : Bool) (old new : Yard R g) (before : DiskSet R g) (p : OverSet R g) (lit : Fuse)
       (call : FoundCall d (rests_world d s kept taken) (Recover name) s taken old new before p lit) (said : Said) (shown : Option Kept)
       → (let l : Doubted = found_left d (rests_world d s kept taken) (Recover name) s taken old new before p lit call in said ≡ Resumed (over_disks (l.world.nodes s) (note_at (l.world.nodes s)) (linked_view l.world s)) shown)
-      → ((core : Core) (c : Config) → core_in (Over p) ≡ Some core → AtSite (λ x. site_config x ≡ Some c) (Over p)
-      → new.facts.items ≡ slice_set old.facts.items s (made_facts core c (fact_of_group ((rests_as d s kept taken).world.nodes s) (note_at ((rests_as d s kept taken).world.nodes s)))))
+      → StandsFor (found_left d (rests_world d s kept taken) (Recover name) s taken old new before p lit call) new
       → SameLoad old new → RaisesFor d (Recover name) s kept taken said old new
-  found_raises d name s kept taken old new before p lit call said shown is facts load =
+  found_raises d name s kept taken old new before p lit call said shown is stands load =
       let h : Doubted = rests_world d s kept taken in
-      let sits = found_sits d h (Recover name) s taken old new before p lit call in
       record {
         next = found_left d h (Recover name) s taken old new before p lit call;
         fails = found_fails d h (Recover name) s taken old new before p lit call;
         works = inr (found_ends d h (Recover name) s taken old new before p lit call kept said refl (found_says d h name s taken old new before p lit call said shown is));
-        stands = found_stands d h (Recover name) s taken old new before p lit call (facts sits.core sits.config sits.has_core sits.has);
+        stands = stands;
         carries = λ carried. found_carries d h (Recover name) s taken old new before p lit call load carried;
         rose = found_rose d h (Recover name) s taken old new before p lit call;
       }
