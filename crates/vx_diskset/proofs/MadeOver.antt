@@ -9,7 +9,7 @@ use Rattle.vx_disk.specs.Racks.{IsRack}
 use Rattle.vx_disk.specs.Shelf.{Lawful, Meaning}
 use Rattle.vx_disk.specs.declared.shelf.Shelf.{Ghosts}
 use Rattle.vx_events.specs.GroupViews.{config_of}
-use Rattle.vx_events.specs.RvgFits.{config_rvg, rvg_noted}
+use Rattle.vx_events.specs.RvgFits.{config_rvg, entries_noted, rvg_noted}
 use Rattle.vx_events.specs.RvgNotes.{as_replicated, inside_of, note_gained}
 use Rattle.vx_group.specs.Holding.{wide}
 use Rattle.vx_group.specs.Laws.{group_lawful}
@@ -260,6 +260,6 @@ module _ {R : Type 0} {g : Ghosts R} (rackful : (s : R) → IsRack (g.meaning s)
       cut,
       subst (λ (x : Units). InsideOf x gained) (sym on) inside_so,
       subst (λ (x : Units). TidyNote x gained) (sym on) (record { tidy = ground_tidy (noted_config k.core.inner.config) k.core middle; named = named_rvg }),
-      subst (λ (e : GroupSite R g). RestsNamed (config_units (config_of gained.config)) e) (sym is) tt,
+      subst (λ (e : GroupSite R g). RestsNamed (config_units (config_of gained.config)) (length (entries_noted gained)) e) (sym is) tt,
     ),
   )

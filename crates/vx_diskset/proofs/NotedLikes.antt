@@ -1,6 +1,7 @@
 -- What a site notes of its group below a replicated volume group, past calls and lines that leave the group alone, and past its crash.
-use Rattle.std.proofs.Common.{◌≡◌, ◌∙◌, ℕ, ap, inl, refl, subst, sym}
+use Rattle.std.proofs.Common.{◌≡◌, ◌∙◌, ℕ, ap, inl, length, refl, subst, sym}
 use Rattle.std.specs.Prelude.{Option, unwrap_or}
+use Rattle.vx_events.specs.RvgFits.{entries_noted}
 use Rattle.vx_disk.specs.declared.shelf.Shelf.{Ghosts}
 use Rattle.vx_grouped.specs.GroupSites.{idle_below, idle_disks, laid_below, laid_disks}
 use Rattle.vx_grouped.specs.SetFuses.{HasFuse}
@@ -71,7 +72,7 @@ module _ (n m : Node) (like : NotesAs n m) where
       it.1,
       subst (λ (u : Units). InsideOf u note) units_as it.2,
       subst (λ (u : Units). TidyNote u note) units_as it.3,
-      subst (λ (u : Units). RestsNamed u (site_in o)) units_as it.4,
+      subst (λ (u : Units). RestsNamed u (length (entries_noted note)) (site_in o)) units_as it.4,
     )
 
     -- by another node that has all by which a group is noted

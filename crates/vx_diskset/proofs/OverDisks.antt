@@ -68,8 +68,8 @@ seen_less tells tells' c old new told less u b v (inl on) = inl (record { inside
 seen_less tells tells' c old new told less u b v (inr out) = inr (record { tells = told out.tells; outside = out.outside; empty = out.empty })
 
 -- what names the replicated volume group does so still
-pub named_less : (units : Units) (m m' : Meaning) → LeavesLess m m' → FoundNamed units m → FoundNamed units m'
-named_less units m m' less it = record {
+pub named_less : (units : Units) (count : ℕ) (m m' : Meaning) → LeavesLess m m' → FoundNamed units count m → FoundNamed units count m'
+named_less units count m m' less it = record {
   each = λ i x each is. it.each i x (λ u b. less.leaves u b (i u b) (each u b)) (sym (found_same m m' less.units less.size (λ u. true) i) ∙ is);
 }
 
@@ -213,7 +213,7 @@ module _ {R : Type 0} {g : Ghosts R} where
 
     module _ (disk : ℕ) (on : Bool) (fails : LaidFails disk on f.laid f'.laid) where
       pub origin_stays : StaysNoted old origin_new
-      origin_stays = record { cut = refl; each = λ n note it. laid_noted disk on f.laid f'.laid fails n note (subst (λ (x : OverSite R g). NotedOn n note (below_site x)) is it); named = λ units it. tt }
+      origin_stays = record { cut = refl; each = λ n note it. laid_noted disk on f.laid f'.laid fails n note (subst (λ (x : OverSite R g). NotedOn n note (below_site x)) is it); named = λ units count it. tt }
 
       pub origin_asked : WithDisks (site_disks (below_site old.site)).disks (laid_disks f'.laid).disks (FailsOne disk on)
       origin_asked = subst (λ (x : OverSite R g). WithDisks (site_disks (below_site x)).disks (laid_disks f'.laid).disks (FailsOne disk on)) (sym is) fails.disks
@@ -223,7 +223,7 @@ module _ {R : Type 0} {g : Ghosts R} where
 
     module _ (calls pick : ℕ) (fuses : LaidFuses calls pick f.laid f'.laid) where
       pub origin_fused : ((t : Shade R) → IsRack (shade_meaning g.meaning t)) → FusesNoted calls old origin_new
-      origin_fused racks = record { cut = refl; each = λ n note it. laid_fused calls pick f.laid f'.laid racks fuses n note (subst (λ (x : OverSite R g). UpNoted n note (below_site x)) is it); named = λ units it. tt }
+      origin_fused racks = record { cut = refl; each = λ n note it. laid_fused calls pick f.laid f'.laid racks fuses n note (subst (λ (x : OverSite R g). UpNoted n note (below_site x)) is it); named = λ units count it. tt }
 
       pub origin_set : OnDisks (site_disks (below_site old.site)).disks (laid_disks f'.laid).disks (FusesFor calls pick)
       origin_set = subst (λ (x : OverSite R g). OnDisks (site_disks (below_site x)).disks (laid_disks f'.laid).disks (FusesFor calls pick)) (sym is) fuses.disks
@@ -237,7 +237,7 @@ module _ {R : Type 0} {g : Ghosts R} where
 
     module _ (disk : ℕ) (on : Bool) (fails : LaidFails disk on f.laid f'.laid) where
       pub receiver_stays : StaysNoted old receiver_new
-      receiver_stays = record { cut = refl; each = λ n note it. laid_noted disk on f.laid f'.laid fails n note (subst (λ (x : OverSite R g). NotedOn n note (below_site x)) is it); named = λ units it. tt }
+      receiver_stays = record { cut = refl; each = λ n note it. laid_noted disk on f.laid f'.laid fails n note (subst (λ (x : OverSite R g). NotedOn n note (below_site x)) is it); named = λ units count it. tt }
 
       pub receiver_asked : WithDisks (site_disks (below_site old.site)).disks (laid_disks f'.laid).disks (FailsOne disk on)
       receiver_asked = subst (λ (x : OverSite R g). WithDisks (site_disks (below_site x)).disks (laid_disks f'.laid).disks (FailsOne disk on)) (sym is) fails.disks
@@ -247,7 +247,7 @@ module _ {R : Type 0} {g : Ghosts R} where
 
     module _ (calls pick : ℕ) (fuses : LaidFuses calls pick f.laid f'.laid) where
       pub receiver_fused_noted : ((t : Shade R) → IsRack (shade_meaning g.meaning t)) → FusesNoted calls old receiver_new
-      receiver_fused_noted racks = record { cut = refl; each = λ n note it. laid_fused calls pick f.laid f'.laid racks fuses n note (subst (λ (x : OverSite R g). UpNoted n note (below_site x)) is it); named = λ units it. tt }
+      receiver_fused_noted racks = record { cut = refl; each = λ n note it. laid_fused calls pick f.laid f'.laid racks fuses n note (subst (λ (x : OverSite R g). UpNoted n note (below_site x)) is it); named = λ units count it. tt }
 
       pub receiver_set : OnDisks (site_disks (below_site old.site)).disks (laid_disks f'.laid).disks (FusesFor calls pick)
       receiver_set = subst (λ (x : OverSite R g). OnDisks (site_disks (below_site x)).disks (laid_disks f'.laid).disks (FusesFor calls pick)) (sym is) fuses.disks
@@ -272,7 +272,7 @@ module _ {R : Type 0} {g : Ghosts R} where
             let was : AwayNoted n note (Deported idle) = subst (λ (x : OverSite R g). NotedOn n note (below_site x)) is it in
             alike_away n (idle_disks idle) (idle_disks new) alike down armed idle.agreed new.agreed agreed (idle_below idle).tells (idle_below new).tells less note
             (fuse_stays n.fuse (idle_disks idle) (idle_disks new) (FailsOne disk on) armed (λ o d t. t.0.fuse) told was.fuse) was;
-        named = λ units it. tt;
+        named = λ units count it. tt;
       }
 
       pub away_asked : WithDisks (site_disks (below_site old.site)).disks (idle_disks new).disks (FailsOne disk on)
@@ -293,9 +293,9 @@ module _ {R : Type 0} {g : Ghosts R} where
         each = λ n note it.
             let was : DownNoted n note (Down idle) = subst (λ (x : OverSite R g). NotedOn n note (below_site x)) is it in
             alike_down n (idle_disks idle) (idle_disks new) alike down armed idle.agreed new.agreed agreed (idle_below idle).tells (idle_below new).tells less note was;
-        named = λ units it.
-            let was : FoundNamed units (idle_ready idle) = subst (λ (x : OverSite R g). RestsNamed units (below_site x)) is it in
-            named_less units (idle_ready idle) (idle_ready new) (idle_less idle new agreed alike) was;
+        named = λ units count it.
+            let was : FoundNamed units count (idle_ready idle) = subst (λ (x : OverSite R g). RestsNamed units count (below_site x)) is it in
+            named_less units count (idle_ready idle) (idle_ready new) (idle_less idle new agreed alike) was;
       }
 
       pub fell_asked : WithDisks (site_disks (below_site old.site)).disks (idle_disks new).disks (FailsOne disk on)
@@ -316,19 +316,19 @@ module _ {R : Type 0} {g : Ghosts R} where
 
   -- nor is its group noted as up
   pub away_fused : (calls : ℕ) (old : OverSet R g) (idle : Idle R g) → old.site ≡ GroupAway idle → FusesNoted calls old (record { site = GroupAway idle; cut = old.cut })
-  away_fused calls old idle is = record { cut = refl; each = λ n note it. absurd (subst (λ (x : OverSite R g). UpNoted n note (below_site x)) is it); named = λ units it. tt }
+  away_fused calls old idle is = record { cut = refl; each = λ n note it. absurd (subst (λ (x : OverSite R g). UpNoted n note (below_site x)) is it); named = λ units count it. tt }
 
   pub fell_fused : (calls : ℕ) (old : OverSet R g) (idle : Idle R g) → old.site ≡ GroupFell idle → FusesNoted calls old (record { site = GroupFell idle; cut = old.cut })
-  fell_fused calls old idle is = record { cut = refl; each = λ n note it. absurd (subst (λ (x : OverSite R g). UpNoted n note (below_site x)) is it); named = λ units it. subst (λ (x : OverSite R g). RestsNamed units (below_site x)) is it }
+  fell_fused calls old idle is = record { cut = refl; each = λ n note it. absurd (subst (λ (x : OverSite R g). UpNoted n note (below_site x)) is it); named = λ units count it. subst (λ (x : OverSite R g). RestsNamed units count (below_site x)) is it }
 
   pub gone_fused : (calls : ℕ) (old : OverSet R g) → old.site ≡ NoGroup → FusesNoted calls old (record { site = NoGroup; cut = old.cut })
-  gone_fused calls old is = record { cut = refl; each = λ n note it. absurd (subst (λ (x : OverSite R g). UpNoted n note (below_site x)) is it); named = λ units it. tt }
+  gone_fused calls old is = record { cut = refl; each = λ n note it. absurd (subst (λ (x : OverSite R g). UpNoted n note (below_site x)) is it); named = λ units count it. tt }
 
   pub same_counts : (old : OverSet R g) (s : OverSite R g) → old.site ≡ s → DisksAlike (below_site old.site) (below_site s)
   same_counts old s is = subst (λ (x : OverSite R g). DisksAlike (below_site old.site) (below_site x)) is (record { counts = λ d. refl; tells = refl; told = λ told. told })
 
   pub same_stays : (old : OverSet R g) (s : OverSite R g) → old.site ≡ s → StaysNoted old (record { site = s; cut = old.cut })
-  same_stays old s is = record { cut = refl; each = λ n note it. subst (λ (x : OverSite R g). NotedOn n note (below_site x)) is it; named = λ units it. subst (λ (x : OverSite R g). RestsNamed units (below_site x)) is it }
+  same_stays old s is = record { cut = refl; each = λ n note it. subst (λ (x : OverSite R g). NotedOn n note (below_site x)) is it; named = λ units count it. subst (λ (x : OverSite R g). RestsNamed units count (below_site x)) is it }
 
   -- ---- the same of a disk set
 

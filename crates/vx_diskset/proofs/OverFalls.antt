@@ -1,5 +1,5 @@
 -- The disks below a replicated volume group, which crash.
-use Rattle.std.proofs.Common.{◌≡◌, ◌∙◌, ◌⊎◌, inl, inr, ℕ, Bool, true, false, ap, arith, refl, subst, sym}
+use Rattle.std.proofs.Common.{◌≡◌, ◌∙◌, ◌⊎◌, inl, inr, ℕ, Bool, true, false, ap, arith, length, refl, subst, sym}
 use Rattle.std.specs.Prelude.{Option, Some}
 use Rattle.vx_config.specs.Configs.{HasSpelling}
 use Rattle.vx_config.specs.declared.config.Config.{Config}
@@ -8,7 +8,8 @@ use Rattle.vx_disk.specs.Causes.{OnDisks}
 use Rattle.vx_disk.specs.Disks.{Crashed}
 use Rattle.vx_disk.specs.Shelf.{Each}
 use Rattle.vx_disk.specs.declared.shelf.Shelf.{Ghosts}
-use Rattle.vx_events.specs.RvgFits.{config_rvg, rvg_noted}
+use Rattle.vx_events.specs.GroupViews.{volumes_of}
+use Rattle.vx_events.specs.RvgFits.{config_rvg, entries_noted, rvg_noted}
 use Rattle.vx_group.specs.Holding.{wide}
 use Rattle.vx_group.specs.declared.inner.Inner.{Inner}
 use Rattle.vx_group.proofs.HoldLemmas.{wide_none}
@@ -67,8 +68,8 @@ module _ {R : Type 0} {g : Ghosts R} where
         (lit_since note note (laid_below l).tells (idle_below idle).tells (laid_disks l) (idle_disks idle) refl it.stopped.tells it.told fallen.lit)
         (fell_agrees n note tidy fallen.cut.lies) (record { down = it.stopped.down; unarmed = it.stopped.unarmed }) fallen.spells (it.away n note fallen.cut.lies)
 
-    -- each configuration that an import may find names the replicated volume group that is noted
-    named_by : (n : Node) (note : GroupNode) (units : Units) → GroupLies n note l.core (laid_disks l) → HasSpelling (at_serial 0 l.core.inner.config) → rvg_noted note ≡ Some units → (b : Bool) → idle.agreed ≡ b → FoundNamed units (idle_ready idle)
+    -- each configuration that an import may find names the replicated volume group that is noted, and has the volumes that are
+    named_by : (n : Node) (note : GroupNode) (units : Units) → GroupLies n note l.core (laid_disks l) → HasSpelling (at_serial 0 l.core.inner.config) → rvg_noted note ≡ Some units → (b : Bool) → idle.agreed ≡ b → FoundNamed units (length (entries_noted note)) (idle_ready idle)
     named_by n note units lies spells named true agreed = record {
       each = λ i x each is.
           let sure : is_sure l.core ≡ true = sym it.agreed ∙ agreed in
@@ -76,15 +77,17 @@ module _ {R : Type 0} {g : Ghosts R} where
           let was : Each (laid_disks l).leaves i = (λ u b. it.stopped.leaves u b (i u b) (under.leaves u b (i u b) (each u b))) in
           let found_was : found (laid_disks l) i ≡ Found x = sym (found_same (laid_disks l) (idle_ready idle) (under.units ∙ it.stopped.units) (λ u. under.size u ∙ it.stopped.size u) (λ u. true) i) ∙ is in
           let one : at_serial 0 x ≡ at_serial 0 (wide l.core).config = (lies.images.newest (sure_kept l.core.inner.committed l.core.held sure)).each i x was found_was in
-          ap (λ (y : Config). y.rvg) one
-          ∙ ap (λ (e : Inner). e.config.rvg) (wide_none l.core (sure_free l.core.inner.committed l.core.held sure))
-          ∙ sym (ap (λ (o : Option Config). config_rvg o) (note_read note l.core.inner.config (record { is = lies.config; spells = spells }))) ∙ named;
+          let free = wide_none l.core (sure_free l.core.inner.committed l.core.held sure) in
+          let read = note_read note l.core.inner.config (record { is = lies.config; spells = spells }) in (
+            ap (λ (y : Config). y.rvg) one ∙ ap (λ (e : Inner). e.config.rvg) free ∙ sym (ap (λ (o : Option Config). config_rvg o) read) ∙ named,
+            ap (λ (y : Config). length y.volumes) one ∙ ap (λ (e : Inner). length e.config.volumes) free ∙ sym (ap (λ (o : Option Config). length (volumes_of o)) read),
+          );
     }
     named_by n note units lies spells named false agreed = record {
       each = λ i x each is. absurd (subst (λ (b : Bool). (shade_meaning g.meaning (ready_of b idle.rack)).leaves 0 0 (i 0 0)) agreed (each 0 0));
     }
 
-    fell_named : (n : Node) (note : GroupNode) (units : Units) → UpNoted n note (Up l) ⊎ CutNoted n note (Up l) → rvg_noted note ≡ Some units → FoundNamed units (idle_ready idle)
+    fell_named : (n : Node) (note : GroupNode) (units : Units) → UpNoted n note (Up l) ⊎ CutNoted n note (Up l) → rvg_noted note ≡ Some units → FoundNamed units (length (entries_noted note)) (idle_ready idle)
     fell_named n note units (inl up) named = named_by n note units up.at.lies up.spells named idle.agreed refl
     fell_named n note units (inr cut) named = named_by n note units cut.cut.lies cut.spells named idle.agreed refl
 
@@ -95,7 +98,7 @@ module _ {R : Type 0} {g : Ghosts R} where
       pub crash_fallen : (n : Node) (note : GroupNode) → IsNoteTidy note → CutNoted n note e → DownNoted (crashed n 0) note (Down idle)
       crash_fallen n note tidy cut = fell_cut n note tidy (subst (λ (x : GroupSite R g). CutNoted n note x) is cut)
 
-      pub crash_named : (n : Node) (note : GroupNode) (units : Units) → UpNoted n note e ⊎ CutNoted n note e → rvg_noted note ≡ Some units → RestsNamed units (Down idle)
+      pub crash_named : (n : Node) (note : GroupNode) (units : Units) → UpNoted n note e ⊎ CutNoted n note e → rvg_noted note ≡ Some units → RestsNamed units (length (entries_noted note)) (Down idle)
       crash_named n note units noted named = fell_named n note units (subst (λ (x : GroupSite R g). UpNoted n note x ⊎ CutNoted n note x) is noted) named
 
       pub crash_asked : OnDisks (site_disks e).disks (idle_disks idle).disks (Crashed (site_disks e).size pick)
@@ -115,7 +118,7 @@ module _ {R : Type 0} {g : Ghosts R} where
     pub still_fallen : ((n : Node) (note : GroupNode) → CutNoted n note s → ⊥) → (n : Node) (note : GroupNode) → IsNoteTidy note → CutNoted n note e → DownNoted (crashed n 0) note s
     still_fallen never n note tidy cut = absurd (never n note (subst (λ (x : GroupSite R g). CutNoted n note x) is cut))
 
-    pub still_named : ((n : Node) (note : GroupNode) → UpNoted n note s → ⊥) → ((n : Node) (note : GroupNode) → CutNoted n note s → ⊥) → (n : Node) (note : GroupNode) (units : Units) → UpNoted n note e ⊎ CutNoted n note e → rvg_noted note ≡ Some units → RestsNamed units s
+    pub still_named : ((n : Node) (note : GroupNode) → UpNoted n note s → ⊥) → ((n : Node) (note : GroupNode) → CutNoted n note s → ⊥) → (n : Node) (note : GroupNode) (units : Units) → UpNoted n note e ⊎ CutNoted n note e → rvg_noted note ≡ Some units → RestsNamed units (length (entries_noted note)) s
     still_named never none n note units (inl up) named = absurd (never n note (subst (λ (x : GroupSite R g). UpNoted n note x) is up))
     still_named never none n note units (inr cut) named = absurd (none n note (subst (λ (x : GroupSite R g). CutNoted n note x) is cut))
 
@@ -158,7 +161,7 @@ module _ {R : Type 0} {g : Ghosts R} where
 
     -- what its site notes of the group falls with it
     pub fell_notes : ((n : Node) (note : GroupNode) → IsNoteTidy note → CutNoted n note (site_in o) → DownNoted (crashed n 0) note (site_in s)) → ((n : Node) (note : GroupNode) → IsNoteTidy note → UpNoted n note (site_in o) → DownNoted (crashed n 0) note (site_in s))
-        → ((n : Node) (note : GroupNode) (units : Units) → UpNoted n note (site_in o) ⊎ CutNoted n note (site_in o) → rvg_noted note ≡ Some units → RestsNamed units (site_in s)) → s.cut ≡ o.cut → OversFall e (Over s)
+        → ((n : Node) (note : GroupNode) (units : Units) → UpNoted n note (site_in o) ⊎ CutNoted n note (site_in o) → rvg_noted note ≡ Some units → RestsNamed units (length (entries_noted note)) (site_in s)) → s.cut ≡ o.cut → OversFall e (Over s)
     fell_notes fallen up named cut =
         subst (λ (x : DiskSet R g). OversFall x (Over s)) (sym is) (record { fallen = fallen; up = up; named = named; counts = counts_by pick (site_in o) (site_in s) it; cut = cut; calls = under_fell pick (site_in o) (site_in s) it })
 

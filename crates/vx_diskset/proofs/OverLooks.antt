@@ -1,5 +1,5 @@
 -- What is read of a write that was cut, at a site whose replicated volume group came up with its group.
-use Rattle.std.proofs.Common.{◌≡◌, ◌∙◌, ◌⊎◌, inl, ℕ, ap, refl, subst, sym}
+use Rattle.std.proofs.Common.{◌≡◌, ◌∙◌, ◌⊎◌, inl, ℕ, ap, length, refl, subst, sym}
 use Rattle.std.specs.Prelude.{Err, None, Ok, Option, Result, Some}
 use Rattle.vx_disk.specs.Counts.{Rose}
 use Rattle.vx_disk.specs.Moves.{Nowhere}
@@ -11,7 +11,7 @@ use Rattle.vx_grouped.specs.SiteEnds.{MayCrashSite}
 use Rattle.vx_grouped.specs.Volumes.{SiteGoes}
 use Rattle.vx_grouped.specs.declared.group_site.GroupSite.{GroupSite}
 use Rattle.vx_grouped.specs.declared.group_site.GroupSite.TheVariants.{Deported, Down, Gone, Marked, Up}
-use Rattle.vx_events.specs.RvgFits.{rvg_noted}
+use Rattle.vx_events.specs.RvgFits.{entries_noted, rvg_noted}
 use Rattle.vx_history.specs.Groups.{GroupNode}
 use Rattle.vx_history.specs.Steps.{crashed, worked}
 use Rattle.vx_history.specs.World.{Node}
@@ -99,7 +99,7 @@ module _ {R : Type 0} {g : Ghosts R} where
 
       -- the crash behind a disk that failed, where the write is cut still
       module _ (was : s.cut ≡ cut) (last : OverSet R g) (fell : (x : Node) (next : GroupNode) → IsNoteTidy next → UpNoted x next (site_in s) → DownNoted (crashed x 0) next (site_in last))
-          (named : (x : Node) (next : GroupNode) (units : Units) → UpNoted x next (site_in s) ⊎ CutNoted x next (site_in s) → rvg_noted next ≡ Some units → RestsNamed units (site_in last)) (cut_is : last.cut ≡ s.cut) where
+          (named : (x : Node) (next : GroupNode) (units : Units) → UpNoted x next (site_in s) ⊎ CutNoted x next (site_in s) → rvg_noted next ≡ Some units → RestsNamed units (length (entries_noted next)) (site_in last)) (cut_is : last.cut ≡ s.cut) where
         abbrev next : GroupNode
         next = still_cut cut note
 
@@ -115,7 +115,7 @@ module _ {R : Type 0} {g : Ghosts R} where
           ap (λ (x : Option CutWrite). cut_value x) (cut_is ∙ was),
           subst (λ (u : Units). InsideOf u note) same noted.2,
           record { tidy = noted.3.tidy; named = noted.3.named ∙ ap (λ (u : Units). Some u) same },
-          subst (λ (u : Units). RestsNamed u (site_in last)) same (named (worked (below_rvg n)) note (units_of n) (inl up_new) noted.3.named),
+          subst (λ (u : Units). RestsNamed u (length (entries_noted note)) (site_in last)) same (named (worked (below_rvg n)) note (units_of n) (inl up_new) noted.3.named),
         )
 
     -- ---- by what was read
@@ -126,7 +126,7 @@ module _ {R : Type 0} {g : Ghosts R} where
 
     pub looks_lost : (no : No) → LooksKept (below_rvg n) note cut site mid (Err no) → (s : OverSet R g) → site_in s ≡ mid → StaysAbove above mid (above_in s) → s.cut ≡ cut
         → (last : OverSet R g) → ((b : KeptBeside) (x : Node) → SiteStands b x (Over s) → x.state ≡ IsUp → CrashedAt b x (Over last)) → ((x : Node) (next : GroupNode) → IsNoteTidy next → UpNoted x next (site_in s) → DownNoted (crashed x 0) next (site_in last))
-        → ((x : Node) (next : GroupNode) (units : Units) → UpNoted x next (site_in s) ⊎ CutNoted x next (site_in s) → rvg_noted next ≡ Some units → RestsNamed units (site_in last)) → last.cut ≡ s.cut → (pick : ℕ) → MayCrashSite pick (site_in s) (site_in last)
+        → ((x : Node) (next : GroupNode) (units : Units) → UpNoted x next (site_in s) ⊎ CutNoted x next (site_in s) → rvg_noted next ≡ Some units → RestsNamed units (length (entries_noted next)) (site_in last)) → last.cut ≡ s.cut → (pick : ℕ) → MayCrashSite pick (site_in s) (site_in last)
         → LookedOver beside n note cut o last (Err (Refused no))
     looks_lost (Device disk) looks s new_at new_above was last crash fell named cut_is pick stopped = (
       crash beside (worked n) (stood looks.0 s new_at new_above) state,

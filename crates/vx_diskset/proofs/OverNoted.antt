@@ -84,12 +84,12 @@ module _ {R : Type 0} {g : Ghosts R} where
   up_noted k note Gone it = absurd it
 
   -- of one that is up nothing is said of imports
-  pub up_named : (k : Node) (note : GroupNode) (units : Units) (e : GroupSite R g) → UpNoted k note e → RestsNamed units e
-  up_named k note units (Up laid) it = tt
-  up_named k note units (Deported idle) it = absurd it
-  up_named k note units (Down idle) it = absurd it
-  up_named k note units (Marked rack) it = absurd it
-  up_named k note units Gone it = absurd it
+  pub up_named : (k : Node) (note : GroupNode) (units : Units) {count : ℕ} (e : GroupSite R g) → UpNoted k note e → RestsNamed units count e
+  up_named k note units {count} (Up laid) it = tt
+  up_named k note units {count} (Deported idle) it = absurd it
+  up_named k note units {count} (Down idle) it = absurd it
+  up_named k note units {count} (Marked rack) it = absurd it
+  up_named k note units {count} Gone it = absurd it
 
   up_running : (k : Node) (note : GroupNode) (e : GroupSite R g) → UpNoted k note e → IsTrue (site_disks e).down → ⊥
   up_running k note (Up laid) it down = it.at.up down

@@ -1,5 +1,5 @@
 -- What a site notes of its group of disks, below a replicated volume group or not.
-use Rattle.std.specs.Prelude.{◌≡◌, ◌⊎◌, ℕ, [], false, IsFalse, IsTrue, Some, None, Result, map}
+use Rattle.std.specs.Prelude.{◌≡◌, ◌⊎◌, ℕ, [], false, IsFalse, IsTrue, Some, None, Result, map, length}
 use Rattle.vx_disk.specs.Disks.{Disks}
 use Rattle.vx_disk.specs.Shelf.{Each, Image, Meaning}
 use Rattle.vx_disk.specs.declared.shelf.Shelf.{Ghosts}
@@ -15,7 +15,7 @@ use Rattle.vx_history.specs.World.{FuseSet, Node, NoFuse}
 use Rattle.vx_groupmaps.specs.Loading.{DeviceRose}
 use Rattle.vx_events.specs.GroupNotes.{note_at}
 use Rattle.vx_events.specs.GroupViews.{config_of}
-use Rattle.vx_events.specs.RvgFits.{HasUnits, data_of, rvg_noted}
+use Rattle.vx_events.specs.RvgFits.{HasUnits, data_of, entries_noted, rvg_noted}
 use Rattle.vx_config.specs.declared.config.Config.{Config}
 use Rattle.vx_copyfmt.specs.Imports.{Found}
 use Rattle.vx_kept.specs.Groups.{found as finds}
@@ -50,9 +50,9 @@ pub record TidyNote (units : Units) (note : GroupNode) : Type 0 where
   pub tidy : IsNoteTidy note
   pub named : rvg_noted note ≡ Some units
 
--- so does each configuration that an import may find
-pub record FoundNamed (units : Units) (m : Meaning) : Type 0 where
-  pub each : (i : Image) (x : Config) → Each m.leaves i → finds m i ≡ Found x → x.rvg ≡ Some units
+-- so does each configuration that an import may find, which has so many volumes
+pub record FoundNamed (units : Units) (count : ℕ) (m : Meaning) : Type 0 where
+  pub each : (i : Image) (x : Config) → Each m.leaves i → finds m i ≡ Found x → (x.rvg ≡ Some units) × (length x.volumes ≡ count)
 
 -- the data volumes of a site are those of the replicated volume group of the configuration that it notes, which are volumes of it; no write to a volume of the group is cut
 abbrev pub IsNamed : Node → Type 0
@@ -97,15 +97,15 @@ module _ {R : Type 0} {g : Ghosts R} where
   NotedOn n note (Down idle) = DownNoted n note (Down idle)
   NotedOn n note other = ⊥
 
-  -- of disks that crashed: each configuration that an import may find names this replicated volume group
-  abbrev pub RestsNamed : Units → GroupSite R g → Type 0
-  RestsNamed units (Down idle) = FoundNamed units (idle_ready idle)
-  RestsNamed units other = Unit {0}
+  -- of disks that crashed: each configuration that an import may find names this replicated volume group, and has so many volumes
+  abbrev pub RestsNamed : Units → (count : ℕ) → GroupSite R g → Type 0
+  RestsNamed units count (Down idle) = FoundNamed units count (idle_ready idle)
+  RestsNamed units count other = Unit {0}
 
   -- so it is of the disks of a site, with the write that is cut
   abbrev pub SiteNoted : Node → GroupNode → DiskSet R g → Type 0
   SiteNoted n note (OfGroup s) = NotedOn n note s.site × (cut_value s.cut ≡ note.cut)
-  SiteNoted n note (Over s) = NotedOn (below_rvg n) note (site_in s) × (cut_value s.cut ≡ note.cut) × InsideOf (units_of n) note × TidyNote (units_of n) note × RestsNamed (units_of n) (site_in s)
+  SiteNoted n note (Over s) = NotedOn (below_rvg n) note (site_in s) × (cut_value s.cut ≡ note.cut) × InsideOf (units_of n) note × TidyNote (units_of n) note × RestsNamed (units_of n) (length (entries_noted note)) (site_in s)
   SiteNoted n note other = ⊥
 
   -- the group of a site with a replicated volume group over it is as the site notes it, and so are the data volumes of the site
@@ -152,13 +152,13 @@ module _ {R : Type 0} {g : Ghosts R} where
   pub record StaysNoted (old new : OverSet R g) : Type 0 where
     pub cut : cut_value new.cut ≡ cut_value old.cut
     pub each : (n : Node) (note : GroupNode) → NotedOn n note (site_in old) → NotedOn n note (site_in new)
-    pub named : (units : Units) → RestsNamed units (site_in old) → RestsNamed units (site_in new)
+    pub named : (units : Units) (count : ℕ) → RestsNamed units count (site_in old) → RestsNamed units count (site_in new)
 
   -- one that sets the fuse of a site that is up
   pub record FusesNoted (calls : ℕ) (old new : OverSet R g) : Type 0 where
     pub cut : cut_value new.cut ≡ cut_value old.cut
     pub each : (n : Node) (note : GroupNode) → UpNoted n note (site_in old) → UpNoted (record n { fuse = FuseSet calls }) note (site_in new)
-    pub named : (units : Units) → RestsNamed units (site_in old) → RestsNamed units (site_in new)
+    pub named : (units : Units) (count : ℕ) → RestsNamed units count (site_in old) → RestsNamed units count (site_in new)
 
   -- the same of disk sets: those that are not below a replicated volume group stay apart from one
   abbrev pub OversStay : DiskSet R g → DiskSet R g → Type 0
@@ -181,7 +181,7 @@ module _ {R : Type 0} {g : Ghosts R} where
   pub record OverFalls (old new : OverSet R g) : Type 0 where
     pub fallen : (n : Node) (note : GroupNode) → IsNoteTidy note → CutNoted n note (site_in old) → DownNoted (crashed n 0) note (site_in new)
     pub up : (n : Node) (note : GroupNode) → IsNoteTidy note → UpNoted n note (site_in old) → DownNoted (crashed n 0) note (site_in new)
-    pub named : (n : Node) (note : GroupNode) (units : Units) → UpNoted n note (site_in old) ⊎ CutNoted n note (site_in old) → rvg_noted note ≡ Some units → RestsNamed units (site_in new)
+    pub named : (n : Node) (note : GroupNode) (units : Units) → UpNoted n note (site_in old) ⊎ CutNoted n note (site_in old) → rvg_noted note ≡ Some units → RestsNamed units (length (entries_noted note)) (site_in new)
     pub counts : (d : ℕ) → (site_disks (site_in new)).disk_faults d ≡ (site_disks (site_in old)).disk_faults d
     pub cut : new.cut ≡ old.cut
     pub calls : UnderCalls (site_disks (site_in old)) (site_disks (site_in new))

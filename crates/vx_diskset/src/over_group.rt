@@ -1,5 +1,5 @@
 // Calls on the disk group below a replicated volume group.
-ghost use Rattle.std.specs.Prelude.{◌≡◌, ◌⊎◌, ◌≤◌, IfErr, IfOk, None, Some, true};
+ghost use Rattle.std.specs.Prelude.{◌≡◌, ◌⊎◌, ◌≤◌, IfErr, IfOk, None, Some, length, true};
 ghost use Rattle.vx_config.specs.Checks.{is_group as is_group_of};
 ghost use Rattle.vx_config.specs.declared.config.Config.{Config as ConfigValue};
 ghost use Rattle.vx_disk.specs.Causes.{OnDisks};
@@ -26,7 +26,7 @@ ghost use Rattle.vx_model.specs.States.{first_state};
 ghost use Rattle.vx_model.specs.declared.limits.TheConstants.{LEAST_BLOCKS};
 ghost use Rattle.vx_rvg.specs.Views.{IsSound, UnitsPlaced};
 ghost use Rattle.vx_diskset.specs.Noted.{IsNoteTidy, RestsNamed, SiteNoted};
-ghost use Rattle.vx_events.specs.RvgFits.{rvg_noted};
+ghost use Rattle.vx_events.specs.RvgFits.{entries_noted, rvg_noted};
 ghost use Rattle.vx_model.specs.declared.units.Units.{Units as UnitsValue};
 ghost use Rattle.vx_history.specs.Groups.{GroupNode};
 ghost use Rattle.vx_history.specs.World.{Node};
@@ -212,7 +212,7 @@ impl<R: Rack> OverSet<R> {
         ensures held { (beside : KeptBeside) (n : Node) → CutAt beside n (OverSites self) → CrashedAt beside n (OverSites result) }
         ensures noted { (n : Node) (note : GroupNode) → IsNoteTidy note → UpNoted n note (site_in self) → DownNoted (crashed n 0) note (site_in result) }
         ensures fallen { (n : Node) (note : GroupNode) → IsNoteTidy note → CutNoted n note (site_in self) → DownNoted (crashed n 0) note (site_in result) }
-        ensures named { (n : Node) (note : GroupNode) (units : UnitsValue) → UpNoted n note (site_in self) ⊎ CutNoted n note (site_in self) → rvg_noted note ≡ Some units → RestsNamed units (site_in result) }
+        ensures named { (n : Node) (note : GroupNode) (units : UnitsValue) → UpNoted n note (site_in self) ⊎ CutNoted n note (site_in self) → rvg_noted note ≡ Some units → RestsNamed units (length (entries_noted note)) (site_in result) }
         ensures cut { result.cut ≡ self.cut }
         ensures asked { (beside : KeptBeside) (n : Node) → SiteStands beside n (OverSites self) → n.state ≡ UpState → OnDisks (site_disks (site_in self)).disks (site_disks (site_in result)).disks (Crashed (site_disks (site_in self)).size pick) }
         ensures stopped { MayCrashSite pick (site_in self) (site_in result) }
