@@ -50,7 +50,7 @@ module _ {R : Type 0} {g : Ghosts R} where
     pub is : after ≡ Over set
     pub looked : LooksOver cut (Over x) (Over set) answer
 
-  looked_at : (cut : Option CutWrite) (x : OverSet R g) (after : DiskSet R g) (answer : Result (Option KeptWrite) Stop) → LooksOver cut (Over x) after answer → LookedAt cut x after answer
+  pub looked_at : (cut : Option CutWrite) (x : OverSet R g) (after : DiskSet R g) (answer : Result (Option KeptWrite) Stop) → LooksOver cut (Over x) after answer → LookedAt cut x after answer
   looked_at cut x (Over p) answer it = record { set = p; is = refl; looked = it }
   looked_at cut x (Bare rack) answer it = absurd it
   looked_at cut x (Spoiled rack) answer it = absurd it

@@ -30,6 +30,7 @@ use Rattle.vx_events.specs.GroupLines.{noting}
 use Rattle.vx_events.specs.GroupNotes.{NotesShort, note_at}
 use Rattle.vx_events.specs.GroupViews.{plain_fact, volumes_of}
 use Rattle.vx_events.specs.LinkViews.{linked_view}
+use Rattle.vx_events.specs.RvgBack.{RvgFinds}
 use Rattle.vx_events.specs.RvgViews.{is_over_rvg, over_disks}
 use Rattle.vx_events.specs.declared.said.Said.{Said}
 use Rattle.vx_events.specs.declared.said.Said.TheVariants.{Resumed}
@@ -130,3 +131,20 @@ module _ {R : Type 0} {g : Ghosts R} where
   abbrev pub RisesIs : Doubted → ℕ → Yard R g → Yard R g → Result Said OutOfMemory → Type 0
   RisesIs e s old new (Ok said) = RisesFor e s said old new
   RisesIs e s old new (Err x) = StaysLow e s old new
+
+  -- The same where a replicated volume group was found over the group, of which nothing was known.
+  pub record FindsFor (e : Doubted) (s : ℕ) (said : Said) (old new : Yard R g) : Type 0 where
+    pub next : Doubted
+    pub fails : Fails
+    pub finds : (d : Doubted) (name : List ℕ) → ComesDown d e s → RvgFinds (IsTold new) d (Recover name) s fails said next
+    pub stands : StandsFor next new
+    pub carries : Carries e old → Carries next new
+    pub rose : RoseAll fails (count_of old) (count_of new)
+
+  abbrev pub FindsUp : Doubted → ℕ → Yard R g → Yard R g → Result Said OutOfMemory → Type 0
+  FindsUp e s old new (Ok said) = FindsFor e s said old new
+  FindsUp e s old new (Err x) = ⊥
+
+  -- a site whose group had none comes up without one, or one is found
+  abbrev pub RisesBeside : Doubted → ℕ → Yard R g → Yard R g → Result Said OutOfMemory → Type 0
+  RisesBeside e s old new result = RisesIs e s old new result ⊎ FindsUp e s old new result
