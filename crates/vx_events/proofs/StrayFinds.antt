@@ -6,6 +6,7 @@ use Rattle.vx_history.specs.Groups.{GroupNode}
 use Rattle.vx_history.specs.Steps.{group_set}
 use Rattle.vx_history.specs.World.{no_link}
 use Rattle.vx_script.specs.declared.line.ScriptLine.{ScriptLine}
+use Rattle.vx_events.proofs.RvgEnding.{never_found}
 use Rattle.vx_events.proofs.RvgStays.{back_group}
 use Rattle.vx_events.proofs.StrayLines.{CalmOrSome, StraysAs, step_found}
 use Rattle.vx_events.proofs.Straying.{run_strays}
@@ -59,3 +60,11 @@ module _ (told : Type 0) (files : Bool) (d : Doubted) (line : ScriptLine) (fails
       by : CalmOrSome told d fails said new line → StraysAs d new
       by (inl same) = same
       by (inr (s, finds)) = absurd (finds_plain told d line s fails said new finds (none s) (plain s))
+
+  -- nor where contents are told, it is known what the disks of each group hold, and imports of them agree
+  pub step_known : told → ((i : ℕ) → (note_at (d.world.nodes i)).dark ≡ false) → ((i : ℕ) → (note_at (d.world.nodes i)).loose ≡ false) → StraysAs d new
+  step_known tells known agree = by (step_found told files d line fails said new step)
+    where
+      by : CalmOrSome told d fails said new line → StraysAs d new
+      by (inl same) = same
+      by (inr (s, finds)) = absurd (never_found told tells d s (known s) fails said new line (agree s) finds)

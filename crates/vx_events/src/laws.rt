@@ -172,8 +172,8 @@ pub fn full_lines_are_events()
 {}
 
 /// A world strays where a log comes up from disks of which nothing is known, as imports of a group did not agree. What has not strayed behind a line had not before it. And
-/// none strays where no site has a group behind the line; or where no site has a replicated volume group over one before it, and none notes one behind it. Want of
-/// memory leaves it as it was.
+/// none strays where no site has a group behind the line; or where no site has a replicated volume group over one before it, and none notes one behind it; or over disks
+/// that tell their contents, where it is known before it what the disks of each group hold, and imports of them agree. Want of memory leaves it as it was.
 pub fn worlds_stray_by_what_is_found()
     ensures calm { (tells files : Bool) (d : Doubted) (line : ScriptLine) (fails : Fails) (said : Said) (new : Doubted) → StepFull (IsTrue tells) files d line fails said new
         → new.strayed ≡ false → d.strayed ≡ false }
@@ -181,6 +181,8 @@ pub fn worlds_stray_by_what_is_found()
         → StepFull (IsTrue tells) files d line fails said new → new.strayed ≡ d.strayed }
     ensures plain { (tells files : Bool) (d : Doubted) (line : ScriptLine) (fails : Fails) (said : Said) (new : Doubted) → HasNoRvgs d.world → NotesNoRvgs new.world
         → StepFull (IsTrue tells) files d line fails said new → new.strayed ≡ d.strayed }
+    ensures known { (files : Bool) (d : Doubted) (line : ScriptLine) (fails : Fails) (said : Said) (new : Doubted) → ((i : ℕ) → (note_at (d.world.nodes i)).dark ≡ false)
+        → ((i : ℕ) → (note_at (d.world.nodes i)).loose ≡ false) → StepFull (Unit {0}) files d line fails said new → new.strayed ≡ d.strayed }
     ensures short { (tells : Bool) (d : Doubted) (line : ScriptLine) (new : Doubted) → ShortFull (IsTrue tells) d line new → new.strayed ≡ d.strayed }
 {}
 
