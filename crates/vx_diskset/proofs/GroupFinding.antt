@@ -1,5 +1,5 @@
 -- A group that is found on the disks of a bare site.
-use Rattle.std.proofs.Common.{◌≡◌, ◌∙◌, inl, inr, ℕ, Bool, true, false, [], ap, refl, subst, sym, IsTrue}
+use Rattle.std.proofs.Common.{◌≡◌, ◌∙◌, inl, inr, ℕ, Bool, true, false, ap, refl, subst, sym, IsTrue}
 use Rattle.std.specs.Prelude.{Result, Ok, Err, Option, Some, None, not}
 use Rattle.vx_model.specs.Content.{zero_block}
 use Rattle.vx_model.specs.declared.errors.Stop.{Stop}
@@ -10,7 +10,6 @@ use Rattle.vx_diskset.specs.declared.over_set.OverSite.TheVariants.{Origin as Or
 use Rattle.vx_config.specs.declared.config.Config.{Config}
 use Rattle.vx_disk.specs.Shelf.{Keeps, Lawful, Meaning}
 use Rattle.vx_disk.specs.declared.shelf.Shelf.{Ghosts}
-use Rattle.vx_history.specs.Steps.{burned}
 use Rattle.vx_history.specs.World.{Node}
 use Rattle.vx_watched.specs.Since.{CalledSince}
 use Rattle.vx_grouped.specs.Finds.{CanFind, FindStops}
@@ -29,7 +28,7 @@ use Rattle.vx_grouped.specs.declared.laid.Laid.{Laid}
 use Rattle.vx_model.specs.declared.units.Units.{Units}
 use Rattle.vx_diskset.specs.Asked.{SameFailing}
 use Rattle.vx_diskset.specs.DiskSets.{Later}
-use Rattle.vx_diskset.specs.GroupFinds.{FindsIs, FindsOn, FoundIn, FoundUp, HasPlain, InBare, StartsBare, bare_again, given_bare}
+use Rattle.vx_diskset.specs.GroupFinds.{FindsIs, FindsOn, FoundApart, FoundIn, FoundUp, HasPlain, InBare, StartsBare, bare_again, given_bare}
 use Rattle.vx_diskset.specs.Holds.{KeptBeside}
 use Rattle.vx_diskset.specs.Stands.{IsCleanAt, IsGroupSet, IsRackTold, IsToldAt, SiteStands, OverStands}
 use Rattle.vx_diskset.specs.declared.disk_set.DiskSet.{DiskSet}
@@ -38,7 +37,6 @@ use Rattle.vx_diskset.specs.declared.group_set.CutWrite.{CutWrite}
 use Rattle.vx_diskset.specs.declared.group_set.GroupSet.{GroupSet}
 use Rattle.vx_diskset.specs.GroupCalls.{AtSite, cut_in}
 use Rattle.vx_diskset.specs.GroupSets.{cut_value}
-use Rattle.vx_diskset.specs.OverRises.{FoundOver}
 use Rattle.vx_diskset.specs.OverStarts.{DarkBack, FellDark, PlainFails, PlainStarts, PlainTried, PlainUnits, Revived, Started, is_dark}
 use Rattle.vx_diskset.specs.Recovers.{RisesSince}
 use Rattle.vx_diskset.proofs.GroupCalling.{failing_risen, has_bare, later_risen, on_group, rises_called, told_behind}
@@ -165,7 +163,7 @@ module _ {R : Type 0} {g : Ghosts R} where
   -- ---- a group that was found, with the replicated volume group that its configuration names
 
   module _ (racks : (s : Shade R) → IsRack (shade_meaning g.meaning s)) (site : ℕ) (n : Node) (rack : R) (can : CanFind n (g.meaning rack))
-      (over : (laid : Laid R g) (units : Units) (s : OverSet R g) → (up : FoundUp site n (Up laid)) → is_dark laid.shelf ≡ true → Started units laid s → (beside : KeptBeside) → beside.doubt ≡ None → beside.links ≡ [] → FoundOver beside n up.0 (burned n.fuse) laid s) where
+      (over : (laid : Laid R g) (units : Units) (s : OverSet R g) → FoundUp site n (Up laid) → laid.core.inner.config.rvg ≡ Some units → is_dark laid.shelf ≡ true → Started units laid s → FoundApart n s) where
     -- of disks that are not taken up
     module _ (laid mid : Laid R g) (units : Units) (stop : Stop) (up : FoundUp site n (Up laid)) (since : ReturnSince (g.meaning rack) (laid_disks laid)) (tried : PlainTried units laid mid stop) where
       went : Went laid mid
@@ -197,17 +195,17 @@ module _ {R : Type 0} {g : Ghosts R} where
       in_bare false off Gone cut fell = absurd fell
 
     module _ (laid : Laid R g) (up : FoundUp site n (Up laid)) (since : ReturnSince (g.meaning rack) (laid_disks laid)) where
-      done_starts : (units : Units) (new : DiskSet R g) (done : Unit {0}) → PlainStarts true None units laid None new (Ok done) → FoundIn site n new × (cut_in new ≡ None)
-      done_starts units (Bare r) done it = absurd it
-      done_starts units (Spoiled r) done it = absurd it
-      done_starts units (UpSet rvg) done it = absurd it
-      done_starts units (Receives s) done it = absurd it
-      done_starts units (DownSet r) done it = absurd it
-      done_starts units (OfGroup s) done it = absurd it
-      done_starts units (Over s) done it =
+      done_starts : (units : Units) (new : DiskSet R g) (done : Unit {0}) → laid.core.inner.config.rvg ≡ Some units → PlainStarts true None units laid None new (Ok done) → FoundIn site n new × (cut_in new ≡ None)
+      done_starts units (Bare r) done has it = absurd it
+      done_starts units (Spoiled r) done has it = absurd it
+      done_starts units (UpSet rvg) done has it = absurd it
+      done_starts units (Receives s) done has it = absurd it
+      done_starts units (DownSet r) done has it = absurd it
+      done_starts units (OfGroup s) done has it = absurd it
+      done_starts units (Over s) done has it =
           let started : Started units laid s = it.1 in
-          (record { laid = laid; up = up; over = over laid units s up it.0 started }, ap (λ (k : Option CutWrite). cut_value k) started.cut)
-      done_starts units GoneSet done it = absurd it
+          (over laid units s up has it.0 started, ap (λ (k : Option CutWrite). cut_value k) started.cut)
+      done_starts units GoneSet done has it = absurd it
 
       up_plain : laid.core.inner.config.rvg ≡ None → HasPlain (Up laid)
       up_plain none c is = ap (λ (k : Config). k.rvg) (one c laid.core.inner.config (sym is)) ∙ none
@@ -216,8 +214,8 @@ module _ {R : Type 0} {g : Ghosts R} where
           one x y same = cc
 
       done_units : (rvg : Option Units) (new : DiskSet R g) (done : Unit {0}) → laid.core.inner.config.rvg ≡ rvg → PlainUnits true None rvg laid None new (Ok done) → FoundIn site n new × (cut_in new ≡ None)
-      done_units None new done none it = subst (λ (x : DiskSet R g). FoundIn site n x × (cut_in x ≡ None)) (sym it.0) ((up, up_plain none), refl)
-      done_units (Some units) new done none it = done_starts units new done it
+      done_units None new done is it = subst (λ (x : DiskSet R g). FoundIn site n x × (cut_in x ≡ None)) (sym it.0) ((up, up_plain is), refl)
+      done_units (Some units) new done is it = done_starts units new done is it
 
       stop_starts : (units : Units) (mid : DiskSet R g) (stop : Stop) → PlainStarts true None units laid None mid (Err stop) → InBare (λ m. FindStops n (g.meaning rack) m stop) (bare_again mid)
       stop_starts units (Bare r) stop it = absurd it

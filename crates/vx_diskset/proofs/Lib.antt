@@ -23,6 +23,7 @@ pub mod OverDims
 pub mod OverDisks
 pub mod OverFalls
 pub mod OverFinds
+pub mod FoundOvers
 pub mod OverFrames
 pub mod OverKept
 pub mod OverLikes

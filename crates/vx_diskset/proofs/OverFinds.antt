@@ -50,7 +50,7 @@ never_note note none = cc
 -- the site with what stands on the volumes of this configuration
 abbrev pub found_over : Node → GroupNode → Fuse → Config → Units → Core → Node
 found_over n next fuse c u core =
-    found_site (volumes_set (blocks_of c.volumes u.srl) (data_of c.volumes u) (record n { group = Some next; fuse = fuse; low = 1 })) core.log.header.state core.log.header.incarnation (last_of core) (stand_ins core.log)
+    found_site (volumes_set (blocks_of c.volumes u.srl) (data_of c.volumes u) (record n { group = Some next; fuse = fuse; low = 1; fed_by = core.log.header.state.other })) core.log.header.state core.log.header.incarnation (last_of core) (stand_ins core.log)
 
 module _ (n : Node) (next : GroupNode) (fuse : Fuse) (c : Config) (u : Units) (v new : Meaning) (core : Core) (may : is_group c.volumes u ≡ true) (placed : UnitsPlaced u v) (size : (w : ℕ) → v.size w ≡ blocks_of c.volumes w)
     (on : config_units (config_of next.config) ≡ u) (moves : OnlyLog u v new) (started : IsStarted u v core new) (up : IsTrue new.down → ⊥) (law : Lawful new) (lit : FuseOn fuse new) (untold : IsTrue new.tells → ⊥) where

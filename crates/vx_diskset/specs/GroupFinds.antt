@@ -16,8 +16,7 @@ use Rattle.vx_grouped.specs.SiteEnds.{HasNow}
 use Rattle.vx_grouped.specs.SiteMaps.{StandMaps}
 use Rattle.vx_grouped.specs.SiteReturns.{ImportWhy}
 use Rattle.vx_grouped.specs.declared.group_site.GroupSite.{GroupSite}
-use Rattle.vx_grouped.specs.declared.group_site.GroupSite.TheVariants.{Up, Deported}
-use Rattle.vx_grouped.specs.declared.laid.Laid.{Laid}
+use Rattle.vx_grouped.specs.declared.group_site.GroupSite.TheVariants.{Deported}
 use Rattle.vx_untold.specs.Shades.{rack_of}
 use Rattle.vx_diskset.specs.GroupCalls.{bare_disks, cut_in}
 use Rattle.vx_diskset.specs.Holds.{KeptBeside}
@@ -39,15 +38,13 @@ module _ {R : Type 0} {g : Ghosts R} where
   abbrev pub HasPlain : GroupSite R g → Type 0
   HasPlain e = (c : Config) → site_config e ≡ Some c → c.rvg ≡ None
 
-  -- it came up with a replicated volume group over it
-  pub record FoundWith (site : ℕ) (n : Node) (s : OverSet R g) : Type 0 where
-    pub laid : Laid R g
-    pub up : FoundUp site n (Up laid)
-    pub over : (beside : KeptBeside) → beside.doubt ≡ None → beside.links ≡ [] → FoundOver beside n up.0 (burned n.fuse) laid s
+  -- it came up with a replicated volume group over it, which stands by itself
+  abbrev pub FoundApart : Node → OverSet R g → Type 0
+  FoundApart n s = (beside : KeptBeside) → beside.doubt ≡ None → beside.links ≡ [] → FoundOver beside n (burned n.fuse) s
 
   abbrev pub FoundIn : ℕ → Node → DiskSet R g → Type 0
   FoundIn site n (OfGroup s) = FoundUp site n s.site × HasPlain s.site
-  FoundIn site n (Over s) = FoundWith site n s
+  FoundIn site n (Over s) = FoundApart n s
   FoundIn site n other = ⊥
 
   -- disks that are handed back

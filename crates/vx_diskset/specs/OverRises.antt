@@ -86,14 +86,11 @@ module _ {R : Type 0} {g : Ghosts R} where
     pub dark : IsTrue (site_below new).tells → next.dark ≡ true
 
   -- a replicated volume group that was found over a group of disks, where nothing is told: it stands by itself
-  pub record FoundOver (beside : KeptBeside) (n : Node) (middle : GroupNode) (lit : Fuse) (laid : Laid R g) (s : OverSet R g) : Type 0 where
+  pub record FoundOver (beside : KeptBeside) (n : Node) (lit : Fuse) (s : OverSet R g) : Type 0 where
     pub next : GroupNode
     pub now : Config
     pub units : Units
     pub node : Node
-    pub works : NoteWorks middle next
-    pub goes : ConfigGoes (LosesSome (laid_disks laid) (site_disks (site_in s))) middle next (Up laid) (site_in s)
-    pub agrees : AgreesStill middle next (laid_disks laid) (site_disks (site_in s))
     pub same : SameDisks (record n { volumes = node.volumes; group = Some next; fuse = lit }) node
     pub whole : length node.log ≡ node.safe
     pub quiet : node.phase ≡ Quiet
@@ -122,7 +119,7 @@ module _ {R : Type 0} {g : Ghosts R} where
   pub record FoundAgain (beside : KeptBeside) (n : Node) (note : GroupNode) (old : GroupSite R g) (s : OverSet R g) : Type 0 where
     pub laid : Laid R g
     pub group : CameGroup n note old laid
-    pub over : FoundOver beside n group.middle (burned n.fuse) laid s
+    pub over : FoundOver beside n (burned n.fuse) s
     pub less : KnowsLess note over.next (site_in s)
     pub to : (k : ℕ) → (laid_disks laid).disk_faults k ≤ (site_disks (site_in s)).disk_faults k
 
@@ -216,9 +213,7 @@ module _ {R : Type 0} {g : Ghosts R} where
 
   -- what was found of one over its group, of which nothing was known
   pub record PlainFound (beside : KeptBeside) (n : Node) (note : GroupNode) (p : OverSet R g) : Type 0 where
-    pub laid : Laid R g
-    pub middle : GroupNode
-    pub over : FoundOver beside n middle (burned n.fuse) laid p
+    pub over : FoundOver beside n (burned n.fuse) p
     pub less : KnowsLess note over.next (site_in p)
 
   -- so it is where a group without one came up with one; of other disks nothing is said here

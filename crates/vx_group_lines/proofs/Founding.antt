@@ -30,7 +30,7 @@ use Rattle.vx_grouped.specs.SiteReturns.{ImportWhy}
 use Rattle.vx_diskset.specs.Aboves.{site_in}
 use Rattle.vx_diskset.specs.Asked.{IsRawSet, FailsAs, SameFailing}
 use Rattle.vx_diskset.specs.GroupCalls.{AtSite, bare_disks, core_in, cut_in}
-use Rattle.vx_diskset.specs.GroupFinds.{FindsIs, FoundIn, FoundUp, FoundWith}
+use Rattle.vx_diskset.specs.GroupFinds.{FindsIs, FoundApart, FoundIn, FoundUp}
 use Rattle.vx_diskset.specs.GroupSets.{cut_value}
 use Rattle.vx_diskset.specs.Holds.{beside_of, doubt_of, header_links}
 use Rattle.vx_diskset.specs.Stands.{IsRackTold, IsToldAt, SiteStands, faults_at}
@@ -262,7 +262,7 @@ module _ {R : Type 0} {g : Ghosts R} where
 
       -- ---- a group came up with a replicated volume group
 
-      module _ (p : OverSet R g) (is : after ≡ Over p) (dark : IsRackTold after → ⊥) (found : FoundWith s (d.world.nodes s) p) where
+      module _ (p : OverSet R g) (is : after ≡ Over p) (dark : IsRackTold after → ⊥) (found : FoundApart (d.world.nodes s) p) where
         calm : d.after s ≡ None
         calm = bare_sure d s site.bare stands.links
 
@@ -270,7 +270,7 @@ module _ {R : Type 0} {g : Ghosts R} where
         blank = blank_links d s (stands.links.bare s site.bare)
 
         here : FoundHere (beside_of d s) (d.world.nodes s) (burned (d.world.nodes s).fuse) p
-        here = found_up (beside_of d s) n found.up.0 (burned n.fuse) found.laid p (found.over (beside_of d s) (ap (λ (o : Option After). doubt_of d.world s o) calm) blank)
+        here = found_up (beside_of d s) n (burned n.fuse) p (found (beside_of d s) (ap (λ (o : Option After). doubt_of d.world s o) calm) blank)
 
         dark_below : IsTrue (site_below (site_in p)).tells → ⊥
         dark_below = subst (λ (x : DiskSet R g). IsRackTold x → ⊥) is dark

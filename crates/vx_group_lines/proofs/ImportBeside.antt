@@ -193,7 +193,7 @@ module _ {R : Type 0} {g : Ghosts R} where
     -- one with a replicated volume group came up
     module _ (p : OverSet R g) (is : after ≡ Over p) (brought : ImportsIn before after (Ok tt)) (found : PlainFound (beside_of d s) (d.world.nodes s) (note_at (d.world.nodes s)) p) where
       here : FoundHere (beside_of d s) (d.world.nodes s) (burned (d.world.nodes s).fuse) p
-      here = found_up (beside_of d s) n found.middle (burned n.fuse) found.laid p found.over
+      here = found_up (beside_of d s) n (burned n.fuse) p found.over
 
       up : IsTrue (site_disks (site_in p)).down → ⊥
       up = (rvg_over (beside_of d s) here.node here.next (Over p) here.stands here.noted (rvg_apart here.node (over_rvg (beside_of d s) here.node p here.stands)) here.same.up here.origin).up

@@ -24,7 +24,6 @@ use Rattle.vx_script.specs.declared.line.ScriptLine.{ScriptLine}
 use Rattle.vx_script.specs.declared.line.ScriptLine.TheVariants.{GroupImport, Recover}
 use Rattle.vx_grouped.specs.GroupNotes.{NotesConfig}
 use Rattle.vx_grouped.specs.GroupSites.{site_below}
-use Rattle.vx_grouped.specs.declared.laid.Laid.{Laid}
 use Rattle.vx_diskset.proofs.Roles.{role_origin}
 use Rattle.vx_diskset.specs.Aboves.{site_in}
 use Rattle.vx_diskset.specs.Asked.{FailsAs, FusedAs, SameFailing}
@@ -194,8 +193,8 @@ module _ {R : Type 0} {g : Ghosts R} where
     pub stands : SiteStands beside node (Over p)
 
   -- as the disk set says it
-  pub found_up : (beside : KeptBeside) (n : Node) (middle : GroupNode) (lit : Fuse) (laid : Laid R g) (p : OverSet R g) → FoundOver beside n middle lit laid p → FoundHere beside n lit p
-  found_up beside n middle lit laid p it = record {
+  pub found_up : (beside : KeptBeside) (n : Node) (lit : Fuse) (p : OverSet R g) → FoundOver beside n lit p → FoundHere beside n lit p
+  found_up beside n lit p it = record {
     next = it.next;
     now = it.now;
     units = it.units;
