@@ -1,240 +1,227 @@
 -- What the calls of a recovery lead a yard to, at a site whose group has a replicated volume group.
-use Rattle.std.proofs.Common.{◌≡◌, ◌∙◌, ◌<◌, ◌≤◌, ℕ, Bool, true, List, [], ap, sym, subst, refl, arith, IsTrue}
+use Rattle.std.proofs.Common.{◌≡◌, ◌∙◌, ◌≤◌, ℕ, Bool, List, ap, sym, subst, refl, arith}
 use Rattle.std.specs.Prelude.{Option, Some, None, slice_get, slice_set, Result, Ok, Err}
 use Rattle.vx_model.specs.declared.errors.OutOfMemory.{OutOfMemory}
 use Rattle.vx_model.specs.declared.errors.Stop.{Stop}
 use Rattle.vx_model.specs.declared.errors.Stop.TheVariants.{No as StopsBy, OutOfMemory as MemoryStop}
+use Rattle.vx_model.specs.declared.no.No.{No}
 use Rattle.vx_model.specs.declared.no.No.TheVariants.{Damaged, Device, Format, Limit, Missing as Lacks, NoConfig}
-use Rattle.vx_model.specs.declared.site.SiteState.{SiteState}
-use Rattle.vx_model.specs.declared.site.SiteState.TheVariants.{Down as IsDown, Up as IsUp}
 use Rattle.vx_disk.specs.declared.shelf.Shelf.{Ghosts}
-use Rattle.vx_config.specs.declared.config.Config.{Config}
 use Rattle.vx_history.specs.Doubts.{Doubted}
 use Rattle.vx_history.specs.Groups.{GroupNode}
-use Rattle.vx_history.specs.Steps.{burned, worked}
+use Rattle.vx_history.specs.Steps.{burned}
 use Rattle.vx_history.specs.World.{Node}
 use Rattle.vx_order.specs.declared.facts.SiteFacts.{SiteFacts}
-use Rattle.vx_report.specs.declared.view.SiteView.{SiteView}
-use Rattle.vx_rvg.specs.Views.{Core}
 use Rattle.vx_script.specs.declared.line.ScriptLine.TheVariants.{Recover}
+use Rattle.vx_grouped.specs.GroupSites.{site_config}
 use Rattle.vx_diskset.specs.Aboves.{site_in}
-use Rattle.vx_diskset.specs.Asked.{SameFailing}
-use Rattle.vx_diskset.specs.DiskSets.{Later}
-use Rattle.vx_diskset.specs.GroupCalls.{config_in}
-use Rattle.vx_diskset.specs.GroupSets.{cut_value}
-use Rattle.vx_diskset.specs.Holds.{KeptBeside, beside_of}
-use Rattle.vx_diskset.specs.Noted.{IsNamed, SiteNoted}
-use Rattle.vx_diskset.specs.OverRises.{FoundAgain, HeldStill, LookedOver, LooksOver, LostAgain, OverRises, PlainAgain, RaisedOver, RaisesAbove, RisesAgain, RisesFound, RisesHeld, RisesLost, RisesPlain, RoseAgain, came_with}
+use Rattle.vx_diskset.specs.GroupCalls.{AtSite, config_in, core_in}
+use Rattle.vx_diskset.specs.Holds.{beside_of}
+use Rattle.vx_diskset.specs.OverRises.{HeldStill, LookedOver, LostAgain, OverRises, RaisesAbove, RisesAgain, RisesFound, RisesHeld, RisesLost, RisesPlain, RoseAgain, came_with}
 use Rattle.vx_diskset.specs.OverStarts.{HandsOut}
-use Rattle.vx_diskset.specs.Stands.{SiteStands, faults_at}
+use Rattle.vx_diskset.specs.Stands.{faults_at}
 use Rattle.vx_diskset.specs.declared.disk_set.DiskSet.{DiskSet}
-use Rattle.vx_diskset.specs.declared.disk_set.DiskSet.TheVariants.{Bare, Spoiled, Up as RaisedSet, Receives, Down as DownSet, OfGroup, Over, Gone as GoneSet}
+use Rattle.vx_diskset.specs.declared.disk_set.DiskSet.TheVariants.{Over}
 use Rattle.vx_diskset.specs.declared.group_set.CutWrite.{CutWrite}
-use Rattle.vx_diskset.specs.declared.group_set.GroupSet.{GroupSet}
 use Rattle.vx_diskset.specs.declared.group_set.KeptWrite.{KeptWrite}
 use Rattle.vx_diskset.specs.declared.over_set.OverSet.{OverSet}
 use Rattle.vx_events.specs.GroupNotes.{note_at}
 use Rattle.vx_events.specs.GroupViews.{volumes_of}
 use Rattle.vx_events.specs.LinkViews.{linked_view}
-use Rattle.vx_events.specs.LinkedFacts.{linked_fact, links_by, links_of_site}
-use Rattle.vx_events.specs.RvgViews.{is_over_rvg, over_disks}
+use Rattle.vx_events.specs.LinkedFacts.{linked_fact}
+use Rattle.vx_events.specs.RvgViews.{over_disks}
 use Rattle.vx_events.specs.declared.said.Said.{Said}
 use Rattle.vx_events.specs.declared.said.Said.TheVariants.{Resumed}
 use Rattle.vx_yard.proofs.Carrying.{SameLoad}
 use Rattle.vx_yard.proofs.Lists.{set_same}
-use Rattle.vx_yard.proofs.OneSite.{Changed}
-use Rattle.vx_yard.specs.Standing.{StandsFor}
+use Rattle.vx_yard.specs.Writes.{below_facts}
 use Rattle.vx_yard.specs.declared.yard.Yard.{Yard}
-use Rattle.vx_above.proofs.OverSites.{OverIs, over_set}
 use Rattle.vx_group_lines.specs.Noting.{IsNotedRefusal, KeepsRest, made_facts, reply_noted}
 use Rattle.vx_group_lines.specs.Rises.{StandsOver, StoodUp, kept_shown}
-use Rattle.vx_group_lines.specs.RvgRises.{RaisesFor, RaisesIs, RaisesShort, RestsSo, rests_as}
-use Rattle.vx_group_lines.proofs.GroupAt.{no_value}
+use Rattle.vx_group_lines.specs.RvgRises.{RaisesIs, rests_as}
 use Rattle.vx_group_lines.proofs.Raising.{RaisedTo}
-use Rattle.vx_group_lines.proofs.Recovering.{changed_down, changed_up, failing_up, same_between}
-use Rattle.vx_group_lines.proofs.RvgComing.{DownCall, rest_fact, rest_group, rest_named, rest_noted, rest_stood}
+use Rattle.vx_group_lines.proofs.Recovering.{changed_down}
+use Rattle.vx_group_lines.proofs.RvgAtRest.{AtRest, LookedAt, called_over, first_fact, never_lost, raised, rest_set, rest_uncut, stood_changed, stood_failing, stood_load, stood_looks, stood_same, unlinked}
+use Rattle.vx_group_lines.proofs.RvgComing.{DownCall}
 use Rattle.vx_group_lines.proofs.RvgHeld.{held_device, held_limit, held_memory, held_missing, held_none, held_strange}
 use Rattle.vx_group_lines.proofs.RvgLost.{lost_device, lost_limit, lost_memory}
-use Rattle.vx_group_lines.proofs.RvgRose.{came_first, came_is, over_risen, risen_stands, risen_world, rose_raises, unfused_rest}
+use Rattle.vx_group_lines.proofs.RvgPlain.{plain_stood}
+use Rattle.vx_group_lines.proofs.RvgRose.{came_first, over_risen, risen_below, risen_stands, risen_world, rose_raises}
+use Rattle.vx_group_lines.proofs.RecoverFound.{found_stood}
 
-module _ {R : Type 0} {g : Ghosts R} where
-  -- ---- what was looked at
+handed : {A : Type 0} {a b : A} → (let x : Result A Stop = Ok a in x ≡ Ok b) → a ≡ b
+handed is = cc
 
-  -- it has a replicated volume group behind that
-  record LookedAt (cut : Option CutWrite) (x : OverSet R g) (after : DiskSet R g) (answer : Result (Option KeptWrite) Stop) : Type 0 where
-    set : OverSet R g
-    is : after ≡ Over set
-    looked : LooksOver cut (Over x) (Over set) answer
+stopped_by : {A : Type 0} {a b : Stop} → (let x : Result A Stop = Err a in x ≡ Err b) → a ≡ b
+stopped_by is = cc
 
-  looked_at : (cut : Option CutWrite) (x : OverSet R g) (after : DiskSet R g) (answer : Result (Option KeptWrite) Stop) → LooksOver cut (Over x) after answer → LookedAt cut x after answer
-  looked_at cut x (Over p) answer it = record { set = p; is = refl; looked = it }
-  looked_at cut x (Bare rack) answer it = absurd it
-  looked_at cut x (Spoiled rack) answer it = absurd it
-  looked_at cut x (RaisedSet rvg) answer it = absurd it
-  looked_at cut x (Receives r) answer it = absurd it
-  looked_at cut x (DownSet rack) answer it = absurd it
-  looked_at cut x (OfGroup r) answer it = absurd it
-  looked_at cut x GoneSet answer it = absurd it
+never_both : {A : Type 0} {a : A} {stop : Stop} → (let x : Result A Stop = Ok a in x ≡ Err stop) → ⊥
+never_both is = cc
 
-  -- where no write was cut nothing is read, and no disk fails
-  never_lost : (beside : KeptBeside) (n : Node) (note : GroupNode) (x p : OverSet R g) (stop : Stop) → LookedOver beside n note None x p (Err stop) → ⊥
-  never_lost beside n note x p (StopsBy (Device disk)) it = it.2
-  never_lost beside n note x p (StopsBy other) it = it
-  never_lost beside n note x p MemoryStop it = it
+module _ {R : Type 0} {g : Ghosts R} (d : Doubted) (name : List ℕ) (s kept : ℕ) (taken : Bool) (old mid new : Yard R g) (before between : DiskSet R g) (first : RaisedTo old mid s before between) (at : AtRest d s kept taken old) where
+  abbrev b : Doubted
+  b = rests_as d s kept taken
 
-  -- ---- the site rests
+  abbrev n : Node
+  n = (rests_as d s kept taken).world.nodes s
 
-  -- where the call begins: the yard stands for the world in which the site rests
-  pub record AtRest (d : Doubted) (s kept : ℕ) (taken : Bool) (old : Yard R g) : Type 0 where
-    pub rests : RestsSo d s kept taken
-    pub stands : StandsFor (rests_as d s kept taken) old
-    pub below : s < (rests_as d s kept taken).world.sites
-    pub over : is_over_rvg ((rests_as d s kept taken).world.nodes s) ≡ true
-    pub down : ((rests_as d s kept taken).world.nodes s).state ≡ IsDown
+  abbrev note : GroupNode
+  note = note_at ((rests_as d s kept taken).world.nodes s)
 
-  module _ (d : Doubted) (name : List ℕ) (s kept : ℕ) (taken : Bool) (old mid new : Yard R g) (before between : DiskSet R g) (first : RaisedTo old mid s before between) (at : AtRest d s kept taken old) where
-    abbrev b : Doubted
-    b = rests_as d s kept taken
+  abbrev f : SiteFacts
+  f = linked_fact (rests_as d s kept taken).world s
 
-    abbrev n : Node
-    n = (rests_as d s kept taken).world.nodes s
+  abbrev o : OverSet R g
+  o = rest_set d s kept taken old mid new before between first at
 
-    abbrev note : GroupNode
-    note = note_at ((rests_as d s kept taken).world.nodes s)
+  -- ---- it came up
 
-    abbrev f : SiteFacts
-    f = linked_fact (rests_as d s kept taken).world s
+  module _ (cut : Option CutWrite) (result : Result Said OutOfMemory) (st : StoodUp s cut mid new result) where
+    same : between ≡ st.before
+    same = stood_same d s kept taken old mid new before between first at cut result st
 
-    was : OverIs before
-    was = over_set (beside_of b s) n before (at.stands.disk_sets.sites s before at.below first.there) at.over
+    -- with the replicated volume group that the site had
+    rose : (x : OverSet R g) → between ≡ Over x → cut ≡ None → RoseAgain (beside_of b s) n note (site_in o) x → RaisesIs d (Recover name) s kept taken old new result
+    rose x is none r = by st.answer refl
+      where
+        looks : LookedAt None x st.after st.answer
+        looks = stood_looks d s kept taken old mid new before between first at cut result st x is none
 
-    abbrev o : OverSet R g
-    o = was.set
+        p : OverSet R g
+        p = looks.set
 
-    -- such a call on its disks
-    called : (after : DiskSet R g) → Changed old new s before after → SameFailing before after → DownCall b old new s o after
-    called after changed failing = record {
-      stands = at.stands;
-      below = at.below;
-      over = at.over;
-      down = at.down;
-      changed = subst (λ (e : DiskSet R g). Changed old new s e after) was.is changed;
-      failing = subst (λ (e : DiskSet R g). SameFailing e after) was.is failing;
-    }
+        call : DownCall b old new s o (Over p)
+        call =
+            called_over d s kept taken old mid new before between first at st.after p looks.is (stood_changed d s kept taken old mid new before between first at cut result st)
+            (stood_failing d s kept taken old mid new before between first at cut result st)
 
-    called_over : (after : DiskSet R g) (p : OverSet R g) → after ≡ Over p → Changed old new s before after → SameFailing before after → DownCall b old new s o (Over p)
-    called_over after p is changed failing = called (Over p) (subst (λ (e : DiskSet R g). Changed old new s before e) is changed) (subst (λ (e : DiskSet R g). SameFailing before e) is failing)
+        m : Node
+        m = came_with (burned n.fuse) r.over.next n
 
-    -- what the call came to
-    raised : (after : DiskSet R g) (call : DownCall b old new s o after) (r : Result (Option CutWrite) Stop) → RaisesAbove before between r → RaisedOver (beside_of b s) n note o between r
-    raised after call r above =
-        subst (λ (e : DiskSet R g). RaisesAbove e between r) was.is above (beside_of b s) n note (rest_group b old new s o after call) at.down (at.stands.links.quiet s) (rest_stood b old new s o after call)
-        (rest_noted b old new s o after call)
+        looked : (answer : Result (Option KeptWrite) Stop) → st.answer ≡ answer → LookedOver (beside_of b s) m r.over.next None x p answer
+        looked answer so =
+            subst (λ (q : Result (Option KeptWrite) Stop). LookedOver (beside_of b s) m r.over.next None x p q) so
+            (looks.looked (beside_of b s) m r.over.next r.over.stands refl refl r.over.noted (r.over.works.same.cut ∙ r.group.returns.cut))
 
-    -- no write is cut
-    uncut : (after : DiskSet R g) (call : DownCall b old new s o after) → o.cut ≡ None
-    uncut after call = no_value o.cut ((rest_noted b old new s o after call).1 ∙ (rest_named b old new s o after call).6)
+        last : (k : ℕ) → faults_at (Over x) k ≤ faults_at (Over p) k
+        last k = omega (arith, st.later.counts k, ap (λ (e : DiskSet R g). faults_at e k) (sym same ∙ is), ap (λ (e : DiskSet R g). faults_at e k) looks.is)
 
-    unlinked : f.links ≡ []
-    unlinked = ap (λ (t : SiteState). links_by t (links_of_site b.world s)) at.down
+        by : (answer : Result (Option KeptWrite) Stop) → st.answer ≡ answer → RaisesIs d (Recover name) s kept taken old new result
+        by (Err stop) so = absurd (never_lost (beside_of b s) m r.over.next x p stop (looked (Err stop) so))
+        by (Ok read) so =
+            let it = looked (Ok read) so in
+            let came = came_first d s kept taken at.rests old new o p call x r it.0 it.1 last in
+            let shown : StandsOver s f came.config came.core st.after (Ok read) mid new result =
+            subst (λ (q : Result (Option KeptWrite) Stop). StandsOver s f came.config came.core st.after q mid new result) so
+            (st.above f came.config came.core (ap (λ (fs : List SiteFacts). slice_get fs s) first.facts ∙ first_fact d s kept taken old mid new before between first at)
+            (subst (λ (e : DiskSet R g). AtSite (λ y. site_config y ≡ Some came.config) e) (sym is ∙ same) came.has)
+            (subst (λ (e : DiskSet R g). core_in e ≡ Some came.core) (sym is ∙ same) came.has_core)) in
+            let facts : new.facts.items ≡ slice_set old.facts.items s (made_facts came.core came.config f) =
+            shown.0 ∙ ap (λ (fs : List SiteFacts). slice_set fs s (made_facts came.core came.config f)) first.facts in
+            let e : Doubted = risen_world d s kept taken at.rests old new o p call x r it.0 it.1 last in
+            let says : result ≡ Ok (Resumed (over_disks (e.world.nodes s) (note_at (e.world.nodes s)) (linked_view e.world s)) None) =
+            shown.2 e (risen_stands d s kept taken at.rests old new o p call x r it.0 it.1 last facts) (risen_below d s kept taken at.rests old new o p call x r it.0 it.1 last)
+            (over_risen d s kept taken at.rests old new o p call x r it.0 it.1 last) (unlinked d s kept taken old mid new before between first at)
+            ∙ ap (λ (k : Option KeptWrite). Ok (Resumed (over_disks (e.world.nodes s) (note_at (e.world.nodes s)) (linked_view e.world s)) (kept_shown (volumes_of (config_in st.after)) k))) it.2 in
+            subst (λ (q : Result Said OutOfMemory). RaisesIs d (Recover name) s kept taken old new q) (sym says)
+            (rose_raises d s kept taken at.rests old new o p call x r it.0 it.1 last name (Resumed (over_disks (e.world.nodes s) (note_at (e.world.nodes s)) (linked_view e.world s)) None) facts
+            (stood_load d s kept taken old mid new before between first at cut result st shown.1) refl)
 
-    -- ---- it came up
+    pub came_above : RaisesAbove before between (Ok cut) → RaisesIs d (Recover name) s kept taken old new result
+    came_above above = let it = raised d s kept taken old mid new before between first at (Ok cut) above in by it.answer it.hands it.rises
+      where
+        rises : (done : Unit {0}) → cut ≡ None → OverRises (beside_of b s) n note (site_in o) between (Ok done) → RaisesIs d (Recover name) s kept taken old new result
+        rises done none (RisesAgain x is ok again) = rose x is none again
+        rises done none (RisesFound x is ok found) = found_stood d name s kept taken old mid new before between first at cut result st x is none found
+        rises done none (RisesPlain x is ok plain) = plain_stood d name s kept taken old mid new before between first at cut result st x is none plain
+        rises done none (RisesLost x stop is err lost) = absurd (never_both err)
+        rises done none (RisesHeld x stop is err held) = absurd (never_both err)
 
-    module _ (cut : Option CutWrite) (result : Result Said OutOfMemory) (st : StoodUp s cut mid new result) where
-      same : between ≡ st.before
-      same = same_between old mid new s before between first cut result st
+        by : (answer : Result (Unit {0}) Stop) → HandsOut o.cut answer (Ok cut) → OverRises (beside_of b s) n note (site_in o) between answer → RaisesIs d (Recover name) s kept taken old new result
+        by (Ok done) hands it = rises done (handed hands ∙ rest_uncut d s kept taken old mid new before between first at) it
+        by (Err stop) hands it = absurd (never_both hands)
 
-      changed : Changed old new s before st.after
-      changed = changed_up old mid new s before between first cut result st
+  -- ---- it did not
 
-      failing : SameFailing before st.after
-      failing = failing_up old mid new s before between first cut result st
+  load_off : KeepsRest mid new → new.assemblies.items ≡ mid.assemblies.items → SameLoad old new
+  load_off rest held = record {
+    flight = rest.flight ∙ first.load.flight;
+    assemblies = held ∙ first.load.assemblies;
+    feeders = ap (λ xs. xs.items) rest.feeders ∙ first.load.feeders;
+  }
 
-      there : slice_get mid.facts.items s ≡ Some f
-      there = ap (λ (fs : List SiteFacts). slice_get fs s) first.facts ∙ rest_fact b old new s o st.after (called st.after changed failing)
+  facts_off : (why : No) → below_facts why f ≡ f → (result : Result Said OutOfMemory) → IsNotedRefusal s f why mid new result → new.facts.items ≡ slice_set old.facts.items s f
+  facts_off why quiet result it = it.facts ∙ ap (λ (x : SiteFacts). slice_set mid.facts.items s x) quiet ∙ ap (λ (fs : List SiteFacts). slice_set fs s f) first.facts
 
-      loaded : new.assemblies ≡ mid.assemblies → SameLoad old new
-      loaded held = record {
-        flight = st.flight ∙ first.load.flight;
-        assemblies = ap (λ xs. xs.items) held ∙ first.load.assemblies;
-        feeders = ap (λ xs. xs.items) st.feeders ∙ first.load.feeders;
-      }
+  memory_facts : new ≡ mid → new.facts.items ≡ slice_set old.facts.items s f
+  memory_facts as_mid = ap (λ (y : Yard R g). y.facts.items) as_mid ∙ first.facts ∙ sym (set_same old.facts.items s f (first_fact d s kept taken old mid new before between first at))
 
-      -- with the replicated volume group that the site had
-      rose : (x : OverSet R g) → between ≡ Over x → cut ≡ None → RoseAgain (beside_of b s) n note (site_in o) x → RaisesIs d (Recover name) s kept taken old new result
-      rose x is none r = by st.answer refl
-        where
-          looks : LookedAt None x st.after st.answer
-          looks =
-              looked_at None x st.after st.answer
-              (subst (λ (c : Option CutWrite). LooksOver c (Over x) st.after st.answer) none (subst (λ (e : DiskSet R g). LooksOver cut e st.after st.answer) (sym same ∙ is) st.over))
+  memory_load : new ≡ mid → SameLoad old new
+  memory_load as_mid = subst (λ (y : Yard R g). SameLoad old y) (sym as_mid) first.load
 
-          p : OverSet R g
-          p = looks.set
+  call_off : (p : OverSet R g) → between ≡ Over p → (stop : Stop) (result : Result Said OutOfMemory) → reply_noted s f stop mid new result → DownCall b old new s o (Over p)
+  call_off p is stop result reply = called_over d s kept taken old mid new before between first at between p is (changed_down old mid new s before between first stop f result reply) first.failing
 
-          call : DownCall b old new s o (Over p)
-          call = called_over st.after p looks.is changed failing
+  -- the replicated volume group did not come up
+  lost : (p : OverSet R g) → between ≡ Over p → (stop : Stop) (result : Result Said OutOfMemory) → reply_noted s f stop mid new result → LostAgain (beside_of b s) n note (site_in o) p stop
+      → RaisesIs d (Recover name) s kept taken old new result
+  lost p is (StopsBy (Device disk)) result it r =
+      subst (λ (q : Result Said OutOfMemory). RaisesIs d (Recover name) s kept taken old new q) (sym it.said)
+      (lost_device d s kept taken at.rests old new o p (call_off p is (StopsBy (Device disk)) result it) (StopsBy (Device disk)) r disk r.why.1 name r.why.0 (facts_off (Device disk) refl result it) (load_off it.same it.assemblies))
+  lost p is (StopsBy (Limit what most)) result it r =
+      subst (λ (q : Result Said OutOfMemory). RaisesIs d (Recover name) s kept taken old new q) (sym it.said)
+      (lost_limit d s kept taken at.rests old new o p (call_off p is (StopsBy (Limit what most)) result it) (StopsBy (Limit what most)) r name what most r.why.0 r.why.1 r.why.2 (facts_off (Limit what most) refl result it)
+      (load_off it.same it.assemblies))
+  lost p is (StopsBy other) result it r = absurd r.why
+  lost p is MemoryStop result it r =
+      subst (λ (q : Result Said OutOfMemory). RaisesIs d (Recover name) s kept taken old new q) (sym it.1)
+      (lost_memory d s kept taken at.rests old new o p (call_off p is MemoryStop result it) MemoryStop r name r.why.0 r.why.1 (memory_facts it.0) (memory_load it.0))
 
-          m : Node
-          m = came_with (burned n.fuse) r.over.next n
+  -- the group did not, or nothing was known of what did
+  held : (p : OverSet R g) → between ≡ Over p → (stop : Stop) (result : Result Said OutOfMemory) → reply_noted s f stop mid new result → HeldStill (beside_of b s) n note (site_in o) p stop
+      → RaisesIs d (Recover name) s kept taken old new result
+  held p is (StopsBy (Device disk)) result it h =
+      subst (λ (q : Result Said OutOfMemory). RaisesIs d (Recover name) s kept taken old new q) (sym it.said)
+      (held_device d s kept taken at.rests old new o p (call_off p is (StopsBy (Device disk)) result it) (StopsBy (Device disk)) h (facts_off (Device disk) refl result it) (load_off it.same it.assemblies) name disk h.why)
+  held p is (StopsBy (Lacks disk)) result it h =
+      subst (λ (q : Result Said OutOfMemory). RaisesIs d (Recover name) s kept taken old new q) (sym it.said)
+      (held_missing d s kept taken at.rests old new o p (call_off p is (StopsBy (Lacks disk)) result it) (StopsBy (Lacks disk)) h (facts_off (Lacks disk) refl result it) (load_off it.same it.assemblies) name disk refl h.why)
+  held p is (StopsBy NoConfig) result it h =
+      subst (λ (q : Result Said OutOfMemory). RaisesIs d (Recover name) s kept taken old new q) (sym it.said)
+      (held_none d s kept taken at.rests old new o p (call_off p is (StopsBy NoConfig) result it) (StopsBy NoConfig) h (facts_off NoConfig refl result it) (load_off it.same it.assemblies) name refl h.why)
+  held p is (StopsBy (Limit what most)) result it h =
+      subst (λ (q : Result Said OutOfMemory). RaisesIs d (Recover name) s kept taken old new q) (sym it.said)
+      (held_limit d s kept taken at.rests old new o p (call_off p is (StopsBy (Limit what most)) result it) (StopsBy (Limit what most)) h (facts_off (Limit what most) refl result it) (load_off it.same it.assemblies) name what most
+      h.why.0 h.why.1)
+  held p is (StopsBy (Damaged unit block stored computed)) result it h =
+      subst (λ (q : Result Said OutOfMemory). RaisesIs d (Recover name) s kept taken old new q) (sym it.said)
+      (held_strange d s kept taken at.rests old new o p (call_off p is (StopsBy (Damaged unit block stored computed)) result it) (StopsBy (Damaged unit block stored computed)) h
+      (facts_off (Damaged unit block stored computed) refl result it) (load_off it.same it.assemblies) name (Damaged unit block stored computed) refl refl tt h.why)
+  held p is (StopsBy (Format version)) result it h =
+      subst (λ (q : Result Said OutOfMemory). RaisesIs d (Recover name) s kept taken old new q) (sym it.said)
+      (held_strange d s kept taken at.rests old new o p (call_off p is (StopsBy (Format version)) result it) (StopsBy (Format version)) h (facts_off (Format version) refl result it) (load_off it.same it.assemblies) name
+      (Format version) refl refl tt h.why)
+  held p is (StopsBy other) result it h = absurd h.why
+  held p is MemoryStop result it h =
+      subst (λ (q : Result Said OutOfMemory). RaisesIs d (Recover name) s kept taken old new q) (sym it.1)
+      (held_memory d s kept taken at.rests old new o p (call_off p is MemoryStop result it) MemoryStop h (memory_facts it.0) (memory_load it.0) name refl)
 
-          clear : r.over.next.cut ≡ None
-          clear = r.over.works.same.cut ∙ r.group.returns.cut
+  pub fell_above : (stop : Stop) (result : Result Said OutOfMemory) → RaisesAbove before between (Err stop) → ((x : SiteFacts) → slice_get mid.facts.items s ≡ Some x → reply_noted s x stop mid new result)
+      → RaisesIs d (Recover name) s kept taken old new result
+  fell_above stop result above replied = let it = raised d s kept taken old mid new before between first at (Err stop) above in by it.answer it.hands it.rises
+    where
+      reply : reply_noted s f stop mid new result
+      reply = replied f (ap (λ (fs : List SiteFacts). slice_get fs s) first.facts ∙ first_fact d s kept taken old mid new before between first at)
 
-          looked : (answer : Result (Option KeptWrite) Stop) → st.answer ≡ answer → LookedOver (beside_of b s) m r.over.next None x p answer
-          looked answer so = subst (λ (q : Result (Option KeptWrite) Stop). LookedOver (beside_of b s) m r.over.next None x p q) so (looks.looked (beside_of b s) m r.over.next r.over.stands refl refl r.over.noted clear)
+      rises : (why : Stop) → stop ≡ why → OverRises (beside_of b s) n note (site_in o) between (Err why) → RaisesIs d (Recover name) s kept taken old new result
+      rises why same (RisesAgain x is ok again) = absurd (never_both (sym ok))
+      rises why same (RisesFound x is ok found) = absurd (never_both (sym ok))
+      rises why same (RisesPlain x is ok plain) = absurd (never_both (sym ok))
+      rises why same (RisesLost p end is err left) =
+          lost p is stop result reply (subst (λ (q : Stop). LostAgain (beside_of b s) n note (site_in o) p q) (sym (same ∙ stopped_by err)) left)
+      rises why same (RisesHeld p end is err left) =
+          held p is stop result reply (subst (λ (q : Stop). HeldStill (beside_of b s) n note (site_in o) p q) (sym (same ∙ stopped_by err)) left)
 
-          last : (k : ℕ) → faults_at (Over x) k ≤ faults_at (Over p) k
-          last k =
-              omega (arith, st.later.counts k, ap (λ (e : DiskSet R g). faults_at e k) (sym same ∙ is), ap (λ (e : DiskSet R g). faults_at e k) looks.is)
-
-          by : (answer : Result (Option KeptWrite) Stop) → st.answer ≡ answer → RaisesIs d (Recover name) s kept taken old new result
-          by (Err stop) so = absurd (never_lost (beside_of b s) m r.over.next x p stop (looked (Err stop) so))
-          by (Ok read) so =
-              let it = looked (Ok read) so in
-              let first_core = came_first d s kept taken at.rests old new o p call x r it.0 it.1 last in
-              let shown : StandsOver s f first_core.config first_core.core st.after (Ok read) mid new result =
-              subst (λ (q : Result (Option KeptWrite) Stop). StandsOver s f first_core.config first_core.core st.after q mid new result) so
-              (st.above f first_core.config first_core.core there (subst (λ (e : DiskSet R g). AtSite (λ y. site_config y ≡ Some first_core.config) e) (sym is ∙ same) first_core.has)
-              (subst (λ (e : DiskSet R g). core_in e ≡ Some first_core.core) (sym is ∙ same) first_core.has_core)) in
-              let facts : new.facts.items ≡ slice_set old.facts.items s (made_facts first_core.core first_core.config f) =
-              shown.0 ∙ ap (λ (fs : List SiteFacts). slice_set fs s (made_facts first_core.core first_core.config f)) first.facts in
-              let e : Doubted = risen_world d s kept taken at.rests old new o p call x r it.0 it.1 last in
-              let stands : StandsFor e new = risen_stands d s kept taken at.rests old new o p call x r it.0 it.1 last facts in
-              let below : s < e.world.sites = risen_below d s kept taken at.rests old new o p call x r it.0 it.1 last in
-              let says : result ≡ Ok (Resumed (over_disks (e.world.nodes s) (note_at (e.world.nodes s)) (linked_view e.world s)) None) =
-              shown.2 e stands below (over_risen d s kept taken at.rests old new o p call x r it.0 it.1 last) unlinked
-              ∙ ap (λ (k : Option KeptWrite). Ok (Resumed (over_disks (e.world.nodes s) (note_at (e.world.nodes s)) (linked_view e.world s)) (kept_shown (volumes_of (config_in st.after)) k))) it.2 in
-              subst (λ (q : Result Said OutOfMemory). RaisesIs d (Recover name) s kept taken old new q) (sym says)
-              (rose_raises d s kept taken at.rests old new o p call x r it.0 it.1 last name (Resumed (over_disks (e.world.nodes s) (note_at (e.world.nodes s)) (linked_view e.world s)) None) facts (loaded shown.1) refl)
-
-    -- ---- it did not
-
-    module _ (stop : Stop) (result : Result Said OutOfMemory) (reply : reply_noted s (linked_fact (rests_as d s kept taken).world s) stop mid new result) where
-      changed_off : Changed old new s before between
-      changed_off = changed_down old mid new s before between first stop f result reply
-
-      call_off : (p : OverSet R g) → between ≡ Over p → DownCall b old new s o (Over p)
-      call_off p is = called_over between p is changed_off first.failing
-
-      facts_off : (why : No) → below_facts why f ≡ f → IsNotedRefusal s f why mid new result → new.facts.items ≡ slice_set old.facts.items s f
-      facts_off why quiet it = it.facts ∙ ap (λ (x : SiteFacts). slice_set mid.facts.items s x) quiet ∙ ap (λ (fs : List SiteFacts). slice_set fs s f) first.facts
-
-      load_off : KeepsRest mid new → new.assemblies.items ≡ mid.assemblies.items → SameLoad old new
-      load_off rest held = record {
-        flight = rest.flight ∙ first.load.flight;
-        assemblies = held ∙ first.load.assemblies;
-        feeders = ap (λ xs. xs.items) rest.feeders ∙ first.load.feeders;
-      }
-
-    memory_facts : (p : OverSet R g) → between ≡ Over p → new ≡ mid → new.facts.items ≡ slice_set old.facts.items s f
-    memory_facts p is same_yard =
-        ap (λ (y : Yard R g). y.facts.items) same_yard ∙ first.facts
-        ∙ sym (set_same old.facts.items s f (rest_fact b old old s o (Over o) (record {
-          stands = at.stands;
-          below = at.below;
-          over = at.over;
-          down = at.down;
-          changed = same_changed;
-          failing = same_still;
-        })))
+      by : (answer : Result (Unit {0}) Stop) → HandsOut o.cut answer (Err stop) → OverRises (beside_of b s) n note (site_in o) between answer → RaisesIs d (Recover name) s kept taken old new result
+      by (Ok done) hands it = absurd (never_both (sym hands))
+      by (Err why) hands it = rises why (stopped_by hands) it
