@@ -14,7 +14,7 @@ use Rattle.vx_events.specs.Ends.{found_linked}
 use Rattle.vx_events.specs.Fails.{Fails}
 use Rattle.vx_events.specs.GroupNotes.{no_note, note_at}
 use Rattle.vx_events.specs.Plain.{HasNoGroups}
-use Rattle.vx_events.specs.RvgBack.{FindsNoRvg, FindsPlain, FindsRvg, RvgFinds, fall_first}
+use Rattle.vx_events.specs.RvgBack.{FindsNoRvg, FindsPlain, FindsRvg, RvgFinds, fall_first, unmade_site}
 use Rattle.vx_events.specs.RvgFits.{config_rvg, rvg_noted}
 use Rattle.vx_events.specs.RvgSteps.{HasNoRvgs, StepFull}
 use Rattle.vx_events.specs.RvgViews.{is_over_rvg}
@@ -28,7 +28,7 @@ module _ (told : Type 0) (d : Doubted) (line : ScriptLine) (s : ℕ) (fails : Fa
       absurd (let e : Some next ≡ None = sym (back_group s line taken next d (gone_astray (found_linked mid s k row)) new left) ∙ none in cc)
   finds_apart (FindsPlain kept taken next mid has are brings unknown dark is plain says left) none =
       absurd
-      (let e : Some next ≡ None = sym (back_group s line taken next d (gone_astray (found_linked mid s (group_set s (mid.world.nodes s)) (λ k. no_link))) new left) ∙ none in
+      (let e : Some next ≡ None = sym (back_group s line taken next d (gone_astray (found_linked mid s (group_set s (unmade_site (mid.world.nodes s))) (λ k. no_link))) new left) ∙ none in
       cc)
   finds_apart (FindsNoRvg kept taken lost next why has are brings unknown device notes says left) none =
       left.strayed ∙ run_strays taken d (fall_first (d.world.nodes s).state s kept)

@@ -11,7 +11,7 @@ use Rattle.vx_model.specs.declared.units.Units.{Units}
 use Rattle.vx_history.specs.Doubts.{Doubted}
 use Rattle.vx_history.specs.Groups.{GroupNode}
 use Rattle.vx_history.specs.Steps.{group_set}
-use Rattle.vx_history.specs.World.{Link, Node, World, no_link}
+use Rattle.vx_history.specs.World.{Link, Node, World, bare_site, no_link}
 use Rattle.vx_history.specs.declared.event.Event.{Event}
 use Rattle.vx_history.specs.declared.event.Event.TheVariants.{Crash as CrashAt, Recover as RecoverAt}
 use Rattle.vx_config.specs.declared.config.Config.{Config}
@@ -110,6 +110,10 @@ SaysFoundUp (Recover site) s next v said = (kept : Option Kept) × (said ≡ rvg
 SaysFoundUp (GroupImport site) s next v said = said ≡ Done
 SaysFoundUp other s next v said = ⊥
 
+-- a site of which nothing is made, on these disks, with what is noted of them
+abbrev pub unmade_site : Node → Node
+unmade_site n = record (bare_site n.name n.disks n.blocks) { failing = n.failing; fuse = n.fuse; group = n.group }
+
 -- why it is refused: a disk failed, or there is nothing that stands by itself
 abbrev pub FailsOrNone : Fails → (s : ℕ) → No → Type 0
 FailsOrNone fails s (Device disk) = Contains fails (s, disk)
@@ -122,11 +126,11 @@ pub data RvgFinds (told : Type 0) (d : Doubted) (line : ScriptLine) (s : ℕ) (f
       → n ≡ record (mid.world.nodes s) { volumes = k.volumes; group = k.group } → ComesUpAs s mid.world.sites n k row → config_of next.config ≡ Some c → FitsRvg k c units → HasUnits c.volumes units
       → SaysFoundUp line s next (found_linked mid s k row).world said
       → IsLeftBack s line taken next d (gone_astray (found_linked mid s k row)) new → RvgFinds told d line s fails said new
-  -- a site that had one came up without
+  -- a site that had one came up without, as one that was made anew
   FindsPlain : (kept : ℕ) (taken : Bool) (next : GroupNode) (mid : Doubted) → is_over_rvg (d.world.nodes s) ≡ true → AreOf s fails → BringsUp line
       → KnowsNothing told (note_at (d.world.nodes s)) → (told → next.dark ≡ true) → mid ≡ run_as taken d (fall_first (d.world.nodes s).state s kept)
       → rvg_noted next ≡ None → SaysFound (mid.world.nodes s) line next said
-      → IsLeftBack s line taken next d (gone_astray (found_linked mid s (group_set s (mid.world.nodes s)) (λ k. no_link))) new → RvgFinds told d line s fails said new
+      → IsLeftBack s line taken next d (gone_astray (found_linked mid s (group_set s (unmade_site (mid.world.nodes s))) (λ k. no_link))) new → RvgFinds told d line s fails said new
   FindsNoRvg : (kept : ℕ) (taken lost : Bool) (next : GroupNode) (why : No) → is_over_rvg (d.world.nodes s) ≡ true → AreOf s fails → BringsUp line
       → KnowsNothing told (note_at (d.world.nodes s))
       → FailsOrNone fails s why → NotesUnfound (note_at (d.world.nodes s)) next → said ≡ Refused why

@@ -64,7 +64,7 @@ module _ {R : Type 0} {g : Ghosts R} where
     pub by : next.dark ≡ false → IsTrue (site_disks new).tells → By maps
     pub stands : StandMaps (with_maps maps next) new
 
-  stands_up : (w : MissedNote) (next : GroupNode) (c : Config) (e : GroupSite R g) → site_config e ≡ Some c → NotesConfig next c → MapsOf w c e → StandMaps (with_maps w next) e
+  pub stands_up : (w : MissedNote) (next : GroupNode) (c : Config) (e : GroupSite R g) → site_config e ≡ Some c → NotesConfig next c → MapsOf w c e → StandMaps (with_maps w next) e
   stands_up w next c e is noted it = record {
     config = c;
     is = noted.is;

@@ -119,15 +119,18 @@ module _ {R : Type 0} {g : Ghosts R} where
     rest_uncut = no_value rest_set.cut (noted.1 ∙ named.6)
 
     -- such a call on its disks
-    pub called_over : (after : DiskSet R g) (p : OverSet R g) → after ≡ Over p → Changed old new s before after → SameFailing before after → DownCall (rests_as d s kept taken) old new s rest_set (Over p)
-    called_over after p is changed failing = record {
+    pub called_rest : (after : DiskSet R g) → Changed old new s before after → SameFailing before after → DownCall (rests_as d s kept taken) old new s rest_set after
+    called_rest after changed failing = record {
       stands = at.stands;
       below = at.below;
       over = at.over;
       down = at.down;
-      changed = subst (λ (e : DiskSet R g). Changed old new s e (Over p)) rest_over.is (subst (λ (e : DiskSet R g). Changed old new s before e) is changed);
-      failing = subst (λ (e : DiskSet R g). SameFailing e (Over p)) rest_over.is (subst (λ (e : DiskSet R g). SameFailing before e) is failing);
+      changed = subst (λ (e : DiskSet R g). Changed old new s e after) rest_over.is changed;
+      failing = subst (λ (e : DiskSet R g). SameFailing e after) rest_over.is failing;
     }
+
+    pub called_over : (after : DiskSet R g) (p : OverSet R g) → after ≡ Over p → Changed old new s before after → SameFailing before after → DownCall (rests_as d s kept taken) old new s rest_set (Over p)
+    called_over after p is changed failing = called_rest (Over p) (subst (λ (e : DiskSet R g). Changed old new s before e) is changed) (subst (λ (e : DiskSet R g). SameFailing before e) is failing)
 
     -- what the import came to
     pub raised : (r : Result (Option CutWrite) Stop) → RaisesAbove before between r

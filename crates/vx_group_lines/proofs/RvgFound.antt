@@ -150,7 +150,7 @@ changes_astray s b e it = record {
 fit_astray : (e : Doubted) → LinksFit e → LinksFit (gone_astray e)
 fit_astray e it = record { rows = it.rows; later = it.later; bare = it.bare; doubts = it.doubts; starts = it.starts; quiet = it.quiet; rests = it.rests }
 
-arrives_astray : (b e : Doubted) (s : ℕ) (m : Node) (gathered : Option Gathering) → Arrives b e s m gathered → Arrives b (gone_astray e) s m gathered
+pub arrives_astray : (b e : Doubted) (s : ℕ) (m : Node) (gathered : Option Gathering) → Arrives b e s m gathered → Arrives b (gone_astray e) s m gathered
 arrives_astray b e s m gathered it = record {
   site = changes_astray s b e it.site;
   fits = fit_astray e it.fits;
@@ -165,7 +165,7 @@ arrives_astray b e s m gathered it = record {
 -- ---- what was known
 
 -- nothing is known of the disks where this says so of what is told
-knows_nothing : (told : Type 0) (tells : Bool) (note : GroupNode) → (told → IsTrue tells) → (IsTrue tells → (note.dark ≡ true) ⊎ (note.loose ≡ true)) → KnowsNothing told note
+pub knows_nothing : (told : Type 0) (tells : Bool) (note : GroupNode) → (told → IsTrue tells) → (IsTrue tells → (note.dark ≡ true) ⊎ (note.loose ≡ true)) → KnowsNothing told note
 knows_nothing told tells note lit less =
     by_bool tells
     (λ yes_. ⊎_elim (λ (dark : note.dark ≡ true). inr (inr dark)) (λ (loose : note.loose ≡ true). inr (inl loose)) (less yes_))

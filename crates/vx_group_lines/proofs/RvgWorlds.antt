@@ -56,7 +56,7 @@ rest_up d s kept taken up = ap (λ (t : SiteState). own_disks taken s d.world (r
 greets_none : (s : ℕ) (n : Node) → is_origin n.role ≡ true → recovery_greeting s n ≡ []
 greets_none s n origin = ap (λ (b : Bool). if b then [] else greeting s n.other n) origin
 
-own_state : (b : Bool) (was n : Node) → (own_node b was n).state ≡ n.state
+pub own_state : (b : Bool) (was n : Node) → (own_node b was n).state ≡ n.state
 own_state true was n = refl
 own_state false was n = refl
 

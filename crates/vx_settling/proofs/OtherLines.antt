@@ -28,7 +28,7 @@ use Rattle.vx_events.specs.LinkEnds.{AppliesCut, AppliesPart, AreLeft, LinkEnds,
 use Rattle.vx_events.specs.Lists.{Choice, crash_count, events_of}
 use Rattle.vx_events.specs.LinkFinds.{ApplyCut, ApplyHalts, EndsBetween, FindsOther, GivesUp, HeaderCut, HeaderHalts, IsStored, IsUnread, KeepsOther, LosesOther, MovesBetween, ReadsNone, SendsOther, SettlesOther, TakesOther}
 use Rattle.vx_events.specs.LinkLists.{link_events}
-use Rattle.vx_events.specs.RvgBack.{FindsNoRvg, FindsPlain, FindsRvg, GroupHeld, GroupUnfound, IsLeftBack, IsLeftBut, LogFails, LogLacks, RvgBack, RvgFinds, RvgUp, fall_first, fuse_left}
+use Rattle.vx_events.specs.RvgBack.{FindsNoRvg, FindsPlain, FindsRvg, GroupHeld, GroupUnfound, IsLeftBack, IsLeftBut, LogFails, LogLacks, RvgBack, RvgFinds, RvgUp, fall_first, fuse_left, unmade_site}
 use Rattle.vx_events.specs.RvgMakes.{IsLeftRvg, MakesRvg, RvgCut, RvgDone, RvgFails, RvgLacks, noting_in, units_at}
 use Rattle.vx_events.specs.RvgNotes.{volume_events}
 use Rattle.vx_events.specs.OpenLines.{is_open}
@@ -315,7 +315,7 @@ module _ (i : ℕ) (o : Option GroupNode) where
       finds_notes line s apart (FindsRvg kept taken next mid n k row c units are brings unknown dark is same comes config fits lies says left) =
           came line s taken next mid k row apart (at_rest s kept taken mid is) left
       finds_notes line s apart (FindsPlain kept taken next mid has are brings unknown dark is none says left) =
-          came line s taken next mid (group_set s (mid.world.nodes s)) (λ _. no_link) apart (at_rest s kept taken mid is) left
+          came line s taken next mid (group_set s (unmade_site (mid.world.nodes s))) (λ _. no_link) apart (at_rest s kept taken mid is) left
       finds_notes line s apart (FindsNoRvg kept taken lost next why has are brings unknown device notes says left) =
           but_notes lost s line taken next d _ new apart left x.has (ran taken (fall_first (d.world.nodes s).state s kept))
 

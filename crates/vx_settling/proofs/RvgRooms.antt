@@ -22,7 +22,7 @@ use Rattle.vx_events.specs.Ends.{found_linked}
 use Rattle.vx_events.specs.Fails.{Fails}
 use Rattle.vx_events.specs.GroupNotes.{note_at}
 use Rattle.vx_events.specs.GroupViews.{config_of}
-use Rattle.vx_events.specs.RvgBack.{FindsNoRvg, FindsPlain, FindsRvg, IsLeftBack, RvgFinds}
+use Rattle.vx_events.specs.RvgBack.{FindsNoRvg, FindsPlain, FindsRvg, IsLeftBack, RvgFinds, unmade_site}
 use Rattle.vx_events.specs.RvgFits.{FitsNoted, FitsRvg, HasUnits, NoteKeepsRvg}
 use Rattle.vx_events.specs.RvgMakes.{RvgStops}
 use Rattle.vx_events.specs.RvgOver.{OpensFor, OverRvg}
@@ -99,8 +99,8 @@ module _ (told : Type 0) (d : Doubted) (good : GoodDoubted d) (alike : DoubtsAli
   finds_fits s made over fits still (FindsRvg kept taken next mid n k row c units are brings unknown dark is same comes config rvg lies says left) =
       found_fits told d line s fails said new taken next mid k row c units config rvg lies left
   finds_fits s made over fits still (FindsPlain kept taken next mid has are brings unknown dark is none says left) =
-      let same : SameRoom (group_set s (mid.world.nodes s)) (new.world.nodes s) =
-      came_as told d line s fails said new taken next mid (group_set s (mid.world.nodes s)) (λ k. no_link) left in
+      let same : SameRoom (group_set s (unmade_site (mid.world.nodes s))) (new.world.nodes s) =
+      came_as told d line s fails said new taken next mid (group_set s (unmade_site (mid.world.nodes s))) (λ k. no_link) left in
       absurd (some_volumes (new.world.nodes s).volumes (and_right (is_some (new.world.nodes s).group) (not (eqb (length (new.world.nodes s).volumes) 0)) still) same.volumes)
   finds_fits s made over fits still (FindsNoRvg kept taken lost next why has are brings unknown device notes says left) =
       stopped_fits s made over (fall_stops d s line kept taken lost next new left)
