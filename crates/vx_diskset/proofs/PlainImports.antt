@@ -25,7 +25,7 @@ use Rattle.vx_grouped.specs.declared.idle.Idle.{Idle}
 use Rattle.vx_grouped.specs.declared.laid.Laid.{Laid}
 use Rattle.vx_grouped.proofs.SinceReturns.{dark_armed, return_ready}
 use Rattle.vx_diskset.specs.Aboves.{site_in}
-use Rattle.vx_diskset.specs.GroupCalls.{AtFound, AtSite, ImportsOn, cut_in}
+use Rattle.vx_diskset.specs.GroupCalls.{AtFound, AtSite, ImportsOn, cut_behind, cut_in}
 use Rattle.vx_diskset.specs.GroupSets.{cut_value}
 use Rattle.vx_diskset.specs.OverStarts.{BehindPlain, BroughtBy, DarkBack, FellDark, HandsOut, ImportsBy, ImportsIn, PlainFails, PlainStarts, PlainTried, PlainUnits, RaisesBy, RaisesIn, Started, WithPlain}
 use Rattle.vx_diskset.specs.Recovers.{RaisesAt, RaisesMapsAt, RisesSince, cut_past}
@@ -54,7 +54,7 @@ module _ {R : Type 0} {g : Ghosts R} where
     behind = subst (λ (a : Result (Unit {0}) Stop). BehindPlain away (site_rested old) mid cut (let s : GroupSet R g = record { site = mid; cut = cut } in OfGroup s) a (Err stop)) (sym is) (refl, refl);
   }
 
-  pub raises_by : (old : GroupSite R g) (cut : Option CutWrite) (new : DiskSet R g) (answer : Result (Unit {0}) Stop) (r : Result (Option CutWrite) Stop) → ImportsBy false old cut new answer → HandsOut cut answer r → RaisesBy old cut new r
+  pub raises_by : (old : GroupSite R g) (cut : Option CutWrite) (new : DiskSet R g) (answer : Result (Unit {0}) Stop) (r : Result (Option CutWrite) Stop) → ImportsBy false old cut new answer → HandsOut (cut_behind new cut) answer r → RaisesBy old cut new r
   raises_by old cut new answer r by hands = record { answer = answer; by = by; is = hands }
 
   -- ---- sites that have no group, or one with a replicated volume group
@@ -171,7 +171,7 @@ module _ {R : Type 0} {g : Ghosts R} where
     recover_mapped cut new answer it noted = down_behind it.mid cut new it.answer answer noted it.by it.behind
 
     -- the same where the write that was cut is handed out
-    pub raise_mapped : (cut : Option CutWrite) (new : DiskSet R g) (answer : Result (Unit {0}) Stop) (r : Result (Option CutWrite) Stop) → ImportsBy false old cut new answer → HandsOut cut answer r → DownNoted n note old → RaisesMapsAt old new r
+    pub raise_mapped : (cut : Option CutWrite) (new : DiskSet R g) (answer : Result (Unit {0}) Stop) (r : Result (Option CutWrite) Stop) → ImportsBy false old cut new answer → HandsOut (cut_behind new cut) answer r → DownNoted n note old → RaisesMapsAt old new r
     raise_mapped cut new (Ok done) r by hands noted = subst (λ (x : Result (Option CutWrite) Stop). RaisesMapsAt old new x) (sym hands) (recover_mapped cut new (Ok done) by noted)
     raise_mapped cut new (Err stop) r by hands noted = subst (λ (x : Result (Option CutWrite) Stop). RaisesMapsAt old new x) (sym hands) (recover_mapped cut new (Err stop) by noted)
 
@@ -370,7 +370,7 @@ module _ {R : Type 0} {g : Ghosts R} where
   -- ---- a recovery
 
   module _ (racks : (s : Shade R) → IsRack (shade_meaning g.meaning s)) (laws : (s : Shade R) → Lawful (shade_meaning g.meaning s)) (old : GroupSite R g) (was : Option CutWrite) (n : Node) (note : GroupNode) (new : DiskSet R g) where
-    pub import_raises : (answer : Result (Unit {0}) Stop) (r : Result (Option CutWrite) Stop) → ImportsBy false old was new answer → HandsOut was answer r → DownNoted n note old → RaisesAt n note old was new r
+    pub import_raises : (answer : Result (Unit {0}) Stop) (r : Result (Option CutWrite) Stop) → ImportsBy false old was new answer → HandsOut (cut_behind new was) answer r → DownNoted n note old → RaisesAt n note old was new r
     import_raises (Ok done) r by hands noted =
         subst (λ (x : Result (Option CutWrite) Stop). RaisesAt n note old was new x) (sym hands) (recover_found racks laws old n note was new (Ok done) by noted, import_cut false old was new (Ok done) by, refl)
     import_raises (Err stop) r by hands noted =

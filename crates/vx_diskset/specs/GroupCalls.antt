@@ -16,6 +16,7 @@ use Rattle.vx_diskset.specs.Aboves.{above_in, core_of, site_in}
 use Rattle.vx_diskset.specs.GroupSets.{cut_value}
 use Rattle.vx_diskset.specs.declared.disk_set.DiskSet.{DiskSet}
 use Rattle.vx_diskset.specs.declared.disk_set.DiskSet.TheVariants.{Bare, Spoiled, OfGroup, Over}
+use Rattle.vx_diskset.specs.declared.group_set.CutWrite.{CutWrite}
 
 module _ {R : Type 0} {g : Ghosts R} where
   -- they are those of a group, of which this holds
@@ -56,6 +57,11 @@ module _ {R : Type 0} {g : Ghosts R} where
   cut_in (OfGroup s) = cut_value s.cut
   cut_in (Over s) = cut_value s.cut
   cut_in other = None
+
+  -- the write that a recovery hands out: none, where it found a replicated volume group
+  abbrev pub cut_behind : DiskSet R g → Option CutWrite → Option CutWrite
+  cut_behind (Over s) cut = None
+  cut_behind other cut = cut
 
   -- the configuration of a group that is up
   abbrev pub config_in : DiskSet R g → Option Config

@@ -231,7 +231,7 @@ module _ {R : Type 0} {g : Ghosts R} where
   pub record RaisesBy (old : GroupSite R g) (cut : Option CutWrite) (new : DiskSet R g) (r : Result (Option CutWrite) Stop) : Type 0 where
     pub answer : Result (Unit {0}) Stop
     pub by : ImportsBy false old cut new answer
-    pub is : HandsOut cut answer r
+    pub is : HandsOut (cut_behind new cut) answer r
 
   -- and of one whose group has a replicated volume group
   pub record RaisesOver (old : GroupSite R g) (cut : Option CutWrite) (new : DiskSet R g) (r : Result (Option CutWrite) Stop) : Type 0 where

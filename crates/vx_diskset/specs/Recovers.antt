@@ -18,7 +18,7 @@ use Rattle.vx_grouped.specs.SiteReturns.{FailsFused}
 use Rattle.vx_watched.specs.Since.{is_rack}
 use Rattle.vx_grouped.specs.SiteReturns.{SiteRecovers}
 use Rattle.vx_grouped.specs.declared.group_site.GroupSite.{GroupSite}
-use Rattle.vx_diskset.specs.GroupCalls.{AtFound, AtPlain, cut_in}
+use Rattle.vx_diskset.specs.GroupCalls.{AtFound, AtPlain, cut_behind, cut_in}
 use Rattle.vx_diskset.specs.GroupSets.{cut_value}
 use Rattle.vx_diskset.specs.declared.disk_set.DiskSet.{DiskSet}
 use Rattle.vx_diskset.specs.declared.disk_set.DiskSet.TheVariants.{OfGroup, Over}
@@ -72,7 +72,7 @@ module _ {R : Type 0} {g : Ghosts R} where
 
   -- A recovery of the group of a site that crashed, as far as its import: the write that was cut is handed out.
   abbrev pub RaisesAt : Node → GroupNode → GroupSite R g → Option CutWrite → DiskSet R g → Result (Option CutWrite) Stop → Type 0
-  RaisesAt n note old was new (Ok cut) = AtFound (λ e. SiteRecovers n note old e (Ok tt)) new × (cut_in new ≡ None) × (cut ≡ was)
+  RaisesAt n note old was new (Ok cut) = AtFound (λ e. SiteRecovers n note old e (Ok tt)) new × (cut_in new ≡ None) × (cut ≡ cut_behind new was)
   RaisesAt n note old was new (Err stop) = StaysBack n note old was new stop
 
   -- of a site with a replicated volume group more is said elsewhere

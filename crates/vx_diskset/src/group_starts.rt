@@ -16,7 +16,7 @@ ghost use Rattle.vx_diskset.specs.DiskSets.{Later};
 ghost use Rattle.vx_diskset.specs.Aboves.{site_in};
 ghost use Rattle.vx_diskset.specs.OverRises.{LooksOver};
 ghost use Rattle.vx_diskset.specs.OverStarts.{HandsOut, ImportsBy, ImportsIn, RaisesBy, RaisesIn, RaisesOver};
-ghost use Rattle.vx_diskset.specs.GroupCalls.{AtFound, AtPlain, AtSite, ImportsOn, InitIs, OnSites, cut_in};
+ghost use Rattle.vx_diskset.specs.GroupCalls.{AtFound, AtPlain, AtSite, ImportsOn, InitIs, OnSites, cut_behind as cut_behind_of, cut_in};
 ghost use Rattle.vx_diskset.specs.Holds.{KeptBeside};
 ghost use Rattle.vx_diskset.specs.Recovers.{LooksAt, LooksKept, RaisesGroup, RaisesMaps, RisesSince, RisesWith, cut_past};
 ghost use Rattle.vx_diskset.specs.Stands.{SiteStands};
@@ -157,6 +157,16 @@ fn hands_out(started: Result<(), Stop>, cut: Option<CutWrite>) -> Result<Option<
     }
 }
 
+// The write that was cut, unless a replicated volume group was found over the group.
+fn cut_behind<R: Rack>(disk_set: &DiskSet<R>, cut: Option<CutWrite>) -> Option<CutWrite>
+    ensures { result ≡ cut_behind_of disk_set.now cut }
+{
+    match disk_set {
+        DiskSet::Over(_) => None,
+        _ => cut,
+    }
+}
+
 // The same of a site that crashed, which hands out the write that its crash cut.
 fn raise_in<R: Rack>(
     group: GroupSet<R>,
@@ -175,6 +185,7 @@ fn raise_in<R: Rack>(
     match answer {
         Ok(()) => {
             let (disk_set, started) = with_plain(alloc, site, cut, false, tells);
+            let kept = cut_behind(&disk_set, kept);
             (disk_set, hands_out(started, kept))
         }
         Err(stop) => (DiskSet::OfGroup(GroupSet { site, cut }), Err(stop)),
@@ -253,7 +264,8 @@ impl<R: Rack> DiskSet<R> {
         }
     }
 
-    /// Imports the group of a site that crashed, and hands out the write that its crash cut. Where it is refused, the site stays down.
+    /// Imports the group of a site that crashed, and hands out the write that its crash cut, unless a replicated volume group was found over a group that had
+    /// none. Where it is refused, the site stays down.
     pub fn raise_group(self, alloc: Global) -> (DiskSet<R>, Result<Option<CutWrite>, Stop>)
         ensures raised { (n : Node) (note : GroupNode) → AtSite (DownNoted n note) self → RaisesGroup n note self result.0 result.1 }
         ensures maps { (n : Node) (note : GroupNode) → AtSite (DownNoted n note) self → RaisesMaps self result.0 result.1 }

@@ -3,7 +3,7 @@ use Rattle.std.proofs.Common.{false, refl, subst}
 use Rattle.vx_untold.specs.Shades.{shade_lawful, shade_rack}
 use Rattle.vx_grouped.specs.GroupSites.{site_disks}
 use Rattle.vx_grouped.specs.SiteReturns.{SiteRecovers}
-use Rattle.vx_diskset.specs.OverStarts.{WithPlain}
+use Rattle.vx_diskset.specs.OverStarts.{HandsOut, WithPlain}
 use Rattle.vx_diskset.proofs.GroupCalling.{rises_returned}
 use Rattle.vx_diskset.proofs.PlainImports.{import_raises, import_rises, import_tells, imports_done, imports_stopped, raise_mapped, raises_by}
 use Rattle.vx_grouped.specs.SiteMaps.{CameMapped}
@@ -15,7 +15,7 @@ returns-in-Ok-clause-brought g c =
     (imports_done false c.args.group.site c.import-site.result.0 c.args.group.cut c.with_plain-disk_set.result.0 c.import-site.result.1 c.with_plain-disk_set.result.1
     (record { imported = c.import-site.ensures.imported; recovered = c.import-site.ensures.recovered; brings = c.import-site.ensures.brings; since = c.import-site.ensures.since; told = c.import-site.ensures.told; maps = c.import-site.ensures.maps; known = c.import-site.ensures.known; less = c.import-site.ensures.less; dark = c.import-site.ensures.dark })
     c.in-Ok.is (subst (λ o. WithPlain false o c.import-site.result.0 c.args.group.cut c.with_plain-disk_set.result.0 c.with_plain-disk_set.result.1) c.rested-tells.ensures c.with_plain-disk_set.ensures.over))
-    c.hands_out.ensures
+    (subst (λ k. HandsOut k c.with_plain-disk_set.result.1 c.hands_out.result) c.cut_behind-kept.ensures c.hands_out.ensures)
 
 pub returns-in-Ok-clause-raised : goal.returns-in-Ok-clause-raised
 returns-in-Ok-clause-raised g c = λ n note down.
