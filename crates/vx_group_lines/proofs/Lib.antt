@@ -51,6 +51,14 @@ pub mod Plains
 pub mod RvgComing
 pub mod RvgWorlds
 pub mod RvgReturns
+pub mod RvgRose
+pub mod RvgRests
+pub mod RvgLost
+pub mod RvgHeld
 pub mod RvgFound
 pub mod ImportBeside
+pub mod RvgAtRest
 pub mod RecoverFound
+pub mod RvgPlain
+pub mod RvgRaising
+pub mod RvgRecovers
