@@ -120,13 +120,13 @@ module _ (r first : Meaning) (core : GroupCore) (m : Meaning) (alike : Alike r f
   pub told_rest : IsTrue r.tells
   told_rest = sym alike.contents.tells ∙ told_first
 
-  abbrev took : TookVolumes first core m
+  abbrev pub took : TookVolumes first core m
   took = brings.took told_first
 
-  each_rest : Each r.leaves took.image
+  pub each_rest : Each r.leaves took.image
   each_rest = λ u b. alike.contents.leaves u b (took.image u b) (took.each u b)
 
-  found_rest : finds r took.image ≡ Found took.config
+  pub found_rest : finds r took.image ≡ Found took.config
   found_rest = sym (found_same r first alike.contents.units alike.contents.size (λ u. true) took.image) ∙ took.is
 
   module _ (c : Config) (extends : Extends took.config c) where

@@ -244,7 +244,7 @@ RefusedAs beside n m last (Limit what most) =
     (Limit what most ≡ no_number) × (IsTrue last.tells → most_number ≤ most_header beside n + 2) × IsDownAt beside n last
 RefusedAs beside n m last other = (IsTrue last.tells → ⊥) × IsDownAt beside n last
 
-limit_same : {a b : Counted} {x y : ℕ} → a ≡ b → x ≡ y → Limit a x ≡ Limit b y
+pub limit_same : {a b : Counted} {x y : ℕ} → a ≡ b → x ≡ y → Limit a x ≡ Limit b y
 limit_same e f = λ i. Limit (e i) (f i)
 
 module _ {beside : KeptBeside} (n : Node) (m up new last : Meaning) (is : IsDownAt beside n m) (alike : Alike m up) (risen : IsFalse up.down) (armed : up.armed ≡ m.armed) (lawful : Lawful up) (after : Lawful new)
