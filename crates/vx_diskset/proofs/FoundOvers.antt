@@ -8,7 +8,7 @@ use Rattle.vx_copies.proofs.OneTry.{wanted_count}
 use Rattle.vx_disk.specs.Shelf.{Lawful, Meaning}
 use Rattle.vx_disk.specs.declared.shelf.Shelf.{Ghosts}
 use Rattle.vx_events.specs.GroupViews.{config_of}
-use Rattle.vx_events.specs.RvgFits.{config_rvg, rvg_noted}
+use Rattle.vx_events.specs.RvgFits.{config_rvg, entries_noted, rvg_noted}
 use Rattle.vx_events.specs.RvgNotes.{inside_of, note_gained}
 use Rattle.vx_ground.specs.Lifted.{laid_volumes}
 use Rattle.vx_ground.proofs.NamedSpelling.{spelled_few}
@@ -64,14 +64,14 @@ alone_parts s is =
     let parts = and_parts (is_origin s.role) (has_no_links s.links && is_idle_phase s.phase) is in
     (parts.0, idle_quiet s.phase (and_parts (has_no_links s.links) (is_idle_phase s.phase) parts.1).1)
 
-dark_untold : {R : Type 0} (meaning : R → Meaning) (s : Shade R) → is_dark s ≡ true → IsTrue (shade_meaning meaning s).tells → ⊥
+pub dark_untold : {R : Type 0} (meaning : R → Meaning) (s : Shade R) → is_dark s ≡ true → IsTrue (shade_meaning meaning s).tells → ⊥
 dark_untold meaning (Bright rack) is told = let clash : false ≡ true = is in cc
 dark_untold meaning (Dark rack) is told = let clash : false ≡ true = told in cc
 
 -- ---- the group of site n, as an import brought it with the note `middle`, and what was started over it
 
 module _ {R : Type 0} {g : Ghosts R} (laws : (s : Shade R) → Lawful (shade_meaning g.meaning s)) (n site : Node) (middle : GroupNode) (u : Units) (laid : Laid R g) (s : OverSet R g) (up : GroupUp site middle (laid_below laid).tells laid.core (laid_disks laid))
-    (had : laid.core.inner.config.rvg ≡ Some u) (dark : is_dark laid.shelf ≡ true) (started : Started u laid s) (disks : site.disks ≡ n.disks) (blocks : site.blocks ≡ n.blocks) (fuse : burned site.fuse ≡ burned n.fuse) (clear : middle.cut ≡ None) where
+    (had : laid.core.inner.config.rvg ≡ Some u) (dim : IsTrue (laid_disks laid).tells → ⊥) (started : Started u laid s) (disks : site.disks ≡ n.disks) (blocks : site.blocks ≡ n.blocks) (fuse : burned site.fuse ≡ burned n.fuse) (clear : middle.cut ≡ None) where
   abbrev k : Laid R g
   k = started.laid
 
@@ -88,7 +88,7 @@ module _ {R : Type 0} {g : Ghosts R} (laws : (s : Shade R) → Lawful (shade_mea
   node = found_over n next (burned n.fuse) c u started.core
 
   untold : IsTrue (laid_volumes k).tells → ⊥
-  untold told = dark_untold g.meaning laid.shelf dark (sym started.starts.does.0.tells ∙ told)
+  untold told = dim (sym started.starts.does.0.tells ∙ told)
 
   has : c.rvg ≡ Some u
   has = started.starts.ground.parts.rvg ∙ had
@@ -173,7 +173,7 @@ module _ {R : Type 0} {g : Ghosts R} (laws : (s : Shade R) → Lawful (shade_mea
         ap (λ (o : Option CutWrite). cut_value o) started.cut ∙ sym clear,
         subst (λ (x : Units). InsideOf x next) (sym on) inside_so,
         subst (λ (x : Units). TidyNote x next) (sym on) (record { tidy = ground_tidy (noted_config c) k.core base; named = named }),
-        subst (λ (e : GroupSite R g). RestsNamed (config_units (config_of next.config)) e) (sym started.site) tt,
+        subst (λ (e : GroupSite R g). RestsNamed (config_units (config_of next.config)) (length (entries_noted next)) e) (sym started.site) tt,
       );
       stands = set_found laws n next (burned n.fuse) u laid s had started has few some on lit untold beside sure links alone.0;
     },
@@ -182,7 +182,7 @@ module _ {R : Type 0} {g : Ghosts R} (laws : (s : Shade R) → Lawful (shade_mea
 
   -- where the rack below tells its contents, it is noted that nothing is known of what the disks hold
   pub found_dark : IsTrue (laid_below laid).tells → middle.dark ≡ true
-  found_dark told = by_bool middle.dark (λ is. is) (λ never. absurd (dark_untold g.meaning laid.shelf dark (up.lit never told)))
+  found_dark told = by_bool middle.dark (λ is. is) (λ never. absurd (dim (up.lit never told)))
 
   pub found_less : (note after : GroupNode) → after.dark ≡ middle.dark → (middle.dark ≡ true → (note.dark ≡ true) ⊎ (note.loose ≡ true)) → KnowsLess note after (site_in s)
   found_less note after same was = record { was = λ told. was (dark_then told); dark = λ told. same ∙ dark_then told }

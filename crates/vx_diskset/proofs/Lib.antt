@@ -16,6 +16,8 @@ pub mod OverCalls
 pub mod OverClean
 pub mod OverCame
 pub mod OverUp
+pub mod OverMoved
+pub mod OverLost
 pub mod OverReturns
 pub mod OverCrash
 pub mod OverDowns
@@ -31,7 +33,7 @@ pub mod OverPlain
 pub mod OverReads
 pub mod OverReceivers
 pub mod OverAsked
-pub mod OverBacks
+pub mod OverRecovers
 pub mod OverSettles
 pub mod OverMaking
 pub mod Rewriting

@@ -10,6 +10,7 @@ use Rattle.vx_events.specs.GroupViews.{config_of}
 use Rattle.vx_events.specs.RvgFits.{config_rvg, rvg_noted}
 use Rattle.vx_ground.specs.Accounts.{GroundSince, ground_state}
 use Rattle.vx_ground.specs.Lifted.{laid_volumes}
+use Rattle.vx_grouped.specs.GroupNotes.{noted_config}
 use Rattle.vx_grouped.specs.GroupSites.{GroupUp, UpNoted, laid_below, laid_disks}
 use Rattle.vx_grouped.specs.SiteReturns.{returned_with}
 use Rattle.vx_grouped.specs.declared.group_site.GroupSite.TheVariants.{Up}
@@ -28,9 +29,10 @@ use Rattle.vx_diskset.specs.Noted.{NotesWorked, TidyNote, below_rvg}
 use Rattle.vx_diskset.specs.OverRises.{came_with}
 use Rattle.vx_diskset.specs.Shelves.{OfRvg}
 use Rattle.vx_diskset.specs.Works.{LogBlocks, OnlyLog}
+use Rattle.vx_diskset.proofs.GroundNotes.{note_ground}
 use Rattle.vx_diskset.proofs.MadeOver.{group_as}
 use Rattle.vx_diskset.proofs.OverNoted.{note_read, units_same}
-use Rattle.vx_diskset.proofs.OverNotes.{over_notes}
+use Rattle.vx_diskset.proofs.OverNotes.{next_is, over_notes}
 
 -- the units of a configuration that names some
 or_read : (o : Option Units) (u : Units) → o ≡ Some u → units_or o ≡ u
@@ -76,3 +78,7 @@ module _ {R : Type 0} {g : Ghosts R} where
 
     pub tidy_then : TidyNote u next
     tidy_then = record { tidy = moved.4; named = named_then }
+
+    -- with this configuration, and what its commits say of imports
+    pub moved_is : next ≡ note_ground (noted_config new.core.inner.config) new.core middle
+    moved_is = next_is (came_with fuse middle n) middle u laid new racks up ground since less moves inside

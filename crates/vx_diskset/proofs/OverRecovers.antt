@@ -1,5 +1,6 @@
 -- What a recovery leaves of a site that is down, whose group of disks has a replicated volume group.
-use Rattle.std.proofs.Common.{◌≡◌, ◌∙◌, ◌⊎◌, inl, inr, ⊎_elim, ℕ, ◌+◌, ◌≤◌, Bool, true, false, List, [], length, not, IsTrue, ap, arith, refl, subst, sym}
+use Rattle.std.proofs.Common.{◌≡◌, ◌∙◌, ◌⊎◌, inl, inr, ⊎_elim, ℕ, ◌+◌, ◌≤◌, Bool, true, false, List, [], ◌∷◌, length, not, IsTrue, ap, arith, refl, subst, sym}
+use Rattle.std.proofs.lemmas.Option.{same_Some}
 use Rattle.std.specs.Prelude.{◌&&◌, ◌||◌, Err, IsFalse, None, Ok, Option, Result, Some, if◌then◌else◌}
 use Rattle.vx_config.specs.declared.config.Config.{Config}
 use Rattle.vx_disk.specs.Counts.{Rose}
@@ -21,7 +22,7 @@ use Rattle.vx_groupmaps.specs.Loading.{DeviceRose}
 use Rattle.vx_grouped.specs.Brings.{BringsSite}
 use Rattle.vx_grouped.specs.ConfigMoves.{LosesSome}
 use Rattle.vx_grouped.specs.GroupNotes.{is_sure, note_dimmed, noted_config}
-use Rattle.vx_grouped.specs.GroupSites.{AreStopped, DownNoted, GroupDown, GroupUp, IsLit, NotesGroup, UpNoted, dimmed_site, idle_below, idle_disks, laid_below, laid_disks, site_below, site_disks, with_note}
+use Rattle.vx_grouped.specs.GroupSites.{AreStopped, CutNoted, DownNoted, GroupDown, GroupUp, IsLit, NotesGroup, UpNoted, dimmed_site, idle_below, idle_disks, laid_below, laid_disks, site_below, site_disks, with_note}
 use Rattle.vx_grouped.specs.Readies.{ready_of}
 use Rattle.vx_grouped.specs.SiteEnds.{ConfigGoes, stops_down}
 use Rattle.vx_grouped.specs.SiteReturns.{ConfigReturns, ImportWhy, KnownAway, NoteReturns, ReturnsUp, TellsNone, is_dimmed, returned_with, stops_early}
@@ -66,7 +67,7 @@ use Rattle.vx_diskset.specs.GroupSets.{cut_value}
 use Rattle.vx_diskset.specs.Holds.{KeptBeside, most_header, state_with}
 use Rattle.vx_diskset.specs.Layouts.{config_units, units_by, units_of}
 use Rattle.vx_diskset.specs.Noted.{AgreesStill, FoundNamed, NotedOn, NotesWorked, RestsNamed, SiteNoted, TidyNote, below_rvg}
-use Rattle.vx_diskset.specs.OverRises.{CameGroup, CameOver, FoundAgain, HeldStill, KnowsLess, LostAgain, OverRises, PlainAgain, RaisedOver, RoseAgain, SessionFrom, StartLost, came_with, note_held, note_ready, rest_in}
+use Rattle.vx_diskset.specs.OverRises.{CameGroup, CameOver, FoundAgain, HeldStill, KnowsLess, LostAgain, OverRises, PlainAgain, RaisedOver, RaisesAbove, RisesAgain, RisesFound, RisesHeld, RisesLost, RisesPlain, RoseAgain, SessionFrom, StartLost, came_with, note_held, note_ready, rest_in}
 use Rattle.vx_diskset.specs.OverStarts.{BehindImport, BroughtBy, FellBack, RaisesOver, StandsOff, StartFails, Started, StartsOn, StartsOver, TriedOn, WithUnits, all_latest, has_no_links, is_alone, is_dark, is_idle_phase}
 use Rattle.vx_diskset.specs.Stands.{FellOver, FellSettles, IsOverSite, OverStands, RestsOver, SiteStands, idle_ready}
 use Rattle.vx_diskset.specs.Works.{LogBlocks, OnlyLog}
@@ -78,7 +79,7 @@ use Rattle.vx_diskset.specs.declared.over_set.OverSet.{OverSet}
 use Rattle.vx_diskset.specs.declared.over_set.OverSite.{OverSite}
 use Rattle.vx_diskset.specs.declared.over_set.OverSite.TheVariants.{Origin as OriginSite, Receiver as ReceiverSite, Deported as GroupAway, Down as GroupFell, Gone as NoGroup}
 use Rattle.vx_diskset.proofs.CountMoves.{counts_lose}
-use Rattle.vx_diskset.proofs.FoundOvers.{found_again}
+use Rattle.vx_diskset.proofs.FoundOvers.{found_less, found_over_set}
 use Rattle.vx_diskset.proofs.GroundNotes.{note_ground}
 use Rattle.vx_diskset.proofs.MadeOver.{fuse_over}
 use Rattle.vx_diskset.proofs.OverCame.{each_rest, found_rest, told_rest, took}
@@ -89,9 +90,8 @@ use Rattle.vx_diskset.proofs.OverFalls.{crash_named, crash_noted}
 use Rattle.vx_diskset.proofs.OverKept.{fell_site}
 use Rattle.vx_diskset.proofs.OverLikes.{over_like}
 use Rattle.vx_diskset.proofs.OverLost.{InSession, left_there, lost_stands, starting_in, still_in}
-use Rattle.vx_diskset.proofs.OverMoved.{inside_then, moved, named_then, tidy_then, units_then, up_here}
+use Rattle.vx_diskset.proofs.OverMoved.{inside_then, moved, moved_is, named_then, tidy_then, units_then, up_here}
 use Rattle.vx_diskset.proofs.OverNoted.{cut_down, note_read}
-use Rattle.vx_diskset.proofs.OverNotes.{next_is}
 use Rattle.vx_diskset.proofs.OverReturns.{fell_again, fell_session}
 use Rattle.vx_diskset.proofs.PlainBacks.{Went, fused_back, off_tried, went_on, why_tried}
 use Rattle.vx_diskset.proofs.StartGroup.{limit_same}
@@ -357,6 +357,17 @@ module _ {R : Type 0} {g : Ghosts R} (racks : (s : Shade R) → IsRack (shade_me
     known : middle.dark ≡ true → (note.dark ≡ true) ⊎ (note.loose ≡ true)
     known dark = ⊎_elim (λ dims. inr (dim_loose idle.agreed note.loose down.agrees dims)) (λ was. inl was) (or_either (not idle.agreed) note.dark (sym returns.dark ∙ dark))
 
+    -- the import left the configuration sure
+    sure_here : is_sure laid.core ≡ true
+    sure_here = sure_by laid.core.inner.committed laid.core.held (group_here.at.lies.committed returns.loose returns.begun) (group_here.at.lies.images.free returns.loose returns.begun)
+
+    ground_same : note_ground (noted_config laid.core.inner.config) laid.core middle ≡ middle
+    ground_same =
+        ap (λ (b : Bool). let x : GroupNode = record middle { config = noted_config laid.core.inner.config; begun = if b then [] else noted_config laid.core.inner.config ∷ middle.begun; loose = not b } in x) sure_here
+        ∙ ap (λ (c : List ℕ). let x : GroupNode = record middle { config = c; begun = []; loose = false } in x) (sym group_here.at.lies.config)
+        ∙ ap (λ (b : List (List ℕ)). let x : GroupNode = record middle { begun = b; loose = false } in x) (sym returns.begun)
+        ∙ ap (λ (b : Bool). let x : GroupNode = record middle { loose = b } in x) (sym returns.loose)
+
     -- ---- the group has none
 
     pub plain_again : (s : GroupSet R g) → s ≡ (let x : GroupSet R g = record { site = Up laid; cut = None } in x) → laid.core.inner.config.rvg ≡ None → PlainAgain n note (Down idle) s
@@ -544,16 +555,12 @@ module _ {R : Type 0} {g : Ghosts R} (racks : (s : Shade R) → IsRack (shade_me
             }
             by_end (inr it) = absurd (never_fused it.1)
 
-        -- the log was there before
-        left_here : (P : Type 0) → ((state : State) (session stamp : ℕ) → state ≡ state_with n beside.links → P) → P
-        left_here P by_state = by_state (state_with n beside.links) n.session (most_header beside n) refl
-
         lost_cause : (why : No) → StartsOn (units_of n) laid mid (Err why) → LostAgain beside n note (Down idle) s (Refused why)
         lost_cause (Device disk) it =
-            let then = starting_in racks laws beside n idle laid brings told rests settles rested.0 rested.1 ready_down mid since only fell.fell fell.is it.does.1 in
+            let begun = starting_in racks laws beside n idle laid brings told rests settles rested.0 rested.1 ready_down mid since only fell.fell fell.is it.does.1 in
             let rose : Rose ((idle_disks idle).disk_faults disk) ((laid_disks mid).disk_faults disk) = Rose_before ((idle_disks idle).disk_faults disk) ((laid_disks laid).disk_faults disk) ((laid_disks mid).disk_faults disk) (by.since.counts disk) it.does.2 in
-            lost_by then.0 then.1 then.2 (Refused (Device disk)) (
-              then.1,
+            lost_by begun.0 begun.1 begun.2 (Refused (Device disk)) (
+              begun.1,
               subst (λ (e : GroupSite R g). Rose ((idle_disks idle).disk_faults disk) ((site_disks e).disk_faults disk)) (sym at) (subst (λ (x : ℕ). Rose ((idle_disks idle).disk_faults disk) x) (sym (counts_down disk)) rose),
             )
         lost_cause (Limit what most) it =
@@ -577,24 +584,15 @@ module _ {R : Type 0} {g : Ghosts R} (racks : (s : Shade R) → IsRack (shade_me
           let has = off.starts.does.2.each (state_with n beside.links) n.session (most_header beside n) with.held with.left in
           never_both (is_alone off.core.log.header.state) (ap (λ (x : State). is_alone x) has.0 ∙ stands_alone n beside.links over.5 over.4 quiet) off.linked
 
-      -- the import left the configuration sure
-      sure_here : is_sure laid.core ≡ true
-      sure_here = sure_by laid.core.inner.committed laid.core.held (group_here.at.lies.committed returns.loose returns.begun) (group_here.at.lies.images.free returns.loose returns.begun)
-
-      ground_same : note_ground (noted_config laid.core.inner.config) laid.core middle ≡ middle
-      ground_same =
-          ap (λ (b : Bool). let x : GroupNode = record middle { config = noted_config laid.core.inner.config; begun = if b then [] else noted_config laid.core.inner.config ∷ middle.begun; loose = not b } in x) sure_here
-          ∙ ap (λ (c : List ℕ). let x : GroupNode = record middle { config = c; begun = []; loose = false } in x) (sym group_here.at.lies.config)
-          ∙ ap (λ (b : List (List ℕ)). let x : GroupNode = record middle { begun = b; loose = false } in x) (sym returns.begun)
-          ∙ ap (λ (b : Bool). let x : GroupNode = record middle { loose = b } in x) (sym returns.loose)
-
       -- behind no call the note is the same
       abbrev no_moved : NotesWorked (came_with (burned n.fuse) middle n) middle (Up laid) (Up laid)
       no_moved =
           moved racks n middle (burned n.fuse) (units_of n) laid laid inside_middle named_middle group_here (ground_none (ground_state laid.core) (laid_disks laid)) (since_none (laid_disks laid)) (λ below. below) (still (LogBlocks (units_of n)) Anything (laid_volumes laid))
 
       no_work : no_moved.0 ≡ middle
-      no_work = none_moved racks n middle (burned n.fuse) (units_of n) laid inside_middle named_middle group_here ∙ ground_same
+      no_work =
+          moved_is racks n middle (burned n.fuse) (units_of n) laid laid inside_middle named_middle group_here (ground_none (ground_state laid.core) (laid_disks laid)) (since_none (laid_disks laid)) (λ below. below) (still (LogBlocks (units_of n)) Anything (laid_volumes laid))
+          ∙ ground_same
 
       lost_tried : (mid : Laid R g) (last : Idle R g) (fell : FellBack mid last) (s : OverSet R g) → site_in s ≡ Down last → s.cut ≡ cut → (stop : Stop) → TriedOn (units_of n) laid mid stop → LostAgain beside n note (Down idle) s stop
       lost_tried mid last fell s at cuts (Refused why) (inl it) = lost_cause mid last fell s at cuts it.ground it.since it.told it.does.0 why it
@@ -604,3 +602,162 @@ module _ {R : Type 0} {g : Ghosts R} (racks : (s : Shade R) → IsRack (shade_me
           (λ back. lost_by laid last back s at cuts (ground_none (ground_state laid.core) (laid_disks laid)) (since_none (laid_disks laid)) (λ below. below) (still (LogBlocks (units_of n)) Anything (laid_volumes laid)) n.session (inl refl)
           (still_in racks laws beside n idle laid brings told rests settles rested.0 rested.1 ready_down laid (since_none (laid_disks laid)) (still (LogBlocks (units_of n)) Anything (laid_volumes laid)) back.fell back.is (λ u b v left. left)) OutOfMemory (refl, no_work))
           fell
+
+    -- ---- it is not known what they hold
+
+    module _ (untold : IsTrue (laid_disks laid).tells → ⊥) where
+      -- the replicated volume group that was found came up
+
+      pub found_again : (u : Units) → laid.core.inner.config.rvg ≡ Some u → (s : OverSet R g) → Started u laid s → FoundAgain beside n note (Down idle) s
+      found_again u has s started =
+          let site : Node = returned_with middle (record (below_rvg n) { group = Some ready }) in
+          let it = found_over_set laws n site middle u laid s recovered.2 has untold started refl refl (burned_twice n.fuse) returns.cut beside over.1 over.4 in
+          record {
+            laid = laid;
+            group = came;
+            over = it.0;
+            less = found_less laws n site middle u laid s recovered.2 has untold started refl refl (burned_twice n.fuse) returns.cut note it.0.next it.1 known;
+            to = λ k. subst (λ (e : GroupSite R g). (laid_disks laid).disk_faults k ≤ (site_disks e).disk_faults k) (sym started.site) (started.starts.since.counts k);
+          }
+
+      -- or it was refused
+
+      module _ (u : Units) (mid : Laid R g) (last : Idle R g) (fell : FellBack mid last) (s : OverSet R g) (at : site_in s ≡ Down last) (cuts : s.cut ≡ cut) (stop : Stop) (tried : TriedOn u laid mid stop) where
+        went : Went laid mid
+        went = went_on u laid mid stop tried
+
+        last_tells : (idle_disks last).tells ≡ false
+        last_tells =
+            not_true (idle_disks last).tells
+            (λ told. untold (sym went.since.tells ∙ sym fell.is.stopped.tells ∙ sym (ap (λ (x : Shade R). (shade_meaning g.meaning x).tells) fell.rack) ∙ told))
+
+        none : TellsNone (idle_disks last)
+        none = record { tells = last_tells; leaves = λ v b x left. (laws last.rack).none last_tells v b x left }
+
+        below_laid : IsTrue (idle_below last).tells → IsTrue (laid_below laid).tells
+        below_laid below = went.told (fell.is.told (subst (λ (x : Shade R). IsTrue (g.meaning (rack_of x)).tells) fell.rack below))
+
+        stopped : AreStopped (idle_disks last)
+        stopped = subst (λ (x : Shade R). AreStopped (shade_meaning g.meaning x)) (sym fell.rack) (record { down = fell.is.stopped.down; unarmed = fell.is.stopped.unarmed })
+
+        counts_last : (d : ℕ) → (idle_disks last).disk_faults d ≡ (laid_disks mid).disk_faults d
+        counts_last d = ap (λ (x : Shade R). (shade_meaning g.meaning x).disk_faults d) fell.rack ∙ fell.is.stopped.counts.disk_faults d
+
+        -- imports agree where the start wanted memory
+        agreed_by : (b : Bool) → is_dark fell.fell.rack ≡ b → stop ≡ OutOfMemory → last.agreed ≡ true
+        agreed_by true dim is = fell.void dim
+        agreed_by false lit is =
+            let same : mid ≡ laid = subst (λ (x : Stop). TriedOn u laid mid x) is tried in
+            fell.agreed lit ∙ fell.is.agreed ∙ ap (λ (x : Laid R g). is_sure x.core) same ∙ sure_here
+
+        off_never : IsTrue (laid_disks mid).down → ⊥
+        off_never off = never_fused (fell_fused (burned n.fuse) (laid_disks laid) (laid_disks mid) group_here.fuse group_here.at.up went.since.safe off)
+
+        why_untold : (x : Stop) → TriedOn u laid mid x → ImportWhy (IsTrue (idle_disks last).tells) (KnownAway (IsTrue (idle_disks last).tells) ready) (idle_ready idle) (idle_disks last) x
+        why_untold (Refused why) it =
+            why_tried u laid mid (idle_ready idle) (idle_disks last) (λ d. let same = (imported_same (Down idle)).counts d in let le = by.since.counts d in omega (arith, same, le)) counts_last (IsTrue (idle_disks last).tells) (KnownAway (IsTrue (idle_disks last).tells) ready)
+            (λ told. never_both (idle_disks last).tells told last_tells) (λ sure. never_both (idle_disks last).tells sure.0 last_tells) why (λ is. off_never (off_tried u laid mid why (ap (λ (x : No). stops_down (Refused x)) is) it)) it
+        why_untold OutOfMemory it = tt
+
+        pub held_untold : HeldStill beside n note (Down idle) s stop
+        held_untold = record {
+          loosens = not last.agreed;
+          dims = not idle.agreed;
+          loose = λ is below. known (dark_here (below_laid (subst (λ (e : GroupSite R g). IsTrue (site_below e).tells) at below)) untold);
+          dimmed = λ dims early below. inr (dim_loose idle.agreed note.loose down.agrees dims);
+          short = λ is. (ap not (agreed_by (is_dark fell.fell.rack) refl is), λ dims. inl (dim_loose idle.agreed note.loose down.agrees dims));
+          why = subst (λ (e : GroupSite R g). ImportWhy (IsTrue (site_disks e).tells) (KnownAway (IsTrue (site_disks e).tells) ready) (idle_ready idle) (site_disks e) stop) (sym at) (why_untold stop tried);
+          noted = held_noted (not last.agreed) (not idle.agreed) s last at (ap (λ (o : Option CutWrite). cut_value o) cuts)
+              (held_down (below_rvg n) note idle.agreed (idle_below idle).tells (idle_disks idle) down (not last.agreed) (not idle.agreed) (idle_below last).tells last.agreed (idle_disks last) (λ tight. true_by last.agreed tight) none stopped
+              (ap (λ (x : Shade R). (shade_meaning g.meaning x).units) fell.rack ∙ fell.is.stopped.units ∙ went.since.units ∙ by.since.units)
+              (λ v. ap (λ (x : Shade R). (shade_meaning g.meaning x).size v) fell.rack ∙ fell.is.stopped.size v ∙ went.since.size v ∙ by.since.size v)
+              (λ lit below. absurd (untold (group_here.lit (returns.dark ∙ lit) (below_laid below)))))
+              (record { each = λ i x each is. absurd (none.leaves 0 0 (i 0 0) ((ready_under last.agreed last.rack).leaves 0 0 (i 0 0) (each 0 0))) });
+          stands = as_rest (note_held (not last.agreed) (not idle.agreed) note) s
+              (fell_dim beside n (Some (note_held (not last.agreed) (not idle.agreed) note)) (sym same_units) (λ is. never_none is) (λ c. FellOver c beside n (idle_ready idle)) (idle_ready idle) rests over last
+              (λ told. never_both (idle_disks last).tells ((ready_under last.agreed last.rack).tells told) last_tells) laws s (fell_site s.site last at));
+        }
+
+    -- ---- by what came of it
+
+    same_units_of : (u : Units) → laid.core.inner.config.rvg ≡ Some u → IsTrue (laid_disks laid).tells → u ≡ units_of n
+    same_units_of u has told = same_Some u (units_of n) (sym has ∙ (names_found told).0)
+
+    started_by : (u : Units) → laid.core.inner.config.rvg ≡ Some u → (s : OverSet R g) → Started u laid s → (b : Bool) → (laid_disks laid).tells ≡ b → OverRises beside n note (Down idle) (Over s) (Ok tt)
+    started_by u has s started true told = RisesAgain s refl refl (rose_again told s (subst (λ (x : Units). Started x laid s) (same_units_of u has told) started))
+    started_by u has s started false dim = RisesFound s refl refl (found_again (λ told. never_both (laid_disks laid).tells told dim) u has s started)
+
+    failed_by : (u : Units) → laid.core.inner.config.rvg ≡ Some u → (s : OverSet R g) (stop : Stop) → StartFails u laid cut s stop → (b : Bool) → (laid_disks laid).tells ≡ b → OverRises beside n note (Down idle) (Over s) (Err stop)
+    failed_by u has s stop off true told = RisesLost s stop refl refl (lost_tried told off.mid off.idle off.fell s off.site off.cut_is stop (subst (λ (x : Units). TriedOn x laid off.mid stop) (same_units_of u has told) off.tried))
+    failed_by u has s stop off false dim = RisesHeld s stop refl refl (held_untold (λ told. never_both (laid_disks laid).tells told dim) u off.mid off.idle off.fell s off.site off.cut_is stop off.tried)
+
+    start_in : (u : Units) → laid.core.inner.config.rvg ≡ Some u → (new : DiskSet R g) (r : Result (Unit {0}) Stop) → StartsOver u laid cut new r → OverRises beside n note (Down idle) new r
+    start_in u has (Bare rack) r it = absurd it
+    start_in u has (Spoiled rack) r it = absurd it
+    start_in u has (UpSet rvg) r it = absurd it
+    start_in u has (Receives s) r it = absurd it
+    start_in u has (DownSet rack) r it = absurd it
+    start_in u has (OfGroup s) r it = absurd it
+    start_in u has (Over s) (Ok done) it = started_by u has s it (laid_disks laid).tells refl
+    start_in u has (Over s) (Err stop) it = failed_by u has s stop it (laid_disks laid).tells refl
+    start_in u has GoneSet r it = absurd it
+
+    start_units : (o : Option Units) → laid.core.inner.config.rvg ≡ o → (new : DiskSet R g) (r : Result (Unit {0}) Stop) → WithUnits o laid cut new r → OverRises beside n note (Down idle) new r
+    start_units None has new r it = let s : GroupSet R g = record { site = Up laid; cut = None } in RisesPlain s it.0 it.1 (plain_again s refl has)
+    start_units (Some u) has new r it = start_in u has new r it
+
+  refused_in : (now : Idle R g) (stop : Stop) → BroughtBy (Down idle) (Down now) (Err stop) → (new : DiskSet R g) (r : Result (Unit {0}) Stop) → BehindImport (Down now) cut new (Err stop) r → OverRises beside n note (Down idle) new r
+  refused_in now stop by (Bare rack) r behind = absurd behind.0
+  refused_in now stop by (Spoiled rack) r behind = absurd behind.0
+  refused_in now stop by (UpSet rvg) r behind = absurd behind.0
+  refused_in now stop by (Receives s) r behind = absurd behind.0
+  refused_in now stop by (DownSet rack) r behind = absurd behind.0
+  refused_in now stop by (OfGroup s) r behind = absurd behind.0
+  refused_in now stop by (Over s) r behind = RisesHeld s stop refl behind.2 (held_refused now stop by s behind.0 behind.1)
+  refused_in now stop by GoneSet r behind = absurd behind.0
+
+  rises_behind : (mid : GroupSite R g) (answer : Result (Unit {0}) Stop) → BroughtBy (Down idle) mid answer → (new : DiskSet R g) (r : Result (Unit {0}) Stop) → BehindImport mid cut new answer r → OverRises beside n note (Down idle) new r
+  rises_behind (Up laid) (Ok done) by new r behind = start_units laid by laid.core.inner.config.rvg refl new r behind
+  rises_behind (Deported x) (Ok done) by new r behind = let it = by.recovered (below_rvg n) note down in absurd it.2
+  rises_behind (Down x) (Ok done) by new r behind = let it = by.recovered (below_rvg n) note down in absurd it.2
+  rises_behind (Marked rack) (Ok done) by new r behind = let it = by.recovered (below_rvg n) note down in absurd it.2
+  rises_behind Gone (Ok done) by new r behind = let it = by.recovered (below_rvg n) note down in absurd it.2
+  rises_behind (Up laid) (Err stop) by new r behind = let it = by.recovered (below_rvg n) note down in absurd it.0
+  rises_behind (Deported x) (Err stop) by new r behind = let it = by.recovered (below_rvg n) note down in absurd it.0
+  rises_behind (Down now) (Err stop) by new r behind = refused_in now stop by new r behind
+  rises_behind (Marked rack) (Err stop) by new r behind = let it = by.recovered (below_rvg n) note down in absurd it.0
+  rises_behind Gone (Err stop) by new r behind = let it = by.recovered (below_rvg n) note down in absurd it.0
+
+-- ---- any site that is down
+
+module _ {R : Type 0} {g : Ghosts R} (racks : (s : Shade R) → IsRack (shade_meaning g.meaning s)) (laws : (s : Shade R) → Lawful (shade_meaning g.meaning s)) (beside : KeptBeside) (n : Node) (note : GroupNode) (group : n.group ≡ Some note) (state : n.state ≡ IsDown) (quiet : n.phase ≡ Quiet) where
+  by_site : (x : OverSite R g) (cut : Option CutWrite) → IsOverSite beside n → OverStands beside n x → NotedOn (below_rvg n) note (below_site x) → cut_value cut ≡ note.cut → InsideOf (units_of n) note → TidyNote (units_of n) note → RestsNamed (units_of n) (length (entries_noted note)) (below_site x)
+      → (new : DiskSet R g) (r : Result (Option CutWrite) Stop) (it : RaisesOver (below_site x) cut new r) → OverRises beside n note (below_site x) new it.started
+  by_site (OriginSite f) cut over stands noted cut_is inside tidy names new r it = absurd (let clash : IsUp ≡ IsDown = sym stands.state ∙ state in cc)
+  by_site (ReceiverSite f) cut over stands noted cut_is inside tidy names new r it = absurd (let clash : IsUp ≡ IsDown = sym stands.state ∙ state in cc)
+  by_site (GroupAway idle) cut over stands noted cut_is inside tidy names new r it = absurd (let clash : IsAway ≡ IsDown = sym stands.0 ∙ state in cc)
+  by_site (GroupFell idle) cut over stands noted cut_is inside tidy names new r it =
+      rises_behind racks laws beside n note idle cut group state quiet over stands.1 stands.2 stands.3 noted cut_is inside tidy names it.mid it.answer it.by new it.started it.behind
+  by_site NoGroup cut over stands noted cut_is inside tidy names new r it = absurd stands
+
+  recovers_one : (o : OverSet R g) (new : DiskSet R g) (r : Result (Option CutWrite) Stop) → RaisesOver (site_in o) o.cut new r → SiteStands beside n (Over o) → SiteNoted n note (Over o) → RaisedOver beside n note o new r
+  recovers_one o new r it stands noted = record {
+    answer = it.started;
+    hands = it.is;
+    rises = by_site o.site o.cut stands.0 stands.1 noted.0 noted.1 noted.2 noted.3 noted.4 new r it;
+  }
+
+module _ {R : Type 0} {g : Ghosts R} where
+  pub recovers_over : ((s : Shade R) → IsRack (shade_meaning g.meaning s)) → ((s : Shade R) → Lawful (shade_meaning g.meaning s)) → (o : OverSet R g) (new : DiskSet R g) (r : Result (Option CutWrite) Stop) → RaisesOver (site_in o) o.cut new r → RaisesAbove (Over o) new r
+  recovers_over racks laws o new r it = λ beside n note group state quiet stands noted. recovers_one racks laws beside n note group state quiet o new r it stands noted
+
+  -- of other disks nothing is said
+  pub recovers_rest : (e new : DiskSet R g) (r : Result (Option CutWrite) Stop) → ((s : OverSet R g) → e ≡ Over s → ⊥) → RaisesAbove e new r
+  recovers_rest (Bare rack) new r never = tt
+  recovers_rest (Spoiled rack) new r never = tt
+  recovers_rest (UpSet rvg) new r never = tt
+  recovers_rest (Receives s) new r never = tt
+  recovers_rest (DownSet rack) new r never = tt
+  recovers_rest (OfGroup s) new r never = tt
+  recovers_rest (Over s) new r never = absurd (never s refl)
+  recovers_rest GoneSet new r never = tt

@@ -5,7 +5,7 @@ use Rattle.vx_untold.specs.Shades.{shade_lawful, shade_rack}
 use Rattle.vx_grouped.specs.Begins.{group_begun}
 use Rattle.vx_grouped.specs.Finds.{FindStops, FindsUp, FoundSince, FoundTells}
 use Rattle.vx_grouped.specs.GroupSites.{site_disks, site_below}
-use Rattle.vx_diskset.proofs.FoundOvers.{found_over_set}
+use Rattle.vx_diskset.proofs.FoundOvers.{dark_untold, found_over_set}
 use Rattle.vx_diskset.proofs.GroupCalling.{rises_returned}
 use Rattle.vx_diskset.proofs.GroupFinding.{back_failing, back_later, finds_with, starts_failing, starts_later}
 use Rattle.vx_diskset.proofs.group_finds.find_on.Goals as goal
@@ -17,7 +17,7 @@ returns-in-Ok-clause-found g c = λ n can.
     let racks = shade_rack g.R.Shelf.meaning is_rack in
     finds_with racks c.args.site n c.args.rack can
     (λ laid units s up has dark started beside sure unlinked.
-    (found_over_set (shade_lawful g.R.Shelf.meaning lawful) n (group_begun up.0 c.args.site n) up.0 units laid s up.4 has dark started refl refl refl up.2.cut beside sure unlinked).0)
+    (found_over_set (shade_lawful g.R.Shelf.meaning lawful) n (group_begun up.0 c.args.site n) up.0 units laid s up.4 has (dark_untold g.R.Shelf.meaning laid.shelf dark) started refl refl refl up.2.cut beside sure unlinked).0)
     c.in-Ok.group c.found_with.result.0 c.found_with.result.1 (subst (λ r. FindsUp c.args.site n r) c.in-Ok.is (c.find_group.ensures.found n can))
     (subst (λ r. FoundSince (g.R.Shelf.meaning c.args.rack) (λ x. g.R.Shelf.meaning x) (λ e. site_disks e) r) c.in-Ok.is c.find_group.ensures.since) c.found_with.ensures
 
