@@ -14,7 +14,7 @@ ghost use Rattle.vx_watched.specs.Since.{CalledSince};
 ghost use Rattle.vx_diskset.specs.Asked.{FuseGoesOn, SameFailing};
 ghost use Rattle.vx_diskset.specs.DiskSets.{Later};
 ghost use Rattle.vx_diskset.specs.Aboves.{site_in};
-ghost use Rattle.vx_diskset.specs.OverRises.{LooksOver};
+ghost use Rattle.vx_diskset.specs.OverRises.{LooksOver, RaisesAbove};
 ghost use Rattle.vx_diskset.specs.OverStarts.{HandsOut, ImportsBy, ImportsIn, RaisesBy, RaisesIn, RaisesOver};
 ghost use Rattle.vx_diskset.specs.GroupCalls.{AtFound, AtPlain, AtSite, ImportsOn, InitIs, OnSites, cut_behind as cut_behind_of, cut_in};
 ghost use Rattle.vx_diskset.specs.Holds.{KeptBeside};
@@ -270,6 +270,7 @@ impl<R: Rack> DiskSet<R> {
         ensures raised { (n : Node) (note : GroupNode) → AtSite (DownNoted n note) self → RaisesGroup n note self result.0 result.1 }
         ensures maps { (n : Node) (note : GroupNode) → AtSite (DownNoted n note) self → RaisesMaps self result.0 result.1 }
         ensures brought { RaisesIn self result.0 result.1 }
+        ensures above { RaisesAbove self result.0 result.1 }
         ensures failing { SameFailing self result.0 }
         ensures later { Later self result.0 }
     {

@@ -7,7 +7,10 @@ use Rattle.vx_diskset.proofs.GroupCalling.{at_sites}
 use Rattle.vx_diskset.proofs.OverImports.{raise_rises, raise_tells}
 use Rattle.vx_diskset.proofs.OverRisen.{over_failing, over_later}
 use Rattle.vx_diskset.proofs.GroupRising.{rise_failing, rise_later}
+use Rattle.vx_untold.specs.Shades.{shade_lawful, shade_rack}
+use Rattle.vx_diskset.specs.OverRises.{RaisesAbove}
 use Rattle.vx_diskset.specs.OverStarts.{RaisesIn}
+use Rattle.vx_diskset.proofs.OverRecovers.{recovers_over, recovers_rest}
 use Rattle.vx_diskset.proofs.PlainImports.{raises_rest}
 use Rattle.vx_diskset.proofs.disk_set.DiskSet.raise_group.Goals as goal
 
@@ -50,3 +53,15 @@ returns-in-Over-clause-later g c =
 
 pub returns-in_default-clause-brought : goal.returns-in_default-clause-brought
 returns-in_default-clause-brought g c = raises_rest c.args.self c.args.self _ c.in_default.not-OfGroup c.in_default.not-Over
+
+pub returns-in-OfGroup-clause-above : goal.returns-in-OfGroup-clause-above
+returns-in-OfGroup-clause-above g c = subst (λ x. RaisesAbove x c.raise_in.result.0 c.raise_in.result.1) (sym c.in-OfGroup.is) tt
+
+pub returns-in-Over-clause-above : goal.returns-in-Over-clause-above
+returns-in-Over-clause-above g c =
+    let laws = shade_lawful g.R.Shelf.meaning (g.met.R.Shelf g.world.𝓛 g.world.𝓜 g.world.𝓡 ((λ s x. x), (λ x. x), (λ x. x), λ x. x)).lawful in
+    let racks = shade_rack g.R.Shelf.meaning (g.met.R.Rack g.world.𝓛 g.world.𝓜 g.world.𝓡 ((λ s x. x), (λ x. x), (λ x. x), λ x. x)).rack in
+    subst (λ x. RaisesAbove x c.raise_over.result.0 c.raise_over.result.1) (sym c.in-Over.is) (recovers_over racks laws c.in-Over.over c.raise_over.result.0 c.raise_over.result.1 c.raise_over.ensures.brought)
+
+pub returns-in_default-clause-above : goal.returns-in_default-clause-above
+returns-in_default-clause-above g c = recovers_rest c.args.self c.args.self _ c.in_default.not-Over
