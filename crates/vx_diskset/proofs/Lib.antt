@@ -26,6 +26,7 @@ pub mod OverDisks
 pub mod OverFalls
 pub mod OverFinds
 pub mod FoundOvers
+pub mod PlainRises
 pub mod OverFrames
 pub mod OverKept
 pub mod OverLikes

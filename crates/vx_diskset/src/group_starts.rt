@@ -8,13 +8,13 @@ ghost use Rattle.vx_grouped.specs.SiteReturns.{SiteImports};
 ghost use Rattle.vx_grouped.specs.Volumes.{SiteGoes};
 ghost use Rattle.vx_history.specs.Groups.{GroupNode};
 ghost use Rattle.vx_history.specs.World.{Node};
-ghost use Rattle.vx_model.specs.declared.site.SiteState.TheVariants.{Bare as BareState};
+ghost use Rattle.vx_model.specs.declared.site.SiteState.TheVariants.{Bare as BareState, Deported as AwayState, Down as DownState};
 ghost use Rattle.vx_model.specs.declared.limits.TheConstants.{LEAST_GROUP_BLOCKS};
 ghost use Rattle.vx_watched.specs.Since.{CalledSince};
 ghost use Rattle.vx_diskset.specs.Asked.{FuseGoesOn, SameFailing};
 ghost use Rattle.vx_diskset.specs.DiskSets.{Later};
 ghost use Rattle.vx_diskset.specs.Aboves.{site_in};
-ghost use Rattle.vx_diskset.specs.OverRises.{LooksOver, RaisesAbove};
+ghost use Rattle.vx_diskset.specs.OverRises.{FindsOver, LooksOver, RaisesAbove};
 ghost use Rattle.vx_diskset.specs.OverStarts.{HandsOut, ImportsBy, ImportsIn, RaisesBy, RaisesIn, RaisesOver};
 ghost use Rattle.vx_diskset.specs.GroupCalls.{AtFound, AtPlain, AtSite, ImportsOn, InitIs, OnSites, cut_behind as cut_behind_of, cut_in};
 ghost use Rattle.vx_diskset.specs.Holds.{KeptBeside};
@@ -254,6 +254,7 @@ impl<R: Rack> DiskSet<R> {
         ensures maps { (n : Node) (note : GroupNode) → AtSite (AwayNoted n note) self → ImportsOn (λ o e. CameMapped o e result.1) self result.0 }
         ensures cut { cut_in result.0 ≡ cut_past result.1 self }
         ensures brought { ImportsIn self result.0 result.1 }
+        ensures found { (beside : KeptBeside) (n : Node) (note : GroupNode) → SiteStands beside n self → n.group ≡ Some note → n.state ≡ AwayState → FindsOver beside n note self result.0 }
         ensures fuse { (n : Node) (note : GroupNode) → AtSite (AwayNoted n note) self → FuseGoesOn self result.0 }
         ensures failing { SameFailing self result.0 }
         ensures later { Later self result.0 }
@@ -271,6 +272,7 @@ impl<R: Rack> DiskSet<R> {
         ensures maps { (n : Node) (note : GroupNode) → AtSite (DownNoted n note) self → RaisesMaps self result.0 result.1 }
         ensures brought { RaisesIn self result.0 result.1 }
         ensures above { RaisesAbove self result.0 result.1 }
+        ensures found { (beside : KeptBeside) (n : Node) (note : GroupNode) → SiteStands beside n self → n.group ≡ Some note → n.state ≡ DownState → FindsOver beside n note self result.0 }
         ensures failing { SameFailing self result.0 }
         ensures later { Later self result.0 }
     {

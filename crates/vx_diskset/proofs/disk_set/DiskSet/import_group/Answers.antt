@@ -13,9 +13,12 @@ use Rattle.vx_diskset.proofs.GroupRising.{imported_settled, rise_failing, rise_f
 use Rattle.vx_diskset.proofs.KeepsFailing.{failing_same}
 use Rattle.vx_diskset.proofs.OverMaking.{fuse_rest}
 use Rattle.vx_diskset.proofs.PlainImports.{import_settles, imports_none, imports_rest}
-use Rattle.vx_untold.specs.Shades.{shade_rack}
+use Rattle.vx_diskset.proofs.PlainRises.{finds_away, finds_rest}
+use Rattle.vx_untold.specs.Shades.{shade_lawful, shade_rack}
 use Rattle.vx_grouped.specs.SiteMaps.{CameMapped}
+use Rattle.vx_diskset.specs.OverRises.{FindsOver}
 use Rattle.vx_diskset.specs.OverStarts.{ImportsIn}
+use Rattle.vx_diskset.specs.Stands.{SiteStands}
 use Rattle.vx_diskset.proofs.disk_set.DiskSet.import_group.Goals as goal
 
 pub returns-in-OfGroup-clause-imported : goal.returns-in-OfGroup-clause-imported
@@ -67,3 +70,12 @@ returns-in_default-clause-failing g c = failing_same c.args.self
 
 pub returns-in_default-clause-brought : goal.returns-in_default-clause-brought
 returns-in_default-clause-brought g c = imports_none c.args.self c.args.self _ c.in_default.not-OfGroup
+
+pub returns-in-OfGroup-clause-found : goal.returns-in-OfGroup-clause-found
+returns-in-OfGroup-clause-found g c = λ beside n note stands group away.
+    let laws = shade_lawful g.R.Shelf.meaning (g.met.R.Shelf g.world.𝓛 g.world.𝓜 g.world.𝓡 ((λ s x. x), (λ x. x), (λ x. x), λ x. x)).lawful in
+    subst (λ x. FindsOver beside n note x c.import_in.result.0) (sym c.in-OfGroup.is)
+    (finds_away laws beside n note c.in-OfGroup.group (subst (λ x. SiteStands beside n x) c.in-OfGroup.is stands) group c.import_in.result.0 c.import_in.result.1 away c.import_in.ensures.brought)
+
+pub returns-in_default-clause-found : goal.returns-in_default-clause-found
+returns-in_default-clause-found g c = λ beside n note stands group away. finds_rest beside n note c.args.self c.args.self c.in_default.not-OfGroup

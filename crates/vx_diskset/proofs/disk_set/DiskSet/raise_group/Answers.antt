@@ -8,10 +8,12 @@ use Rattle.vx_diskset.proofs.OverImports.{raise_rises, raise_tells}
 use Rattle.vx_diskset.proofs.OverRisen.{over_failing, over_later}
 use Rattle.vx_diskset.proofs.GroupRising.{rise_failing, rise_later}
 use Rattle.vx_untold.specs.Shades.{shade_lawful, shade_rack}
-use Rattle.vx_diskset.specs.OverRises.{RaisesAbove}
+use Rattle.vx_diskset.specs.OverRises.{FindsOver, RaisesAbove}
 use Rattle.vx_diskset.specs.OverStarts.{RaisesIn}
+use Rattle.vx_diskset.specs.Stands.{SiteStands}
 use Rattle.vx_diskset.proofs.OverRecovers.{recovers_over, recovers_rest}
 use Rattle.vx_diskset.proofs.PlainImports.{raises_rest}
+use Rattle.vx_diskset.proofs.PlainRises.{finds_down, finds_rest}
 use Rattle.vx_diskset.proofs.disk_set.DiskSet.raise_group.Goals as goal
 
 pub returns-in-OfGroup-clause-raised : goal.returns-in-OfGroup-clause-raised
@@ -65,3 +67,15 @@ returns-in-Over-clause-above g c =
 
 pub returns-in_default-clause-above : goal.returns-in_default-clause-above
 returns-in_default-clause-above g c = recovers_rest c.args.self c.args.self _ c.in_default.not-Over
+
+pub returns-in-OfGroup-clause-found : goal.returns-in-OfGroup-clause-found
+returns-in-OfGroup-clause-found g c = λ beside n note stands group down.
+    let laws = shade_lawful g.R.Shelf.meaning (g.met.R.Shelf g.world.𝓛 g.world.𝓜 g.world.𝓡 ((λ s x. x), (λ x. x), (λ x. x), λ x. x)).lawful in
+    subst (λ x. FindsOver beside n note x c.raise_in.result.0) (sym c.in-OfGroup.is)
+    (finds_down laws beside n note c.in-OfGroup.group (subst (λ x. SiteStands beside n x) c.in-OfGroup.is stands) group c.raise_in.result.0 c.raise_in.ensures.brought.answer down c.raise_in.ensures.brought.by)
+
+pub returns-in-Over-clause-found : goal.returns-in-Over-clause-found
+returns-in-Over-clause-found g c = λ beside n note stands group down. subst (λ x. FindsOver beside n note x c.raise_over.result.0) (sym c.in-Over.is) tt
+
+pub returns-in_default-clause-found : goal.returns-in_default-clause-found
+returns-in_default-clause-found g c = λ beside n note stands group down. finds_rest beside n note c.args.self c.args.self c.in_default.not-OfGroup
