@@ -1,6 +1,6 @@
 -- A replicated volume group that was found over a group of disks of which nothing is told: it stands by itself.
-use Rattle.std.proofs.Common.{◌≡◌, ◌∙◌, ◌⊎◌, inl, inr, ℕ, ◌<◌, ◌≤◌, Bool, true, false, List, length, IsFalse, IsTrue, ap, arith, refl, subst, sym}
-use Rattle.std.specs.Prelude.{◌||◌, ◌&&◌, None, Option, Some}
+use Rattle.std.proofs.Common.{◌≡◌, ◌∙◌, ◌⊎◌, inl, inr, ℕ, ◌<◌, ◌≤◌, true, false, List, length, IsFalse, IsTrue, ap, arith, refl, subst, sym}
+use Rattle.std.specs.Prelude.{◌&&◌, None, Option, Some}
 use Rattle.std.proofs.lemmas.Bool.{and_parts}
 use Rattle.vx_config.specs.Configs.{HasSpelling}
 use Rattle.vx_config.specs.declared.config.Config.{Config}
@@ -20,7 +20,7 @@ use Rattle.vx_grouped.specs.declared.laid.Laid.{Laid}
 use Rattle.vx_grouped.proofs.SpellLemmas.{spells_like}
 use Rattle.vx_history.specs.Groups.{BlockMay, GroupNode}
 use Rattle.vx_history.specs.Steps.{burned}
-use Rattle.vx_history.specs.World.{Fuse, Node}
+use Rattle.vx_history.specs.World.{Node}
 use Rattle.vx_kept.specs.Cleans.{at_serial}
 use Rattle.vx_model.proofs.Tests.{by_bool}
 use Rattle.vx_model.specs.Sites.{is_origin}

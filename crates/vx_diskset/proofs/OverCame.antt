@@ -11,7 +11,7 @@ use Rattle.vx_disk.specs.Shelf.{Each, Image, Keeps, Meaning}
 use Rattle.vx_events.specs.RvgNotes.{inside_of}
 use Rattle.vx_history.specs.World.{Node}
 use Rattle.vx_group.specs.Resumes.{stopped}
-use Rattle.vx_kept.specs.Groups.{found as finds, group_meaning}
+use Rattle.vx_kept.specs.Groups.{found as finds}
 use Rattle.vx_kept.specs.Keeping.{Extends}
 use Rattle.vx_kept.proofs.Low.{found_same}
 use Rattle.vx_group.specs.Holding.{wide}

@@ -1,5 +1,5 @@
 -- A replicated volume group that an import found over a group of disks, where contents are not told.
-use Rattle.std.proofs.Common.{◌≡◌, ◌∙◌, ℕ, ◌≤◌, true, List, [], length, IsTrue, ap, arith, refl, subst, sym}
+use Rattle.std.proofs.Common.{◌≡◌, ◌∙◌, ℕ, ◌≤◌, true, [], length, IsTrue, ap, arith, refl, subst, sym}
 use Rattle.std.specs.Prelude.{None, Option, Some}
 use Rattle.vx_config.specs.Checks.{blocks_of, is_group}
 use Rattle.vx_config.specs.declared.config.Config.{Config}

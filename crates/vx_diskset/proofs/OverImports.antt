@@ -19,7 +19,7 @@ use Rattle.vx_grouped.specs.declared.group_site.GroupSite.{GroupSite}
 use Rattle.vx_grouped.specs.declared.group_site.GroupSite.TheVariants.{Up, Deported, Down, Marked, Gone}
 use Rattle.vx_grouped.specs.declared.idle.Idle.{Idle}
 use Rattle.vx_grouped.specs.declared.laid.Laid.{Laid}
-use Rattle.vx_diskset.specs.Aboves.{AboveStays, site_in}
+use Rattle.vx_diskset.specs.Aboves.{AboveStays}
 use Rattle.vx_diskset.specs.GroupCalls.{AtOver, AtSite, cut_in}
 use Rattle.vx_diskset.specs.GroupSets.{cut_value}
 use Rattle.vx_diskset.specs.OverStarts.{BehindImport, BroughtBy, FellBack, HandsOut, RaisesOver, StartFails, Started, StartsOver, TriedOn, WithRvg, WithUnits}
@@ -29,7 +29,6 @@ use Rattle.vx_diskset.specs.declared.disk_set.DiskSet.{DiskSet}
 use Rattle.vx_diskset.specs.declared.disk_set.DiskSet.TheVariants.{Bare, Spoiled, Up as UpSet, Receives, Down as DownSet, OfGroup, Over, Gone as GoneSet}
 use Rattle.vx_diskset.specs.declared.group_set.CutWrite.{CutWrite}
 use Rattle.vx_diskset.specs.declared.group_set.GroupSet.{GroupSet}
-use Rattle.vx_diskset.specs.declared.over_set.OverSet.{OverSet}
 use Rattle.vx_diskset.proofs.GroupCalling.{never_set, rises_fell, rises_returned}
 
 -- ---- disks behind an import, and behind what followed

@@ -1,7 +1,7 @@
 -- What a recovery leaves of a site that is down, whose group of disks has a replicated volume group.
 use Rattle.std.proofs.Common.{◌≡◌, ◌∙◌, ◌⊎◌, inl, inr, ⊎_elim, ℕ, ◌+◌, ◌≤◌, Bool, true, false, List, [], ◌∷◌, length, not, IsTrue, ap, arith, refl, subst, sym}
 use Rattle.std.proofs.lemmas.Option.{same_Some}
-use Rattle.std.specs.Prelude.{◌&&◌, ◌||◌, Err, IsFalse, None, Ok, Option, Result, Some, if◌then◌else◌}
+use Rattle.std.specs.Prelude.{◌&&◌, ◌||◌, Err, None, Ok, Option, Result, Some, if◌then◌else◌}
 use Rattle.vx_config.specs.declared.config.Config.{Config}
 use Rattle.vx_disk.specs.Counts.{Rose}
 use Rattle.vx_disk.specs.Moves.{Anything}
@@ -15,17 +15,14 @@ use Rattle.vx_events.specs.RvgFits.{config_rvg, entries_noted, rvg_noted}
 use Rattle.vx_ground.specs.Accounts.{GroundSince, ground_state}
 use Rattle.vx_ground.specs.Lifted.{laid_volumes}
 use Rattle.vx_ground.proofs.AccountLemmas.{ground_none}
-use Rattle.vx_group.specs.Holding.{wide}
 use Rattle.vx_group.proofs.HoldLemmas.{wide_shape}
-use Rattle.vx_group.specs.declared.group_core.GroupCore.{GroupCore}
-use Rattle.vx_groupmaps.specs.Loading.{DeviceRose}
 use Rattle.vx_grouped.specs.Brings.{BringsSite}
 use Rattle.vx_grouped.specs.ConfigMoves.{LosesSome}
 use Rattle.vx_grouped.specs.GroupNotes.{is_sure, note_dimmed, noted_config}
 use Rattle.vx_grouped.specs.GroupSites.{AreStopped, CutNoted, DownNoted, GroupDown, GroupUp, IsLit, NotesGroup, UpNoted, dimmed_site, idle_below, idle_disks, laid_below, laid_disks, site_below, site_disks, with_note}
 use Rattle.vx_grouped.specs.Readies.{ready_of}
 use Rattle.vx_grouped.specs.SiteEnds.{ConfigGoes, stops_down}
-use Rattle.vx_grouped.specs.SiteReturns.{ConfigReturns, ImportWhy, KnownAway, NoteReturns, ReturnsUp, TellsNone, is_dimmed, returned_with, stops_early}
+use Rattle.vx_grouped.specs.SiteReturns.{ConfigReturns, ImportWhy, KnownAway, NoteReturns, ReturnsUp, TellsNone, returned_with, stops_early}
 use Rattle.vx_grouped.specs.declared.group_site.GroupSite.{GroupSite}
 use Rattle.vx_grouped.specs.declared.group_site.GroupSite.TheVariants.{Up, Deported, Down, Marked, Gone}
 use Rattle.vx_grouped.specs.declared.idle.Idle.{Idle}
@@ -45,7 +42,7 @@ use Rattle.vx_model.specs.Sites.{is_origin}
 use Rattle.vx_model.specs.declared.errors.Stop.{Stop}
 use Rattle.vx_model.specs.declared.errors.Stop.TheVariants.{No as Refused, OutOfMemory}
 use Rattle.vx_model.specs.declared.no.No.{No}
-use Rattle.vx_model.specs.declared.no.No.TheVariants.{Damaged, Device, Down as IsOff, Limit, NoConfig, Role as NoRole}
+use Rattle.vx_model.specs.declared.no.No.TheVariants.{Damaged, Device, Down as IsOff, Limit, NoConfig}
 use Rattle.vx_model.specs.declared.site.SPhase.{SPhase}
 use Rattle.vx_model.specs.declared.site.SPhase.TheVariants.{Quiet}
 use Rattle.vx_model.specs.declared.site.SiteState.{SiteState}
@@ -61,13 +58,12 @@ use Rattle.vx_watched.specs.Since.{CalledSince}
 use Rattle.vx_watched.specs.Traces.{TellsLess}
 use Rattle.vx_watched.proofs.SinceLemmas.{since_none}
 use Rattle.vx_diskset.specs.Aboves.{InsideOf, below_site, site_in}
-use Rattle.vx_diskset.specs.DiskSets.{no_number}
 use Rattle.vx_diskset.specs.Fuses.{FuseOn}
 use Rattle.vx_diskset.specs.GroupSets.{cut_value}
 use Rattle.vx_diskset.specs.Holds.{KeptBeside, most_header, state_with}
 use Rattle.vx_diskset.specs.Layouts.{config_units, units_by, units_of}
 use Rattle.vx_diskset.specs.Noted.{AgreesStill, FoundNamed, NotedOn, NotesWorked, RestsNamed, SiteNoted, TidyNote, below_rvg}
-use Rattle.vx_diskset.specs.OverRises.{CameGroup, CameOver, FoundAgain, HeldStill, KnowsLess, LostAgain, OverRises, PlainAgain, RaisedOver, RaisesAbove, RisesAgain, RisesFound, RisesHeld, RisesLost, RisesPlain, RoseAgain, SessionFrom, StartLost, came_with, note_held, note_ready, rest_in}
+use Rattle.vx_diskset.specs.OverRises.{CameGroup, CameOver, FoundAgain, HeldStill, LostAgain, OverRises, PlainAgain, RaisedOver, RaisesAbove, RisesAgain, RisesFound, RisesHeld, RisesLost, RisesPlain, RoseAgain, SessionFrom, StartLost, came_with, note_held, rest_in}
 use Rattle.vx_diskset.specs.OverStarts.{BehindImport, BroughtBy, FellBack, RaisesOver, StandsOff, StartFails, Started, StartsOn, StartsOver, TriedOn, WithUnits, all_latest, has_no_links, is_alone, is_dark, is_idle_phase}
 use Rattle.vx_diskset.specs.Stands.{FellOver, FellSettles, IsOverSite, OverStands, RestsOver, SiteStands, idle_ready}
 use Rattle.vx_diskset.specs.Works.{LogBlocks, OnlyLog}
@@ -91,7 +87,7 @@ use Rattle.vx_diskset.proofs.OverKept.{fell_site}
 use Rattle.vx_diskset.proofs.OverLikes.{over_like}
 use Rattle.vx_diskset.proofs.OverLost.{InSession, left_there, lost_stands, starting_in, still_in}
 use Rattle.vx_diskset.proofs.OverMoved.{inside_then, moved, moved_is, named_then, tidy_then, units_then, up_here}
-use Rattle.vx_diskset.proofs.OverNoted.{cut_down, note_read}
+use Rattle.vx_diskset.proofs.OverNoted.{note_read}
 use Rattle.vx_diskset.proofs.OverReturns.{fell_again, fell_session}
 use Rattle.vx_diskset.proofs.PlainBacks.{Went, fused_back, off_tried, went_on, why_tried}
 use Rattle.vx_diskset.proofs.StartGroup.{limit_same}

@@ -1,13 +1,12 @@
 -- How a replicated volume group stands over a group of disks behind its start, where contents are told.
-use Rattle.std.proofs.Common.{◌≡◌, ◌∙◌, inl, ℕ, ◌+◌, ◌-◌, ◌<◌, Bool, true, false, [], length, IsTrue, arith, refl, subst, sym}
-use Rattle.std.specs.Prelude.{◌≤◌, None, Some, if◌then◌else◌}
+use Rattle.std.proofs.Common.{◌≡◌, ◌∙◌, inl, ℕ, ◌+◌, ◌-◌, ◌<◌, true, [], length, IsTrue, arith, refl, subst, sym}
+use Rattle.std.specs.Prelude.{◌≤◌, None}
 use Rattle.vx_disk.specs.Shelf.{Image, Lawful, Meaning}
 use Rattle.vx_disk.specs.declared.shelf.Shelf.{Ghosts}
 use Rattle.vx_events.specs.GroupViews.{config_of}
 use Rattle.vx_events.specs.RvgNotes.{inside_of}
 use Rattle.vx_history.specs.Groups.{GroupNode}
 use Rattle.vx_history.specs.World.{Fuse, Node}
-use Rattle.vx_model.specs.Sites.{is_origin}
 use Rattle.vx_model.specs.declared.state.State.{State}
 use Rattle.vx_model.specs.declared.units.Units.{Units}
 use Rattle.vx_rvg.specs.Starts.{IsStarted, ring_in}

@@ -24,7 +24,6 @@ use Rattle.vx_grouped.specs.declared.group_site.GroupSite.TheVariants.{Up, Depor
 use Rattle.vx_grouped.specs.declared.idle.Idle.{Idle}
 use Rattle.vx_grouped.specs.declared.laid.Laid.{Laid}
 use Rattle.vx_grouped.proofs.SinceReturns.{dark_armed, return_ready}
-use Rattle.vx_diskset.specs.Aboves.{site_in}
 use Rattle.vx_diskset.specs.GroupCalls.{AtFound, AtSite, ImportsOn, cut_behind, cut_in}
 use Rattle.vx_diskset.specs.GroupSets.{cut_value}
 use Rattle.vx_diskset.specs.OverStarts.{BehindPlain, BroughtBy, DarkBack, FellDark, HandsOut, ImportsBy, ImportsIn, PlainFails, PlainStarts, PlainTried, PlainUnits, RaisesBy, RaisesIn, Started, WithPlain}

@@ -36,7 +36,7 @@ use Rattle.vx_watched.specs.Since.{CalledSince}
 use Rattle.vx_watched.specs.Traces.{TellsLess}
 use Rattle.vx_diskset.specs.Aboves.{above_in, site_in}
 use Rattle.vx_diskset.specs.Founded.{LaidFell}
-use Rattle.vx_diskset.specs.GroupCalls.{AtOver, cut_in}
+use Rattle.vx_diskset.specs.GroupCalls.{AtOver, cut_behind, cut_in}
 use Rattle.vx_diskset.specs.GroupSets.{cut_value}
 use Rattle.vx_diskset.specs.Works.{DoesStart}
 use Rattle.vx_diskset.specs.declared.above.Above.TheVariants.{Origin}
