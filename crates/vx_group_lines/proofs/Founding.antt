@@ -33,6 +33,7 @@ use Rattle.vx_diskset.specs.GroupCalls.{AtSite, bare_disks, core_in, cut_in}
 use Rattle.vx_diskset.specs.GroupFinds.{FindsIs, FoundApart, FoundIn, FoundUp}
 use Rattle.vx_diskset.specs.GroupSets.{cut_value}
 use Rattle.vx_diskset.specs.Holds.{beside_of, doubt_of, header_links}
+use Rattle.vx_diskset.specs.OverRises.{FoundOver}
 use Rattle.vx_diskset.specs.Stands.{IsRackTold, IsToldAt, SiteStands, faults_at}
 use Rattle.vx_diskset.specs.declared.disk_set.DiskSet.{DiskSet}
 use Rattle.vx_diskset.specs.declared.disk_set.DiskSet.TheVariants.{Bare, Spoiled, Up as UpSet, Receives, Down as DownSet, OfGroup, Over, Gone as GoneSet}
@@ -90,7 +91,7 @@ use Rattle.vx_group_lines.proofs.GroupLeads.{Follows, follows_on, up_set}
 use Rattle.vx_group_lines.proofs.GroupShown.{view_up}
 use Rattle.vx_above.proofs.GroupStatus.{table_is}
 use Rattle.vx_group_lines.proofs.Rising.{HasUp, has_up}
-use Rattle.vx_group_lines.proofs.RvgFound.{FoundCall, FoundHere, found_arrives, found_carries, found_ends, found_fails, found_left, found_rose, found_says, found_sits, found_stands, found_up}
+use Rattle.vx_group_lines.proofs.RvgFound.{FoundCall, found_arrives, found_carries, found_ends, found_fails, found_left, found_rose, found_says, found_sits, found_stands}
 use Rattle.vx_group_lines.proofs.RvgStanding.{RvgOver}
 
 -- what the tests see of a bare site that is a group with these volumes
@@ -269,8 +270,8 @@ module _ {R : Type 0} {g : Ghosts R} where
         blank : header_links d.world s ≡ []
         blank = blank_links d s (stands.links.bare s site.bare)
 
-        here : FoundHere (beside_of d s) (d.world.nodes s) (burned (d.world.nodes s).fuse) p
-        here = found_up (beside_of d s) n (burned n.fuse) p (found (beside_of d s) (ap (λ (o : Option After). doubt_of d.world s o) calm) blank)
+        here : FoundOver (beside_of d s) (d.world.nodes s) (burned (d.world.nodes s).fuse) p
+        here = found (beside_of d s) (ap (λ (o : Option After). doubt_of d.world s o) calm) blank
 
         dark_below : IsTrue (site_below (site_in p)).tells → ⊥
         dark_below = subst (λ (x : DiskSet R g). IsRackTold x → ⊥) is dark

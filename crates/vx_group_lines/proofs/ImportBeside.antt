@@ -1,5 +1,5 @@
 -- The line that imports a group which was deported, and may find a replicated volume group over it.
-use Rattle.std.proofs.Common.{◌≡◌, ◌∙◌, ℕ, false, List, map, ap, sym, subst, refl, arith, IsTrue}
+use Rattle.std.proofs.Common.{◌≡◌, ◌∙◌, ℕ, Bool, false, List, map, ap, sym, subst, refl, arith, IsTrue}
 use Rattle.std.proofs.lemmas.Bool.{false_from_ne_true}
 use Rattle.std.specs.Prelude.{Option, Some, None, slice_set, Result, Ok, Err}
 use Rattle.vx_model.specs.declared.errors.OutOfMemory.{OutOfMemory}
@@ -30,7 +30,7 @@ use Rattle.vx_diskset.specs.Aboves.{site_in}
 use Rattle.vx_diskset.specs.Asked.{FusedAs, SameFailing}
 use Rattle.vx_diskset.specs.GroupCalls.{AtSite, ImportsOn, OnSites, core_in, cut_in}
 use Rattle.vx_diskset.specs.Holds.{KeptBeside, beside_of}
-use Rattle.vx_diskset.specs.OverRises.{FindsOver, PlainFound}
+use Rattle.vx_diskset.specs.OverRises.{FindsOver, FoundOver, PlainFound}
 use Rattle.vx_diskset.specs.OverStarts.{BehindPlain, ImportsBy, ImportsIn, PlainStarts, PlainUnits, Started}
 use Rattle.vx_diskset.specs.Stands.{SiteStands}
 use Rattle.vx_diskset.specs.declared.disk_set.DiskSet.{DiskSet}
@@ -66,7 +66,7 @@ use Rattle.vx_group_lines.proofs.GroupEnding.{Midway}
 use Rattle.vx_group_lines.proofs.GroupImports.{import_done, import_stopped}
 use Rattle.vx_group_lines.proofs.ImportWhys.{imported_disks}
 use Rattle.vx_group_lines.proofs.RvgComing.{none_after}
-use Rattle.vx_group_lines.proofs.RvgFound.{FoundCall, FoundHere, found_carries, found_ends, found_fails, found_left, found_rose, found_sits, found_stands, found_up}
+use Rattle.vx_group_lines.proofs.RvgFound.{FoundCall, found_carries, found_ends, found_fails, found_left, found_rose, found_sits, found_stands}
 use Rattle.vx_group_lines.proofs.RvgStanding.{RvgOver, rvg_over}
 
 never_ok : (stop : Stop) (r : Result (Unit {0}) Stop) → r ≡ Err stop → r ≡ Ok tt → ⊥
@@ -91,35 +91,38 @@ module _ {R : Type 0} {g : Ghosts R} where
   either_refused : (e : GroupSite R g) (cut : Option CutWrite) (new : DiskSet R g) (r : Result (Unit {0}) Stop) (stop : Stop) → new ≡ (let s : GroupSet R g = record { site = e; cut = cut } in OfGroup s) → r ≡ Err stop → CameEither new r
   either_refused e cut new r stop is refused = CamePlain (let s : GroupSet R g = record { site = e; cut = cut } in s) is (λ ok. absurd (never_ok stop r refused ok))
 
-  either_starts : (rested : Option Rested) (units : Units) (laid : Laid R g) (cut : Option CutWrite) (new : DiskSet R g) (r : Result (Unit {0}) Stop) → PlainStarts true rested units laid cut new r → CameEither new r
-  either_starts rested units laid cut (Bare rack) r it = absurd it
-  either_starts rested units laid cut (Spoiled rack) r it = absurd it
-  either_starts rested units laid cut (UpSet rvg) r it = absurd it
-  either_starts rested units laid cut (Receives s) r it = absurd it
-  either_starts rested units laid cut (DownSet rack) r it = absurd it
-  either_starts rested units laid cut (OfGroup t) (Ok done) it = absurd it
-  either_starts rested units laid cut (OfGroup t) (Err stop) it = CamePlain t refl (λ ok. absurd (never_ok stop (Err stop) refl ok))
-  either_starts rested units laid cut (Over p) (Ok done) it = CameOver p refl refl
-  either_starts rested units laid cut (Over p) (Err stop) it = absurd it
-  either_starts rested units laid cut GoneSet r it = absurd it
+  either_starts : (away : Bool) (rested : Option Rested) (units : Units) (laid : Laid R g) (cut : Option CutWrite) (new : DiskSet R g) (r : Result (Unit {0}) Stop) → PlainStarts away rested units laid cut new r → CameEither new r
+  either_starts away rested units laid cut (Bare rack) r it = absurd it
+  either_starts away rested units laid cut (Spoiled rack) r it = absurd it
+  either_starts away rested units laid cut (UpSet rvg) r it = absurd it
+  either_starts away rested units laid cut (Receives s) r it = absurd it
+  either_starts away rested units laid cut (DownSet rack) r it = absurd it
+  either_starts away rested units laid cut (OfGroup t) (Ok done) it = absurd it
+  either_starts away rested units laid cut (OfGroup t) (Err stop) it = CamePlain t refl (λ ok. absurd (never_ok stop (Err stop) refl ok))
+  either_starts away rested units laid cut (Over p) (Ok done) it = CameOver p refl refl
+  either_starts away rested units laid cut (Over p) (Err stop) it = absurd it
+  either_starts away rested units laid cut GoneSet r it = absurd it
 
-  either_units : (rested : Option Rested) (o : Option Units) (laid : Laid R g) (cut : Option CutWrite) (new : DiskSet R g) (r : Result (Unit {0}) Stop) → laid.core.inner.config.rvg ≡ o → PlainUnits true rested o laid cut new r → CameEither new r
-  either_units rested None laid cut new r rvg it =
+  either_units : (away : Bool) (rested : Option Rested) (o : Option Units) (laid : Laid R g) (cut : Option CutWrite) (new : DiskSet R g) (r : Result (Unit {0}) Stop) → laid.core.inner.config.rvg ≡ o → PlainUnits away rested o laid cut new r → CameEither new r
+  either_units away rested None laid cut new r rvg it =
       CamePlain (let s : GroupSet R g = record { site = Up laid; cut = None } in s) it.0 (λ ok c has. subst (λ (x : Config). x.rvg ≡ None) (some_same has) rvg)
-  either_units rested (Some units) laid cut new r rvg it = either_starts rested units laid cut new r it
+  either_units away rested (Some units) laid cut new r rvg it = either_starts away rested units laid cut new r it
 
-  either_behind : (rested : Option Rested) (mid : GroupSite R g) (cut : Option CutWrite) (new : DiskSet R g) (answer r : Result (Unit {0}) Stop) → BehindPlain true rested mid cut new answer r → CameEither new r
-  either_behind rested (Up laid) cut new (Ok done) r it = either_units rested laid.core.inner.config.rvg laid cut new r refl it
-  either_behind rested (Deported idle) cut new (Ok done) r it = either_refused (Deported idle) cut new r (Refused NoRole) it.0 it.1
-  either_behind rested (Down idle) cut new (Ok done) r it = either_refused (Down idle) cut new r (Refused NoRole) it.0 it.1
-  either_behind rested (Marked rack) cut new (Ok done) r it = either_refused (Marked rack) cut new r (Refused NoRole) it.0 it.1
-  either_behind rested Gone cut new (Ok done) r it = either_refused Gone cut new r (Refused NoRole) it.0 it.1
-  either_behind rested mid cut new (Err stop) r it = either_refused mid cut new r stop it.0 it.1
+  either_behind : (away : Bool) (rested : Option Rested) (mid : GroupSite R g) (cut : Option CutWrite) (new : DiskSet R g) (answer r : Result (Unit {0}) Stop) → BehindPlain away rested mid cut new answer r → CameEither new r
+  either_behind away rested (Up laid) cut new (Ok done) r it = either_units away rested laid.core.inner.config.rvg laid cut new r refl it
+  either_behind away rested (Deported idle) cut new (Ok done) r it = either_refused (Deported idle) cut new r (Refused NoRole) it.0 it.1
+  either_behind away rested (Down idle) cut new (Ok done) r it = either_refused (Down idle) cut new r (Refused NoRole) it.0 it.1
+  either_behind away rested (Marked rack) cut new (Ok done) r it = either_refused (Marked rack) cut new r (Refused NoRole) it.0 it.1
+  either_behind away rested Gone cut new (Ok done) r it = either_refused Gone cut new r (Refused NoRole) it.0 it.1
+  either_behind away rested mid cut new (Err stop) r it = either_refused mid cut new r stop it.0 it.1
+
+  pub imports_either : (away : Bool) (old : GroupSite R g) (cut : Option CutWrite) (new : DiskSet R g) (r : Result (Unit {0}) Stop) → ImportsBy away old cut new r → CameEither new r
+  imports_either away old cut new r by = either_behind away (site_rested old) by.mid cut new by.answer r by.behind
 
   came_either : (set : GroupSet R g) (before new : DiskSet R g) (r : Result (Unit {0}) Stop) → before ≡ OfGroup set → ImportsIn before new r → CameEither new r
   came_either set before new r is it =
       let by : ImportsBy true set.site set.cut new r = subst (λ (x : DiskSet R g). ImportsIn x new r) is it in
-      either_behind (site_rested set.site) by.mid set.cut new by.answer r by.behind
+      imports_either true set.site set.cut new r by
 
   -- so a call that says what it does where it finds none says it here
   on_plain : (P : GroupSite R g → GroupSite R g → Type 0) (before after : DiskSet R g) (set t : GroupSet R g) → before ≡ OfGroup set → after ≡ OfGroup t → ImportsOn P before after → OnSites P before after
@@ -192,8 +195,8 @@ module _ {R : Type 0} {g : Ghosts R} where
 
     -- one with a replicated volume group came up
     module _ (p : OverSet R g) (is : after ≡ Over p) (brought : ImportsIn before after (Ok tt)) (found : PlainFound (beside_of d s) (d.world.nodes s) (note_at (d.world.nodes s)) p) where
-      here : FoundHere (beside_of d s) (d.world.nodes s) (burned (d.world.nodes s).fuse) p
-      here = found_up (beside_of d s) n (burned n.fuse) p found.over
+      here : FoundOver (beside_of d s) (d.world.nodes s) (burned (d.world.nodes s).fuse) p
+      here = found.over
 
       up : IsTrue (site_disks (site_in p)).down → ⊥
       up = (rvg_over (beside_of d s) here.node here.next (Over p) here.stands here.noted (rvg_apart here.node (over_rvg (beside_of d s) here.node p here.stands)) here.same.up here.origin).up

@@ -62,3 +62,4 @@ pub mod RecoverFound
 pub mod RvgPlain
 pub mod RvgRaising
 pub mod RvgRecovers
+pub mod RecoverBeside

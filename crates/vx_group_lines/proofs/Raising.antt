@@ -26,7 +26,7 @@ use Rattle.vx_grouped.specs.SiteReturns.{ImportWhy, KnownAway, SomeRose, SiteRec
 use Rattle.vx_grouped.specs.declared.group_site.GroupSite.{GroupSite}
 use Rattle.vx_diskset.specs.Asked.{FailsAs, SameFailing}
 use Rattle.vx_diskset.specs.DiskSets.{Later}
-use Rattle.vx_diskset.specs.GroupCalls.{AtSite, cut_in}
+use Rattle.vx_diskset.specs.GroupCalls.{AtFound, cut_in}
 use Rattle.vx_diskset.specs.GroupSets.{cut_value, noted_cut}
 use Rattle.vx_diskset.specs.Holds.{beside_of}
 use Rattle.vx_diskset.specs.Recovers.{RaisesGroup, RaisesMaps, StaysBack}
@@ -53,7 +53,7 @@ use Rattle.vx_group_lines.specs.Noting.{IsNotedRefusal, KeepsRest, reply_noted}
 use Rattle.vx_group_lines.specs.Rises.{ComesDown, RisesFor, RisesIs}
 use Rattle.vx_group_lines.proofs.Arriving.{Arrives, arrives_noted, noted_at}
 use Rattle.vx_group_lines.proofs.GroupAt.{down_noted, down_notes, lit_down, loose_down}
-use Rattle.vx_group_lines.proofs.GroupCalls.{Called, calls_all, calls_are, calls_named, calls_none, maps_were, plain_were, set_then}
+use Rattle.vx_group_lines.proofs.GroupCalls.{Called, calls_all, calls_are, calls_named, calls_none, maps_were, plain_were}
 use Rattle.vx_group_lines.proofs.GroupLeads.{Follows, Sized, down_set, follows_on, sized_of}
 use Rattle.vx_group_lines.proofs.GroupMarks.{begins_at, group_noted_at}
 use Rattle.vx_group_lines.proofs.MapComing.{stays_down}
@@ -286,15 +286,14 @@ module _ {R : Type 0} {g : Ghosts R} where
         (record { note = left_note false; notes = notes_short dims note loose; stands = follows.stands; carries = follows.carries; rose = calls_none e old new [] s before after begin.stands call })
 
     -- a recovery that was refused in its import
-    pub stays_back : (stop : Stop) → RaisesGroup n note before after (Err stop) → RaisesMaps before after (Err stop) → (mid : Yard R g) → mid.facts.items ≡ old.facts.items → SameLoad old mid → (result : Result Said OutOfMemory)
-        → ((f : SiteFacts) → slice_get mid.facts.items s ≡ Some f → reply_noted s f stop mid new result) → RisesIs e s old new result
-    stays_back stop raised moved mid facts load result replied =
+    pub stays_back : (stop : Stop) (t : GroupSet R g) → after ≡ OfGroup t → RaisesGroup n note before after (Err stop) → RaisesMaps before after (Err stop) → (mid : Yard R g) → mid.facts.items ≡ old.facts.items → SameLoad old mid
+        → (result : Result Said OutOfMemory) → ((f : SiteFacts) → slice_get mid.facts.items s ≡ Some f → reply_noted s f stop mid new result) → RisesIs e s old new result
+    stays_back stop t is raised moved mid facts load result replied =
         let it : StaysBack n note call.at.set.site call.at.set.cut after stop = subst (λ (x : DiskSet R g). RaisesGroup n note x after (Err stop)) call.at.is_set raised in
-        let t = set_then (λ (x : GroupSite R g). SiteRecovers n note call.at.set.site x (Err stop)) after it.refused in
+        let here : SiteRecovers n note call.at.set.site t.site (Err stop) = subst (λ (x : DiskSet R g). AtFound (λ y. SiteRecovers n note call.at.set.site y (Err stop)) x) is it.refused in
         let late : Bool = not (stops_early stop) in
-        let came : AtSite (λ x. CameMapped call.at.set.site x (Err stop)) after = subst (λ (x : DiskSet R g). RaisesMaps x after (Err stop)) call.at.is_set moved in
-        let maps : LeftMaps stop t.set.site
-        = stays_down n (left_node late) note late dims call.at.set.site t.set.site stop (maps_were e old new [] s before after begin.stands call) is_down t.holds.0 refl
-        (subst (λ (x : DiskSet R g). AtSite (λ y. CameMapped call.at.set.site y (Err stop)) x) t.is came) in
-        by_stop stop t.set t.is t.holds.0 maps it.cut_stays t.holds.1 mid facts load result
+        let came : CameMapped call.at.set.site t.site (Err stop)
+        = subst (λ (x : DiskSet R g). RaisesMaps (OfGroup call.at.set) x (Err stop)) is (subst (λ (x : DiskSet R g). RaisesMaps x after (Err stop)) call.at.is_set moved) in
+        let maps : LeftMaps stop t.site = stays_down n (left_node late) note late dims call.at.set.site t.site stop (maps_were e old new [] s before after begin.stands call) is_down here.0 refl came in
+        by_stop stop t is here.0 maps it.cut_stays here.1 mid facts load result
         (replied (fact_of_group n note) (ap (λ (fs : List SiteFacts). slice_get fs s) facts ∙ call.at.fact))

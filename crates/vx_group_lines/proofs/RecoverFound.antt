@@ -20,7 +20,7 @@ use Rattle.vx_diskset.specs.Aboves.{site_in}
 use Rattle.vx_diskset.specs.Asked.{SameFailing}
 use Rattle.vx_diskset.specs.GroupCalls.{AtSite, config_in, core_in}
 use Rattle.vx_diskset.specs.Holds.{beside_of}
-use Rattle.vx_diskset.specs.OverRises.{FoundAgain, KnowsLess, LookedOver, LooksOver, PlainFound}
+use Rattle.vx_diskset.specs.OverRises.{FoundAgain, FoundOver, KnowsLess, LookedOver, LooksOver, PlainFound}
 use Rattle.vx_diskset.specs.Stands.{IsRackTold}
 use Rattle.vx_diskset.specs.declared.disk_set.DiskSet.{DiskSet}
 use Rattle.vx_diskset.specs.declared.disk_set.DiskSet.TheVariants.{Over}
@@ -56,13 +56,13 @@ use Rattle.vx_group_lines.proofs.Rising.{unfused_down}
 use Rattle.vx_group_lines.proofs.RvgAtRest.{AtRest, LookedAt, called_over, first_fact, looked_at, never_lost, rest_set, stood_changed, stood_failing, stood_load, stood_looks, stood_same}
 use Rattle.vx_group_lines.proofs.RvgComing.{DownCall, down_made, none_after, rest_links, rest_sure, rest_unfused}
 use Rattle.vx_group_lines.proofs.RvgFacts.{up_seen}
-use Rattle.vx_group_lines.proofs.RvgFound.{FoundCall, FoundHere, found_arrives, found_carries, found_ends, found_fails, found_left, found_raises, found_rose, found_says, found_stands_by, found_up, found_worked}
+use Rattle.vx_group_lines.proofs.RvgFound.{FoundCall, found_arrives, found_carries, found_ends, found_fails, found_left, found_raises, found_rose, found_says, found_stands_by, found_worked}
 use Rattle.vx_group_lines.proofs.RvgStanding.{RvgOver, rvg_over}
 
 module _ {R : Type 0} {g : Ghosts R} where
   -- of a site with a replicated volume group
   pub over_call : (d : Doubted) (name : List ℕ) (s kept : ℕ) (taken : Bool) (old new : Yard R g) (o q : OverSet R g) (lit : Fuse) → lit ≡ NoFuse → RestsSo d s kept taken → DownCall (rests_as d s kept taken) old new s o (Over q)
-      → (here : FoundHere (beside_of (rests_as d s kept taken) s) ((rests_as d s kept taken).world.nodes s) lit q)
+      → (here : FoundOver (beside_of (rests_as d s kept taken) s) ((rests_as d s kept taken).world.nodes s) lit q)
       → KnowsLess (note_at ((rests_as d s kept taken).world.nodes s)) here.next (site_in q)
       → FoundCall d (rests_world d s kept taken) (Recover name) s taken old new (Over o) q lit
   over_call d name s kept taken old new o q lit none rests call here less =
@@ -86,7 +86,7 @@ module _ {R : Type 0} {g : Ghosts R} where
   -- of a site over a group without one, which is down in the world e
   pub plain_call : (d e : Doubted) (name : List ℕ) (s : ℕ) (old new : Yard R g) (before : DiskSet R g) (q : OverSet R g) (lit : Fuse) → lit ≡ NoFuse → Begins e s old → (call : Called e old new [] s before (Over q))
       → note_at (e.world.nodes s) ≡ note_at (d.world.nodes s) → DownNoted (e.world.nodes s) (note_at (e.world.nodes s)) call.at.set.site
-      → (here : FoundHere (beside_of e s) (e.world.nodes s) lit q) → KnowsLess (note_at (e.world.nodes s)) here.next (site_in q)
+      → (here : FoundOver (beside_of e s) (e.world.nodes s) lit q) → KnowsLess (note_at (e.world.nodes s)) here.next (site_in q)
       → FoundCall d e (Recover name) s false old new before q lit
   plain_call d e name s old new before q lit none begin call same down here less =
       let unfused : (e.world.nodes s).fuse ≡ NoFuse = unfused_down (e.world.nodes s) (note_at (e.world.nodes s)) call.at.set.site down in
@@ -133,8 +133,8 @@ module _ {R : Type 0} {g : Ghosts R} where
       p : OverSet R g
       p = looked.set
 
-      here : FoundHere (beside_of (rests_as d s kept taken) s) ((rests_as d s kept taken).world.nodes s) (burned ((rests_as d s kept taken).world.nodes s).fuse) x
-      here = found_up (beside_of b s) n (burned n.fuse) x again.over
+      here : FoundOver (beside_of (rests_as d s kept taken) s) ((rests_as d s kept taken).world.nodes s) (burned ((rests_as d s kept taken).world.nodes s).fuse) x
+      here = again.over
 
       looks : LookedOver (beside_of (rests_as d s kept taken) s) here.node here.next None x p st.answer
       looks = looked.looked (beside_of b s) here.node here.next here.stands here.same.up here.same.running here.noted here.clear
@@ -176,7 +176,7 @@ module _ {R : Type 0} {g : Ghosts R} where
           now : LookedOver (beside_of (rests_as d s kept taken) s) here.node here.next None x p (Ok read)
           now = subst (λ (a : Result (Option KeptWrite) Stop). LookedOver (beside_of b s) here.node here.next None x p a) ends it
 
-          came : FoundHere (beside_of (rests_as d s kept taken) s) ((rests_as d s kept taken).world.nodes s) lit p
+          came : FoundOver (beside_of (rests_as d s kept taken) s) ((rests_as d s kept taken).world.nodes s) lit p
           came = found_worked (beside_of b s) n (burned n.fuse) x p here now.0 now.1
 
           tells : IsTrue (site_below (site_in p)).tells → IsTrue (site_below (site_in x)).tells
@@ -242,8 +242,8 @@ module _ {R : Type 0} {g : Ghosts R} where
       p : OverSet R g
       p = looked.set
 
-      here : FoundHere (beside_of e s) (e.world.nodes s) (burned (e.world.nodes s).fuse) x
-      here = found_up (beside_of e s) n (burned n.fuse) x again.over
+      here : FoundOver (beside_of e s) (e.world.nodes s) (burned (e.world.nodes s).fuse) x
+      here = again.over
 
       looks : LookedOver (beside_of e s) here.node here.next None x p st.answer
       looks = looked.looked (beside_of e s) here.node here.next here.stands here.same.up here.same.running here.noted here.clear
@@ -297,7 +297,7 @@ module _ {R : Type 0} {g : Ghosts R} where
           now : LookedOver (beside_of e s) here.node here.next None x p (Ok read)
           now = subst (λ (a : Result (Option KeptWrite) Stop). LookedOver (beside_of e s) here.node here.next None x p a) ends it
 
-          came : FoundHere (beside_of e s) (e.world.nodes s) lit p
+          came : FoundOver (beside_of e s) (e.world.nodes s) lit p
           came = found_worked (beside_of e s) n (burned n.fuse) x p here now.0 now.1
 
           tells : IsTrue (site_below (site_in p)).tells → IsTrue (site_below (site_in x)).tells

@@ -28,12 +28,14 @@ use Rattle.vx_grouped.specs.declared.group_site.GroupSite.{GroupSite}
 use Rattle.vx_diskset.proofs.KeepsFailing.{failing_then}
 use Rattle.vx_diskset.specs.Asked.{SameFailing}
 use Rattle.vx_diskset.specs.DiskSets.{Later}
-use Rattle.vx_diskset.specs.GroupCalls.{AtSite, OnSites, config_in}
+use Rattle.vx_diskset.specs.GroupCalls.{AtFound, AtSite, OnSites, config_in, core_in, cut_behind}
+use Rattle.vx_diskset.specs.OverRises.{LooksOver}
 use Rattle.vx_diskset.specs.Recovers.{LooksAt, RaisesGroup, RaisesMaps}
 use Rattle.vx_diskset.specs.Stands.{IsRackTold, faults_at}
 use Rattle.vx_diskset.specs.declared.disk_set.DiskSet.{DiskSet}
 use Rattle.vx_diskset.specs.declared.disk_set.DiskSet.TheVariants.{OfGroup}
 use Rattle.vx_diskset.specs.declared.group_set.CutWrite.{CutWrite}
+use Rattle.vx_diskset.specs.declared.group_set.GroupSet.{GroupSet}
 use Rattle.vx_diskset.specs.declared.group_set.KeptWrite.{KeptWrite}
 use Rattle.vx_events.proofs.Parts.{none_done}
 use Rattle.vx_events.proofs.Places.{some_same}
@@ -42,6 +44,10 @@ use Rattle.vx_events.specs.GroupEnds.{GroupEnds}
 use Rattle.vx_events.specs.GroupLines.{is_over_group, noting, crash_first}
 use Rattle.vx_events.specs.GroupNotes.{note_at, NotesShort, no_note}
 use Rattle.vx_events.specs.GroupViews.{plain_fact, volumes_of}
+use Rattle.vx_events.specs.LinkViews.{linked_view}
+use Rattle.vx_events.specs.RvgBack.{RvgFinds}
+use Rattle.vx_events.specs.RvgSteps.{FoundOne}
+use Rattle.vx_events.specs.RvgViews.{is_over_rvg, over_disks}
 use Rattle.vx_events.specs.StepsOver.{fact_of_group, group_place}
 use Rattle.vx_events.specs.Parts.{StopsDown, StopsInPart, StopsShort, raises_first}
 use Rattle.vx_events.specs.declared.said.Said.{Said}
@@ -50,6 +56,9 @@ use Rattle.vx_yard.proofs.ChangeSite.{rose_none}
 use Rattle.vx_yard.proofs.Lists.{get-set_same, set_twice}
 use Rattle.vx_yard.proofs.OneSite.{Changed, told_by}
 use Rattle.vx_yard.proofs.RecoverLine.{rose_then}
+use Rattle.vx_rvg.specs.Views.{Core}
+use Rattle.vx_above.proofs.Works.{beside_over}
+use Rattle.vx_yard.specs.AboveLines.{LeadsBesideIs}
 use Rattle.vx_yard.specs.Carries.{Carries}
 use Rattle.vx_effects.specs.Facts.{down_fact}
 use Rattle.vx_yard.specs.GroupFacts.{group_up_facts}
@@ -61,12 +70,12 @@ use Rattle.vx_yard.specs.Stands.{RoseAll}
 use Rattle.vx_yard.specs.Yards.{IsTold, count_of, in_files}
 use Rattle.vx_yard.specs.declared.yard.Yard.{Yard}
 use Rattle.vx_packet.specs.Assemblies.{Assembled}
-use Rattle.vx_group_lines.specs.Noting.{HasConfig, KeepsRest, reply_noted}
-use Rattle.vx_group_lines.specs.Rises.{ComesDown, RisesIs, StandsSo, StoodUp, kept_shown}
+use Rattle.vx_group_lines.specs.Noting.{HasConfig, HasCore, HasNoCore, KeepsRest, made_facts, reply_noted}
+use Rattle.vx_group_lines.specs.Rises.{ComesDown, FindsUp, RisesBeside, RisesIs, StandsOver, StandsSo, StoodUp, kept_shown}
 use Rattle.vx_group_lines.specs.Views.{view_with}
 use Rattle.vx_group_lines.proofs.Arriving.{Arrives, arrives_crash, noted_at}
 use Rattle.vx_group_lines.proofs.GroupAt.{GroupAt, down_noted, group_by, up_noted, up_notes, lit_up}
-use Rattle.vx_group_lines.proofs.GroupCalls.{Called, maps_were, set_then}
+use Rattle.vx_group_lines.proofs.GroupCalls.{Called, SetThen, maps_were}
 use Rattle.vx_group_lines.proofs.GroupMarks.{begins_at, noting_same}
 use Rattle.vx_group_lines.proofs.GroupShown.{config_at}
 use Rattle.vx_group_lines.proofs.MapComing.{MapsCame, bright_before, comes_up, config_with, recovered_so, returns_with}
@@ -182,10 +191,10 @@ module _ {R : Type 0} {g : Ghosts R} where
     told_down stop f result it = told_by old new s before between (changed_down stop f result it)
 
     module _ (e : Doubted) (begin : Begins e s old) where
-      pub came_up : (cut : Option CutWrite) (result : Result Said OutOfMemory) → ((n : Node) (note : GroupNode) → AtSite (DownNoted n note) before → RaisesGroup n note before between (Ok cut))
+      pub came_up : (cut : Option CutWrite) (result : Result Said OutOfMemory) (t : GroupSet R g) → between ≡ OfGroup t → ((c : Config) → site_config t.site ≡ Some c → c.rvg ≡ None) → ((n : Node) (note : GroupNode) → AtSite (DownNoted n note) before → RaisesGroup n note before between (Ok cut))
           → ((n : Node) (note : GroupNode) → AtSite (DownNoted n note) before → RaisesMaps before between (Ok cut))
           → StoodUp s cut mid new result → RisesIs e s old new result
-      came_up cut result raises moved st =
+      came_up cut result t is_set alone raises moved st =
           let n : Node = e.world.nodes s in
           let note : GroupNode = note_at (e.world.nodes s) in
           let same : between ≡ st.before = same_between cut result st in
@@ -194,15 +203,16 @@ module _ {R : Type 0} {g : Ghosts R} where
           let down : AtSite (DownNoted n note) before = subst (λ (x : DiskSet R g). AtSite (DownNoted n note) x) (sym at.is_set) (down_noted n at.set.site at.stands.stands begin.down) in
           let was : RaisesGroup n note (OfGroup at.set) st.before (Ok cut) =
           subst (λ (x : DiskSet R g). RaisesGroup n note x st.before (Ok cut)) at.is_set (subst (λ (x : DiskSet R g). RaisesGroup n note before x (Ok cut)) same (raises n note down)) in
-          let rm = set_then (λ (x : GroupSite R g). SiteRecovers n note at.set.site x (Ok tt)) st.before was.0 in
+          let plain : st.before ≡ OfGroup t = sym same ∙ is_set in
+          let rm : SetThen (λ (x : GroupSite R g). SiteRecovers n note at.set.site x (Ok tt)) st.before
+          = record { set = t; is = plain; holds = subst (λ (x : DiskSet R g). AtFound (λ y. SiteRecovers n note at.set.site y (Ok tt)) x) plain was.0 } in
           let seen : GroupNode = rm.holds.0 in
           let is_down : DownNoted n note at.set.site = down_noted n at.set.site at.stands.stands begin.down in
           let had : StandMaps note at.set.site = maps_were e old new [] s before st.after begin.stands call in
-          let raised : AtSite (λ x. CameMapped at.set.site x (Ok tt)) st.before
-          = subst (λ (x : DiskSet R g). RaisesMaps x st.before (Ok cut)) at.is_set (subst (λ (x : DiskSet R g). RaisesMaps before x (Ok cut)) same (moved n note down)) in
+          let raised : CameMapped at.set.site t.site (Ok tt)
+          = subst (λ (x : DiskSet R g). RaisesMaps (OfGroup at.set) x (Ok cut)) plain (subst (λ (x : DiskSet R g). RaisesMaps x st.before (Ok cut)) at.is_set (subst (λ (x : DiskSet R g). RaisesMaps before x (Ok cut)) same (moved n note down))) in
           let came : MapsCame (λ (w : MissedNote). RisenMaps (site_disks at.set.site) (site_disks rm.set.site) w) seen rm.set.site
-          = comes_up n note seen (is_dimmed at.set.site) at.set.site rm.set.site rm.holds.3.now had is_down rm.holds.1.dark (up_config (returned_with seen n) seen rm.holds.3.now rm.set.site rm.holds.2 rm.holds.3.has) rm.holds.3.noted_now
-          (subst (λ (x : DiskSet R g). AtSite (λ y. CameMapped at.set.site y (Ok tt)) x) rm.is raised) in
+          = comes_up n note seen (is_dimmed at.set.site) at.set.site rm.set.site rm.holds.3.now had is_down rm.holds.1.dark (up_config (returned_with seen n) seen rm.holds.3.now rm.set.site rm.holds.2 rm.holds.3.has) rm.holds.3.noted_now raised in
           let next : GroupNode = with_maps came.maps seen in
           let rm_up : UpNoted (returned_with next n) next rm.set.site = up_with_maps came.maps (returned_with seen n) seen rm.set.site rm.holds.2 in
           let st_up : AtSite (UpNoted (returned_with next n) next) st.before = subst (λ (x : DiskSet R g). AtSite (UpNoted (returned_with next n) next) x) (sym rm.is) rm_up in
@@ -215,24 +225,24 @@ module _ {R : Type 0} {g : Ghosts R} where
             from = λ k. omega (arith, later.counts k, ap (λ (x : DiskSet R g). faults_at x k) at.is_set, ap (λ (x : DiskSet R g). faults_at x k) rm.is);
             counts = λ k. omega (arith, st.later.counts k, ap (λ (x : DiskSet R g). faults_at x k) rm.is, ap (λ (x : DiskSet R g). faults_at x k) is);
           })
-          cut was.2 up.config up.reads mid (record { facts = first.facts; load = first.load; flight = st.flight; feeders = st.feeders }) result
+          cut (subst (λ (x : DiskSet R g). cut ≡ cut_behind x at.set.cut) plain was.2) up.config up.reads (alone up.config up.has) mid (record { facts = first.facts; load = first.load; flight = st.flight; feeders = st.feeders }) result
           (λ set is. on_both StaysMapped st.before st.after rm.set set rm.is is (st.maps (returned_with next n) next st_up) next came.stands)
           (λ bright tells. recovered_so n note next at.set.site (site_disks rm.set.site) is_down (bright_before (is_dimmed at.set.site) note next rm.holds.1.dark bright) tells (came.by bright tells) rm.holds.3.was (record { is = rm.holds.3.noted.is; spells = rm.holds.3.noted.spells }) (rm.holds.3.one tells)) st.answer
           (subst (λ (x : DiskSet R g). LooksAt (returned_with next n) next cut x st.after st.answer) rm.is (st.looks (returned_with next n) next st_up))
           (st.so (fact_of_group n note) up.config (ap (λ (fs : List SiteFacts). slice_get fs s) first.facts ∙ at.fact)
-          (subst (λ (x : DiskSet R g). AtSite (λ y. site_config y ≡ Some up.config) x) (sym rm.is) up.has))
+          (subst (λ (x : DiskSet R g). AtSite (λ y. site_config y ≡ Some up.config) x) (sym rm.is) up.has) (alone up.config up.has) (ap (λ (x : DiskSet R g). core_in x) plain))
 
-      pub came_down : (stop : Stop) (result : Result Said OutOfMemory) → ((n : Node) (note : GroupNode) → AtSite (DownNoted n note) before → RaisesGroup n note before between (Err stop))
+      pub came_down : (stop : Stop) (result : Result Said OutOfMemory) (t : GroupSet R g) → between ≡ OfGroup t → ((n : Node) (note : GroupNode) → AtSite (DownNoted n note) before → RaisesGroup n note before between (Err stop))
           → ((n : Node) (note : GroupNode) → AtSite (DownNoted n note) before → RaisesMaps before between (Err stop))
           → ((f : SiteFacts) → slice_get mid.facts.items s ≡ Some f → reply_noted s f stop mid new result) → RisesIs e s old new result
-      came_down stop result raises moved replied =
+      came_down stop result t is_set raises moved replied =
           let n : Node = e.world.nodes s in
           let note : GroupNode = note_at (e.world.nodes s) in
           let at : GroupAt e old [] s before = group_by e old [] s before begin.stands begin.below begin.over first.there in
           let down : AtSite (DownNoted n note) before = subst (λ (x : DiskSet R g). AtSite (DownNoted n note) x) (sym at.is_set) (down_noted n at.set.site at.stands.stands begin.down) in
           let it = replied (fact_of_group n note) (ap (λ (fs : List SiteFacts). slice_get fs s) first.facts ∙ at.fact) in
           let call : Called e old new [] s before between = record { at = at; changed = changed_down stop (fact_of_group n note) result it; failing = first.failing } in
-          stays_back e s old new before between begin call stop (raises n note down) (moved n note down) mid first.facts first.load result replied
+          stays_back e s old new before between begin call stop t is_set (raises n note down) (moved n note down) mid first.facts first.load result replied
 
   -- ---- a site that was up
 
@@ -288,28 +298,49 @@ module _ {R : Type 0} {g : Ghosts R} where
     rose = rose_then [] (count_of old) (count_of mid) (count_of new) rose r.rose;
   }
 
+  -- where a replicated volume group was found
+  finds_beside : (d e : Doubted) (name : List ℕ) (s : ℕ) (old mid new : Yard R g) (result : Result Said OutOfMemory) → group_place d.world (Recover name) ≡ s → ComesDown d e s → (Carries d old → Carries e mid)
+      → RoseAll [] (count_of old) (count_of mid) → FindsUp e s mid new result → LeadsBesideIs d (Recover name) old new result
+  finds_beside d e name s old mid new (Ok said) place comes before rose f = record {
+    next = f.next;
+    fails = f.fails;
+    works = FoundOne (subst (λ (k : ℕ). RvgFinds (IsTold new) d (Recover name) k f.fails said f.next) (sym place) (f.finds d name comes));
+    stands = f.stands;
+    carries = λ was. f.carries (before was);
+    rose = rose_then f.fails (count_of old) (count_of mid) (count_of new) rose f.rose;
+  }
+  finds_beside d e name s old mid new (Err x) place comes before rose f = absurd f
+
+  rises_beside : (d e : Doubted) (name : List ℕ) (s : ℕ) (old mid new : Yard R g) (result : Result Said OutOfMemory) → group_place d.world (Recover name) ≡ s → is_over_group (d.world.nodes s) ≡ true → ComesDown d e s
+      → (Carries d old → Carries e mid) → RoseAll [] (count_of old) (count_of mid) → RisesBeside e s mid new result → LeadsBesideIs d (Recover name) old new result
+  rises_beside d e name s old mid new result place over comes before rose (inl rises) =
+      beside_over d (Recover name) old new result (ap (λ (k : ℕ). is_over_group (d.world.nodes k)) place ∙ over) (resumes d e name s old mid new result place over comes before rose rises)
+  rises_beside d e name s old mid new result place over comes before rose (inr finds) = finds_beside d e name s old mid new result place comes before rose finds
+
   pub from_down : (d : Doubted) (name : List ℕ) (s : ℕ) (old new : Yard R g) (before : DiskSet R g) (result : Result Said OutOfMemory) → StandsFor d old → group_place d.world (Recover name) ≡ s → GroupAt d old name s before
-      → (d.world.nodes s).state ≡ IsDown → ((e : Doubted) → StandsFor e old → s < e.world.sites → is_over_group (e.world.nodes s) ≡ true → (e.world.nodes s).state ≡ IsDown → RisesIs e s old new result)
-      → LeadsOverOrStops d (Recover name) old new result
+      → (d.world.nodes s).state ≡ IsDown → ((e : Doubted) → StandsFor e old → s < e.world.sites → is_over_group (e.world.nodes s) ≡ true → (e.world.nodes s).state ≡ IsDown → RisesBeside e s old new result)
+      → LeadsBesideIs d (Recover name) old new result
   from_down d name s old new before result stands place at down rises =
-      resumes d d name s old old new result place at.over (down_first d s down) (λ was. was) (rose_none (count_of old) (count_of old) (λ i u. omega arith)) (rises d stands at.below at.over down)
+      rises_beside d d name s old old new result place at.over (down_first d s down) (λ was. was) (rose_none (count_of old) (count_of old) (λ i u. omega arith)) (rises d stands at.below at.over down)
 
   pub from_up : (d : Doubted) (name : List ℕ) (s : ℕ) (old mid new : Yard R g) (before : DiskSet R g) (result : Result Said OutOfMemory) → StandsFor d old → group_place d.world (Recover name) ≡ s → slice_get old.disk_sets.items s ≡ Some before → GroupAt d old name s before
       → (d.world.nodes s).state ≡ IsUp → ((d : Doubted) → StandsFor d old → s < d.world.sites → (d.world.nodes s).state ≡ IsUp → Falls d s old mid)
-      → ((e : Doubted) → StandsFor e mid → s < e.world.sites → is_over_group (e.world.nodes s) ≡ true → (e.world.nodes s).state ≡ IsDown → RisesIs e s mid new result)
-      → LeadsOverOrStops d (Recover name) old new result
+      → ((e : Doubted) → StandsFor e mid → s < e.world.sites → is_over_group (e.world.nodes s) ≡ true → (e.world.nodes s).state ≡ IsDown → RisesBeside e s mid new result)
+      → LeadsBesideIs d (Recover name) old new result
   from_up d name s old mid new before result stands place there at up falls rises =
       let e : Doubted = happened d (CrashAt s 0) false in
       let f : Fallen d s old mid = fallen d s old mid before stands (group_by d old [] s before stands at.below at.over there) up (falls d stands at.below up) in
-      resumes d e name s old mid new result place at.over f.comes f.carries f.rose (rises e f.begin.stands f.begin.below f.begin.over f.begin.down)
+      rises_beside d e name s old mid new result place at.over f.comes f.carries f.rose (rises e f.begin.stands f.begin.below f.begin.over f.begin.down)
 
   -- ---- the group that came up, and the look
 
   pub stood_by : (s : ℕ) (cut : Option CutWrite) (old mid new : Yard R g) (before after : DiskSet R g) (answer : Result (Option KeptWrite) Stop) (result : Result Said OutOfMemory) → KeepsRest old mid
       → slice_get mid.disk_sets.items s ≡ Some before → new.disk_sets.items ≡ slice_set mid.disk_sets.items s after → ((n : Node) (note : GroupNode) → AtSite (UpNoted n note) before → LooksAt n note cut before after answer)
       → ((n : Node) (note : GroupNode) → AtSite (UpNoted n note) before → OnSites StaysMapped before after) → SameFailing before after → Later before after → new.racks ≡ mid.racks → new.flight ≡ mid.flight → new.feeders ≡ mid.feeders → new.dir ≡ mid.dir
-      → ((f : SiteFacts) (c : Config) → slice_get old.facts.items s ≡ Some f → AtSite (λ x. site_config x ≡ Some c) before → StandsSo s f c after answer old new result) → StoodUp s cut old new result
-  stood_by s cut old mid new before after answer result rest there disk_sets looks maps failing later racks flight feeders dir so = record {
+      → LooksOver cut before after answer
+      → ((f : SiteFacts) (c : Config) → slice_get old.facts.items s ≡ Some f → AtSite (λ x. site_config x ≡ Some c) before → c.rvg ≡ None → core_in before ≡ None → StandsSo s f c after answer old new result)
+      → ((f : SiteFacts) (c : Config) (core : Core) → slice_get old.facts.items s ≡ Some f → AtSite (λ x. site_config x ≡ Some c) before → core_in before ≡ Some core → StandsOver s f c core after answer old new result) → StoodUp s cut old new result
+  stood_by s cut old mid new before after answer result rest there disk_sets looks maps failing later racks flight feeders dir over so above = record {
     before = before;
     after = after;
     answer = answer;
@@ -323,15 +354,27 @@ module _ {R : Type 0} {g : Ghosts R} where
     flight = flight ∙ rest.flight;
     feeders = feeders ∙ rest.feeders;
     dir = dir ∙ rest.dir;
+    over = over;
     so = so;
+    above = above;
   }
 
   -- what the tests see of it
   noted_up : (s : ℕ) (old mid : Yard R g) (before : DiskSet R g) (f : SiteFacts) (c : Config) → KeepsRest old mid → slice_get mid.disk_sets.items s ≡ Some before → slice_get old.facts.items s ≡ Some f
-      → AtSite (λ x. site_config x ≡ Some c) before
-      → ((f : SiteFacts) (c : Config) → slice_get old.facts.items s ≡ Some f → HasConfig s c old → mid.facts.items ≡ slice_set old.facts.items s (group_up_facts (map plain_fact c.volumes) f))
+      → AtSite (λ x. site_config x ≡ Some c) before → c.rvg ≡ None → core_in before ≡ None
+      → ((f : SiteFacts) (c : Config) → slice_get old.facts.items s ≡ Some f → HasConfig s c old → c.rvg ≡ None → HasNoCore s old → mid.facts.items ≡ slice_set old.facts.items s (group_up_facts (map plain_fact c.volumes) f))
       → mid.facts.items ≡ slice_set old.facts.items s (group_up_facts (map plain_fact c.volumes) f)
-  noted_up s old mid before f c rest there at is noted = noted f c at (record { disk_set = before; there = ap (λ es. slice_get es.items s) (sym rest.disk_sets) ∙ there; is = is })
+  noted_up s old mid before f c rest there at is plain none noted =
+      let here : slice_get old.disk_sets.items s ≡ Some before = ap (λ es. slice_get es.items s) (sym rest.disk_sets) ∙ there in
+      noted f c at (record { disk_set = before; there = here; is = is }) plain (record { disk_set = before; there = here; is = none })
+
+  noted_over : (s : ℕ) (old mid : Yard R g) (before : DiskSet R g) (f : SiteFacts) (c : Config) (core : Core) → KeepsRest old mid → slice_get mid.disk_sets.items s ≡ Some before → slice_get old.facts.items s ≡ Some f
+      → AtSite (λ x. site_config x ≡ Some c) before → core_in before ≡ Some core
+      → ((f : SiteFacts) (c : Config) (core : Core) → slice_get old.facts.items s ≡ Some f → HasConfig s c old → HasCore s core old → mid.facts.items ≡ slice_set old.facts.items s (made_facts core c f))
+      → mid.facts.items ≡ slice_set old.facts.items s (made_facts core c f)
+  noted_over s old mid before f c core rest there at is has noted =
+      let here : slice_get old.disk_sets.items s ≡ Some before = ap (λ es. slice_get es.items s) (sym rest.disk_sets) ∙ there in
+      noted f c core at (record { disk_set = before; there = here; is = is }) (record { disk_set = before; there = here; is = has })
 
   seen_up : (s : ℕ) (old mid : Yard R g) (f x : SiteFacts) → slice_get old.facts.items s ≡ Some f → mid.facts.items ≡ slice_set old.facts.items s x → slice_get mid.facts.items s ≡ Some x
   seen_up s old mid f x at is = ap (λ (fs : List SiteFacts). slice_get fs s) is ∙ get-set_same old.facts.items s x (slice_get_within old.facts.items s f at)
@@ -339,12 +382,12 @@ module _ {R : Type 0} {g : Ghosts R} where
   -- its answer, where what is kept was read
   pub so_up : (s : ℕ) (old mid new : Yard R g) (before after : DiskSet R g) (kept : Option KeptWrite) (shown : Option Kept) (view : SiteView) → KeepsRest old mid → slice_get mid.disk_sets.items s ≡ Some before
       → new.facts.items ≡ mid.facts.items → new.assemblies ≡ mid.assemblies → mid.assemblies ≡ old.assemblies → slice_get new.disk_sets.items s ≡ Some after → shown ≡ kept_shown (volumes_of (config_in after)) kept
-      → ((f : SiteFacts) (c : Config) → slice_get old.facts.items s ≡ Some f → HasConfig s c old → mid.facts.items ≡ slice_set old.facts.items s (group_up_facts (map plain_fact c.volumes) f))
+      → ((f : SiteFacts) (c : Config) → slice_get old.facts.items s ≡ Some f → HasConfig s c old → c.rvg ≡ None → HasNoCore s old → mid.facts.items ≡ slice_set old.facts.items s (group_up_facts (map plain_fact c.volumes) f))
       → ((f : SiteFacts) (c : Config) → slice_get new.facts.items s ≡ Some f → f.rvg ≡ None → HasConfig s c new → view ≡ view_with f (Some c))
-      → (f : SiteFacts) (c : Config) → slice_get old.facts.items s ≡ Some f → AtSite (λ x. site_config x ≡ Some c) before → StandsSo s f c after (Ok kept) old new (Ok (Resumed view shown))
-  so_up s old mid new before after kept shown view rest there facts loads held here shows noted views f c at is =
+      → (f : SiteFacts) (c : Config) → slice_get old.facts.items s ≡ Some f → AtSite (λ x. site_config x ≡ Some c) before → c.rvg ≡ None → core_in before ≡ None → StandsSo s f c after (Ok kept) old new (Ok (Resumed view shown))
+  so_up s old mid new before after kept shown view rest there facts loads held here shows noted views f c at is plain none =
       let x : SiteFacts = group_up_facts (map plain_fact c.volumes) f in
-      let marked : mid.facts.items ≡ slice_set old.facts.items s x = noted_up s old mid before f c rest there at is noted in
+      let marked : mid.facts.items ≡ slice_set old.facts.items s x = noted_up s old mid before f c rest there at is plain none noted in
       let now : slice_get new.facts.items s ≡ Some x = ap (λ (fs : List SiteFacts). slice_get fs s) facts ∙ seen_up s old mid f x at marked in (
         facts ∙ marked,
         loads ∙ held,
@@ -353,20 +396,52 @@ module _ {R : Type 0} {g : Ghosts R} where
             ∙ ap (λ (o : Option Kept). Ok (Resumed (view_with x (Some k)) o)) (shows ∙ ap (λ (o : Option Config). kept_shown (volumes_of o) kept) (config_at after (Some k) has)),
       )
 
+  -- the same with a replicated volume group over it
+  pub above_up : (s : ℕ) (old mid new : Yard R g) (before after : DiskSet R g) (kept : Option KeptWrite) (shown : Option Kept) (view : SiteView) → KeepsRest old mid → slice_get mid.disk_sets.items s ≡ Some before
+      → new.facts.items ≡ mid.facts.items → new.assemblies ≡ mid.assemblies → mid.assemblies ≡ old.assemblies → shown ≡ kept_shown (volumes_of (config_in after)) kept
+      → ((f : SiteFacts) (c : Config) (core : Core) → slice_get old.facts.items s ≡ Some f → HasConfig s c old → HasCore s core old → mid.facts.items ≡ slice_set old.facts.items s (made_facts core c f))
+      → ((e : Doubted) (f : SiteFacts) → StandsFor e new → s < e.world.sites → is_over_rvg (e.world.nodes s) ≡ true → slice_get new.facts.items s ≡ Some f → f.links ≡ []
+      → view ≡ over_disks (e.world.nodes s) (note_at (e.world.nodes s)) (linked_view e.world s))
+      → (f : SiteFacts) (c : Config) (core : Core) → slice_get old.facts.items s ≡ Some f → AtSite (λ x. site_config x ≡ Some c) before → core_in before ≡ Some core → StandsOver s f c core after (Ok kept) old new (Ok (Resumed view shown))
+  above_up s old mid new before after kept shown view rest there facts loads held shows noted views f c core at is has =
+      let x : SiteFacts = made_facts core c f in
+      let marked : mid.facts.items ≡ slice_set old.facts.items s x = noted_over s old mid before f c core rest there at is has noted in
+      let now : slice_get new.facts.items s ≡ Some x = ap (λ (fs : List SiteFacts). slice_get fs s) facts ∙ seen_up s old mid f x at marked in (
+        facts ∙ marked,
+        loads ∙ held,
+        λ e stands below over unlinked.
+            ap (λ (v : SiteView). Ok (Resumed v shown)) (views e x stands below over now unlinked)
+            ∙ ap (λ (o : Option Kept). Ok (Resumed (over_disks (e.world.nodes s) (note_at (e.world.nodes s)) (linked_view e.world s)) o)) shows,
+      )
+
   -- and where it was not
+  fell_seen : (s : ℕ) (old mid near new : Yard R g) (f x : SiteFacts) → slice_get old.facts.items s ≡ Some f → near.facts.items ≡ mid.facts.items → mid.facts.items ≡ slice_set old.facts.items s x
+      → ((f : SiteFacts) → slice_get near.facts.items s ≡ Some f → new.facts.items ≡ slice_set near.facts.items s (down_fact f)) → new.facts.items ≡ slice_set old.facts.items s (down_fact x)
+  fell_seen s old mid near new f x at facts marked fell =
+      let now : slice_get near.facts.items s ≡ Some x = ap (λ (fs : List SiteFacts). slice_get fs s) facts ∙ seen_up s old mid f x at marked in
+      fell x now ∙ ap (λ (fs : List SiteFacts). slice_set fs s (down_fact x)) (facts ∙ marked) ∙ set_twice old.facts.items s x (down_fact x)
+
   pub so_down : (s : ℕ) (old mid near new : Yard R g) (before after : DiskSet R g) (stop : Stop) (result : Result Said OutOfMemory) → KeepsRest old mid → slice_get mid.disk_sets.items s ≡ Some before → near.facts.items ≡ mid.facts.items
       → near.assemblies ≡ mid.assemblies → mid.assemblies ≡ old.assemblies
-      → ((f : SiteFacts) (c : Config) → slice_get old.facts.items s ≡ Some f → HasConfig s c old → mid.facts.items ≡ slice_set old.facts.items s (group_up_facts (map plain_fact c.volumes) f))
+      → ((f : SiteFacts) (c : Config) → slice_get old.facts.items s ≡ Some f → HasConfig s c old → c.rvg ≡ None → HasNoCore s old → mid.facts.items ≡ slice_set old.facts.items s (group_up_facts (map plain_fact c.volumes) f))
       → ((f : SiteFacts) → slice_get near.facts.items s ≡ Some f → new.facts.items ≡ slice_set near.facts.items s (down_fact f)) → LetGo s near.assemblies.items new.assemblies.items → result ≡ reply_to stop
-      → (f : SiteFacts) (c : Config) → slice_get old.facts.items s ≡ Some f → AtSite (λ x. site_config x ≡ Some c) before → StandsSo s f c after (Err stop) old new result
-  so_down s old mid near new before after stop result rest there facts loads held noted fell lets replied f c at is =
-      let x : SiteFacts = group_up_facts (map plain_fact c.volumes) f in
-      let marked : mid.facts.items ≡ slice_set old.facts.items s x = noted_up s old mid before f c rest there at is noted in
-      let now : slice_get near.facts.items s ≡ Some x = ap (λ (fs : List SiteFacts). slice_get fs s) facts ∙ seen_up s old mid f x at marked in (
-        fell x now ∙ ap (λ (fs : List SiteFacts). slice_set fs s (down_fact x)) (facts ∙ marked) ∙ set_twice old.facts.items s x (down_fact x),
-        subst (λ (xs : List Assembled). LetGo s xs new.assemblies.items) (ap (λ xs. xs.items) (loads ∙ held)) lets,
-        replied,
-      )
+      → (f : SiteFacts) (c : Config) → slice_get old.facts.items s ≡ Some f → AtSite (λ x. site_config x ≡ Some c) before → c.rvg ≡ None → core_in before ≡ None → StandsSo s f c after (Err stop) old new result
+  so_down s old mid near new before after stop result rest there facts loads held noted fell lets replied f c at is plain none = (
+    fell_seen s old mid near new f (group_up_facts (map plain_fact c.volumes) f) at facts (noted_up s old mid before f c rest there at is plain none noted) fell,
+    subst (λ (xs : List Assembled). LetGo s xs new.assemblies.items) (ap (λ xs. xs.items) (loads ∙ held)) lets,
+    replied,
+  )
+
+  pub above_down : (s : ℕ) (old mid near new : Yard R g) (before after : DiskSet R g) (stop : Stop) (result : Result Said OutOfMemory) → KeepsRest old mid → slice_get mid.disk_sets.items s ≡ Some before → near.facts.items ≡ mid.facts.items
+      → near.assemblies ≡ mid.assemblies → mid.assemblies ≡ old.assemblies
+      → ((f : SiteFacts) (c : Config) (core : Core) → slice_get old.facts.items s ≡ Some f → HasConfig s c old → HasCore s core old → mid.facts.items ≡ slice_set old.facts.items s (made_facts core c f))
+      → ((f : SiteFacts) → slice_get near.facts.items s ≡ Some f → new.facts.items ≡ slice_set near.facts.items s (down_fact f)) → LetGo s near.assemblies.items new.assemblies.items → result ≡ reply_to stop
+      → (f : SiteFacts) (c : Config) (core : Core) → slice_get old.facts.items s ≡ Some f → AtSite (λ x. site_config x ≡ Some c) before → core_in before ≡ Some core → StandsOver s f c core after (Err stop) old new result
+  above_down s old mid near new before after stop result rest there facts loads held noted fell lets replied f c core at is has = (
+    fell_seen s old mid near new f (made_facts core c f) at facts (noted_over s old mid before f c core rest there at is has noted) fell,
+    subst (λ (xs : List Assembled). LetGo s xs new.assemblies.items) (ap (λ xs. xs.items) (loads ∙ held)) lets,
+    replied,
+  )
 
   -- memory ran out before anything was done
   pub unbegun_rise : (d : Doubted) (name : List ℕ) (y : Yard R g) (r : Result Said OutOfMemory) (x : OutOfMemory) → r ≡ Err x → StandsFor d y → LeadsOverOrStops d (Recover name) y y r

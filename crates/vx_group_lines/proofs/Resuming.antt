@@ -46,6 +46,7 @@ use Rattle.vx_events.specs.GroupMaps.{MapsRecovered}
 use Rattle.vx_events.specs.GroupNotes.{NotesBack, note_at, IsKnown}
 use Rattle.vx_events.specs.GroupReplies.{ShowsKept}
 use Rattle.vx_events.specs.GroupViews.{config_of, grouped_view, noted_table, plain_fact}
+use Rattle.vx_events.specs.RvgFits.{config_rvg}
 use Rattle.vx_events.specs.StepsOver.{fact_of_group}
 use Rattle.vx_events.specs.declared.said.Said.{Said}
 use Rattle.vx_events.specs.declared.said.Said.TheVariants.{Refused, Resumed}
@@ -150,7 +151,7 @@ module _ {R : Type 0} {g : Ghosts R} where
     module _
         (m : GroupSite R g) (next : GroupNode) (back : NoteReturns (IsTrue (site_disks m).tells) (note_dimmed (is_dimmed call.at.set.site) (note_at (e.world.nodes s))) next)
         (config : ConfigReturns (note_dimmed (is_dimmed call.at.set.site) (note_at (e.world.nodes s))) next (as_imported call.at.set.site) m) (lit : next.dark ≡ false → IsTrue (site_below m).tells → IsTrue (site_disks m).tells)
-        (since : (set : GroupSet R g) → after ≡ OfGroup set → SinceThen m set.site) (cut : Option CutWrite) (cut_is : cut ≡ call.at.set.cut) (c : Config) (reads : config_of next.config ≡ Some (at_serial 0 c))
+        (since : (set : GroupSet R g) → after ≡ OfGroup set → SinceThen m set.site) (cut : Option CutWrite) (cut_is : cut ≡ call.at.set.cut) (c : Config) (reads : config_of next.config ≡ Some (at_serial 0 c)) (alone : c.rvg ≡ None)
         (mid : Yard R g) (half : HalfWay mid) (result : Result Said OutOfMemory)
         (mapped : (set : GroupSet R g) → after ≡ OfGroup set → StandMaps next set.site) (renewed : next.dark ≡ false → IsTrue (site_disks m).tells → MapsRecovered (note_at (e.world.nodes s)) next)
       where
@@ -235,7 +236,7 @@ module _ {R : Type 0} {g : Ghosts R} where
             follows =
                 follows_on e (noted_at (happened e (Regroup s) false) s next) s (risen_node next n) next (group_up_facts (map plain_fact c.volumes) (fact_of_group n note)) old new before t.set begin.stands begin.below (turned t.set t.is)
                 (arrives_noted e (happened e (Regroup s) false) s (group_up n) next (e.world.gathering s) risen) (up_notes (risen_node next n) next t.set.site holds).0
-                (up_set (risen_node next n) next t.set (record { few = sized.few; some = sized.some }) holds (mapped t.set t.is) ? (ap (λ (x : DiskSet R g). cut_in x) (sym t.is) ∙ clear) back.cut)
+                (up_set (risen_node next n) next t.set (record { few = sized.few; some = sized.some }) holds (mapped t.set t.is) (ap (λ (x : Option Config). config_rvg x) reads ∙ alone) (ap (λ (x : DiskSet R g). cut_in x) (sym t.is) ∙ clear) back.cut)
                 (still_fails (risen_node next n) t.set t.is refl) (fused_none (risen_node next n) (OfGroup t.set) (unfused_down n note call.at.set.site is_down)) (up_seen n note next c reads)
                 (so.0 ∙ ap (λ (fs : List SiteFacts). slice_set fs s (group_up_facts (map plain_fact c.volumes) (fact_of_group n note))) half.facts) load
 
@@ -307,7 +308,7 @@ module _ {R : Type 0} {g : Ghosts R} where
                 (down_fact (group_up_facts (map plain_fact c.volumes) (fact_of_group n note))) old new before t.set begin.stands begin.below (turned t.set t.is)
                 (arrives_noted e (happened (happened e (Regroup s) false) (CrashAt s 0) false) s (crashed (group_up n) 0) (still_cut cut next) None fell)
                 (λ back_up. let w : IsDown ≡ IsUp = back_up in absurd (cc)) (down_notes k (still_cut cut next) t.set.site t.holds).0
-                (down_set k (still_cut cut next) t.set (record { few = sized.few; some = sized.some }) t.holds (stand_as next (still_cut cut next) t.set.site refl refl refl (mapped t.set t.is)) ? same (λ x is. fits_note (still_cut cut next) next refl x (fits x t.set.cut same is)))
+                (down_set k (still_cut cut next) t.set (record { few = sized.few; some = sized.some }) t.holds (stand_as next (still_cut cut next) t.set.site refl refl refl (mapped t.set t.is)) (ap (λ (x : Option Config). config_rvg x) reads ∙ alone) same (λ x is. fits_note (still_cut cut next) next refl x (fits x t.set.cut same is)))
                 (still_fails k t.set t.is refl) (fused_none k (OfGroup t.set) refl) (fell_seen n note next (still_cut cut next) c reads refl)
                 (so.0 ∙ ap (λ (fs : List SiteFacts). slice_set fs s (down_fact (group_up_facts (map plain_fact c.volumes) (fact_of_group n note)))) half.facts) lets
 

@@ -1,11 +1,9 @@
 -- What a line leads a yard to that found a replicated volume group over the group of disks of its site, of which nothing was known.
-use Rattle.std.proofs.Common.{◌≡◌, ◌∙◌, ◌++◌, ◌<◌, ◌⊎◌, inl, inr, ⊎_elim, ℕ, Bool, true, false, List, [], length, ap, sym, subst, refl, IsTrue}
+use Rattle.std.proofs.Common.{◌≡◌, ◌∙◌, ◌++◌, ◌<◌, ◌⊎◌, inl, inr, ⊎_elim, ℕ, Bool, true, false, List, [], ap, sym, subst, refl, IsTrue}
 use Rattle.std.proofs.lemmas.List.{append-nil}
 use Rattle.std.proofs.lemmas.Option.{slice_get_within}
 use Rattle.std.specs.Prelude.{Option, Some, None, if◌then◌else◌, slice_get, slice_set, unwrap_or}
 use Rattle.vx_model.specs.Sites.{is_origin}
-use Rattle.vx_model.specs.declared.site.SPhase.TheVariants.{Quiet}
-use Rattle.vx_model.specs.declared.units.Units.{Units}
 use Rattle.vx_model.proofs.Tests.{by_bool}
 use Rattle.vx_disk.specs.declared.shelf.Shelf.{Ghosts}
 use Rattle.vx_config.specs.declared.config.Config.{Config}
@@ -42,7 +40,7 @@ use Rattle.vx_events.specs.Effects.{ChangesNode, EffectAt}
 use Rattle.vx_events.specs.Ends.{found_linked}
 use Rattle.vx_events.specs.Facts.{group_fact}
 use Rattle.vx_events.specs.Fails.{Fails}
-use Rattle.vx_events.specs.Found.{ComesUpAs, SameDisks}
+use Rattle.vx_events.specs.Found.{ComesUpAs}
 use Rattle.vx_events.specs.GroupEnds.{BringsUp, KnowsNothing}
 use Rattle.vx_events.specs.GroupLines.{group_noted, noting}
 use Rattle.vx_events.specs.GroupNotes.{no_note, note_at}
@@ -50,7 +48,7 @@ use Rattle.vx_events.specs.GroupViews.{config_of}
 use Rattle.vx_events.specs.LinkViews.{linked_view}
 use Rattle.vx_events.specs.LinksFit.{LinksFit}
 use Rattle.vx_events.specs.RvgBack.{FindsRvg, RvgFinds, SaysFoundUp}
-use Rattle.vx_events.specs.RvgFits.{FitsRvg, HasUnits}
+use Rattle.vx_events.specs.RvgFits.{FitsRvg}
 use Rattle.vx_events.specs.RvgViews.{is_over_rvg, over_disks}
 use Rattle.vx_events.specs.StepsOver.{fact_of_group, fact_over}
 use Rattle.vx_events.specs.Strays.{gone_astray}
@@ -174,46 +172,8 @@ knows_nothing told tells note lit less =
 -- ---- the line
 
 module _ {R : Type 0} {g : Ghosts R} where
-  -- a replicated volume group that came up over a group of disks of which nothing was known
-  pub record FoundHere (beside : KeptBeside) (n : Node) (lit : Fuse) (p : OverSet R g) : Type 0 where
-    pub next : GroupNode
-    pub now : Config
-    pub units : Units
-    pub node : Node
-    pub same : SameDisks (record n { volumes = node.volumes; group = Some next; fuse = lit }) node
-    pub whole : length node.log ≡ node.safe
-    pub quiet : node.phase ≡ Quiet
-    pub origin : is_origin node.role ≡ true
-    pub rests : node.fed_by ≡ node.other
-    pub clear : next.cut ≡ None
-    pub is : config_of next.config ≡ Some now
-    pub fits : FitsRvg node now units
-    pub has : HasUnits now.volumes units
-    pub noted : SiteNoted node next (Over p)
-    pub stands : SiteStands beside node (Over p)
-
-  -- as the disk set says it
-  pub found_up : (beside : KeptBeside) (n : Node) (lit : Fuse) (p : OverSet R g) → FoundOver beside n lit p → FoundHere beside n lit p
-  found_up beside n lit p it = record {
-    next = it.next;
-    now = it.now;
-    units = it.units;
-    node = it.node;
-    same = it.same;
-    whole = it.whole;
-    quiet = it.quiet;
-    origin = it.origin;
-    rests = it.rests;
-    clear = it.clear;
-    is = it.is;
-    fits = it.fits;
-    has = it.has;
-    noted = it.noted;
-    stands = it.stands;
-  }
-
-  -- and behind calls on its disks
-  pub found_worked : (beside : KeptBeside) (n : Node) (lit : Fuse) (p q : OverSet R g) (it : FoundHere beside n lit p) → SiteStands beside (worked it.node) (Over q) → SiteNoted (worked it.node) it.next (Over q) → FoundHere beside n (burned lit) q
+  -- what came up, behind calls on its disks
+  pub found_worked : (beside : KeptBeside) (n : Node) (lit : Fuse) (p q : OverSet R g) (it : FoundOver beside n lit p) → SiteStands beside (worked it.node) (Over q) → SiteNoted (worked it.node) it.next (Over q) → FoundOver beside n (burned lit) q
   found_worked beside n lit p q it stands noted = record {
     next = it.next;
     now = it.now;
@@ -253,7 +213,7 @@ module _ {R : Type 0} {g : Ghosts R} where
     pub changed : Changed old new s before (Over p)
     pub failing : SameFailing before (Over p)
     pub brings : BringsUp line
-    pub over : FoundHere (beside_of (own_disks taken s d.world h) s) ((own_disks taken s d.world h).world.nodes s) lit p
+    pub over : FoundOver (beside_of (own_disks taken s d.world h) s) ((own_disks taken s d.world h).world.nodes s) lit p
     pub less : KnowsLess (note_at ((own_disks taken s d.world h).world.nodes s)) over.next (site_in p)
     pub lit_is : lit_by line ((own_disks taken s d.world h).world.nodes s).fuse ≡ lit
     pub fused : FusedAs over.node (Over p)

@@ -4,17 +4,18 @@ ghost use Rattle.vx_diskset.specs.Asked.{SameFailing};
 ghost use Rattle.vx_events.specs.GroupLines.{is_over_group};
 ghost use Rattle.vx_events.specs.GroupViews.{volumes_of};
 ghost use Rattle.vx_group_lines.specs.Noting.{KeepsRest};
-ghost use Rattle.vx_group_lines.specs.Rises.{RisesIs, StoodUp, kept_shown};
+ghost use Rattle.vx_group_lines.specs.Rises.{RisesBeside, StoodUp, kept_shown};
 ghost use Rattle.vx_model.specs.declared.site.SiteState.TheVariants.{Down as DownState};
 ghost use Rattle.vx_order.specs.declared.facts.SiteFacts.{SiteFacts as Facts};
 ghost use Rattle.vx_effects.specs.Facts.{down_fact};
+ghost use Rattle.vx_yard.specs.AboveLines.{LeadsBesideIs};
 ghost use Rattle.vx_yard.specs.Loads.{LetGo};
 ghost use Rattle.vx_yard.specs.Replies.{reply_to};
 ghost use Rattle.vx_history.specs.Doubts.{Doubted};
 ghost use Rattle.vx_script.specs.declared.line.ScriptLine.TheVariants.{Recover};
 ghost use Rattle.vx_events.specs.StepsOver.{is_for_group};
 ghost use Rattle.vx_yard.specs.OfSites.{AsAsked, OfSite};
-ghost use Rattle.vx_yard.specs.Standing.{LeadsOverOrStops, StandsFor};
+ghost use Rattle.vx_yard.specs.Standing.{StandsFor};
 ghost use Rattle.vx_yard.specs.Working.{IsFree};
 ghost use Rattle.vx_yard.specs.Yards.{IsYardKept, IsTold, in_files};
 
@@ -139,7 +140,7 @@ fn rise<R: Rack>(
     requires volumes { room.volumes ≡ [] }
     requires disks { room.views.disks ≡ [] }
     requires views { room.views.volumes ≡ [] }
-    ensures rises { (e : Doubted) → StandsFor e yard.old → site < e.world.sites → is_over_group (e.world.nodes site) ≡ true → (e.world.nodes site).state ≡ DownState → RisesIs e site yard.old yard.new result }
+    ensures rises { (e : Doubted) → StandsFor e yard.old → site < e.world.sites → is_over_group (e.world.nodes site) ≡ true → (e.world.nodes site).state ≡ DownState → RisesBeside e site yard.old yard.new result }
     ensures failing { OfSite SameFailing site yard.old yard.new }
     ensures told { IsTold yard.new → IsTold yard.old }
     ensures files { in_files yard.new ≡ in_files yard.old }
@@ -162,7 +163,7 @@ pub fn recover_line<R: Rack>(
 ) -> Result<Said, OutOfMemory>
     requires kept { IsYardKept yard.old }
     requires free { IsFree yard.old (Recover name.now) }
-    ensures leads { (d : Doubted) → StandsFor d yard.old → is_for_group d.world (Recover name.now) ≡ true → LeadsOverOrStops d (Recover name.now) yard.old yard.new result }
+    ensures beside { (d : Doubted) → StandsFor d yard.old → is_for_group d.world (Recover name.now) ≡ true → LeadsBesideIs d (Recover name.now) yard.old yard.new result }
     ensures asked { (d : Doubted) → StandsFor d yard.old → is_for_group d.world (Recover name.now) ≡ true → AsAsked d.world (Recover name.now) yard.old yard.new }
     ensures told { IsTold yard.new → IsTold yard.old }
     ensures files { in_files yard.new ≡ in_files yard.old }

@@ -7,7 +7,9 @@ use Rattle.vx_diskset.specs.Asked.{SameFailing}
 use Rattle.vx_events.proofs.Places.{some_same}
 use Rattle.vx_events.proofs.Refused.{recover_may}
 use Rattle.vx_events.specs.Facts.{site_number}
+use Rattle.vx_above.proofs.Works.{beside_over}
 use Rattle.vx_order.specs.declared.facts.SiteFacts.{SiteFacts}
+use Rattle.vx_script.specs.declared.line.ScriptLine.TheVariants.{Recover}
 use Rattle.vx_yard.proofs.Lists.{get_at}
 use Rattle.vx_yard.proofs.NamedSite.{named_same, place_at, unbegun_site}
 use Rattle.vx_yard.proofs.OfSites.{recovers_none, recovers_rest, recovers_up}
@@ -22,18 +24,18 @@ use Rattle.vx_group_lines.proofs.recover.recover_line.Goals as goal
 pub site_of-site-requires-clause-named : goal.site_of-site-requires-clause-named
 site_of-site-requires-clause-named g c = λ κs within. named_some c.args.yard.now c.args.name.now (recover_may c.args.yard.now.facts.items (in_files c.args.yard.now) c.args.name.now c.requires.free)
 
-pub returns-in_err-room-clause-leads : goal.returns-in_err-room-clause-leads
-returns-in_err-room-clause-leads g c = λ d stands over.
+pub returns-in_err-room-clause-beside : goal.returns-in_err-room-clause-beside
+returns-in_err-room-clause-beside g c = λ d stands over.
     let p = err_from_is_err_and c.from_residual.result c.from_residual.ensures.1 in
-    unbegun_rise d c.args.name.now c.args.yard.now c.from_residual.result p.0 p.1 stands
+    beside_over d (Recover c.args.name.now) c.args.yard.now c.args.yard.now c.from_residual.result over (unbegun_rise d c.args.name.now c.args.yard.now c.from_residual.result p.0 p.1 stands)
 
 pub returns-in_err-room-clause-asked : goal.returns-in_err-room-clause-asked
 returns-in_err-room-clause-asked g c = λ d stands over.
     recovers_none (d.world.nodes (site_number d.world c.args.name.now)).state (site_number d.world c.args.name.now) c.args.yard.now
     (unbegun_site SameFailing d c.args.yard.now c.args.name.now failing_same stands (recover_may c.args.yard.now.facts.items (in_files c.args.yard.now) c.args.name.now c.requires.free))
 
-pub returns-in-Up-clause-leads : goal.returns-in-Up-clause-leads
-returns-in-Up-clause-leads g c = λ d stands over.
+pub returns-in-Up-clause-beside : goal.returns-in-Up-clause-beside
+returns-in-Up-clause-beside g c = λ d stands over.
     let y = c.args.yard.now in
     let s = c.site_of-site.result in
     let seat = c.site_of-site.ensures.seat in
@@ -43,8 +45,8 @@ returns-in-Up-clause-leads g c = λ d stands over.
     from_up d c.args.name.now s y c.go_down.new.yard c.rise.new.yard there.0 c.rise.result stands (place_at d y c.args.name.now s stands seat).number there.1 at
     (ap (λ (f : SiteFacts). f.state) (some_same (sym at.fact ∙ here)) ∙ c.in-Up.is) c.go_down.ensures.falls c.rise.ensures.rises
 
-pub returns-in_default-clause-leads : goal.returns-in_default-clause-leads
-returns-in_default-clause-leads g c = λ d stands over.
+pub returns-in_default-clause-beside : goal.returns-in_default-clause-beside
+returns-in_default-clause-beside g c = λ d stands over.
     let y = c.args.yard.now in
     let s = c.site_of-site.result in
     let seat = c.site_of-site.ensures.seat in

@@ -2,10 +2,12 @@
 use Rattle.std.proofs.Common.{◌∙◌, ap, sym, subst, refl}
 use Rattle.std.specs.Prelude.{Some, slice_set}
 use Rattle.vx_model.proofs.Lists.{get_there}
+use Rattle.vx_diskset.specs.OverStarts.{RaisesIn}
 use Rattle.vx_diskset.specs.Recovers.{RaisesGroup, RaisesMaps}
 use Rattle.vx_diskset.specs.declared.disk_set.DiskSet.TheVariants.{Gone}
 use Rattle.vx_yard.proofs.Lists.{get_at, set_twice}
-use Rattle.vx_group_lines.proofs.Recovering.{came_down, came_up, dir_mid, of_down, of_up, told_down, told_up}
+use Rattle.vx_group_lines.proofs.RecoverBeside.{beside_down, beside_up}
+use Rattle.vx_group_lines.proofs.Recovering.{dir_mid, of_down, of_up, told_down, told_up}
 use Rattle.vx_group_lines.proofs.recover.rise.Goals as goal
 
 pub returns-in-Ok-clause-rises : goal.returns-in-Ok-clause-rises
@@ -14,7 +16,7 @@ returns-in-Ok-clause-rises g c = λ e stands below over down.
     let s = c.args.site in
     let at = get_at ds s c.index_mut.result.now c.requires.disk_set c.index_mut.ensures.value in
     let there = at ∙ ap (λ x. Some x) (sym c.replace-disk_set.ensures.value) in
-    came_up c.args.yard.now _ c.stand_up.new.yard s c.replace-disk_set.result c.raise_group-disk_set.result.0
+    beside_up c.args.yard.now _ c.stand_up.new.yard s c.replace-disk_set.result c.raise_group-disk_set.result.0
     (record {
       there = there;
       disk_sets = ap (λ x. slice_set (slice_set ds s x) s c.raise_group-disk_set.result.0) c.replace-disk_set.ensures.after ∙ set_twice ds s Gone c.raise_group-disk_set.result.0;
@@ -25,8 +27,10 @@ returns-in-Ok-clause-rises g c = λ e stands below over down.
       later = c.raise_group-disk_set.ensures.later;
     })
     e (record { stands = stands; below = below; over = over; down = down }) c.in-Ok.cut c.stand_up.result
+    (subst (λ r. RaisesIn c.replace-disk_set.result c.raise_group-disk_set.result.0 r) c.in-Ok.is c.raise_group-disk_set.ensures.brought)
     (λ n note was. subst (λ r. RaisesGroup n note c.replace-disk_set.result c.raise_group-disk_set.result.0 r) c.in-Ok.is (c.raise_group-disk_set.ensures.raised n note was))
     (λ n note was. subst (λ r. RaisesMaps c.replace-disk_set.result c.raise_group-disk_set.result.0 r) c.in-Ok.is (c.raise_group-disk_set.ensures.maps n note was))
+    c.raise_group-disk_set.ensures.found
     c.stand_up.ensures.stood
 
 pub returns-in-Ok-clause-failing : goal.returns-in-Ok-clause-failing
@@ -71,7 +75,7 @@ returns-in-Err-clause-rises g c = λ e stands below over down.
     let s = c.args.site in
     let at = get_at ds s c.index_mut.result.now c.requires.disk_set c.index_mut.ensures.value in
     let there = at ∙ ap (λ x. Some x) (sym c.replace-disk_set.ensures.value) in
-    came_down c.args.yard.now _ c.group_stopped.new.yard s c.replace-disk_set.result c.raise_group-disk_set.result.0
+    beside_down c.args.yard.now _ c.group_stopped.new.yard s c.replace-disk_set.result c.raise_group-disk_set.result.0
     (record {
       there = there;
       disk_sets = ap (λ x. slice_set (slice_set ds s x) s c.raise_group-disk_set.result.0) c.replace-disk_set.ensures.after ∙ set_twice ds s Gone c.raise_group-disk_set.result.0;
@@ -82,6 +86,7 @@ returns-in-Err-clause-rises g c = λ e stands below over down.
       later = c.raise_group-disk_set.ensures.later;
     })
     e (record { stands = stands; below = below; over = over; down = down }) c.in-Err.stop c.group_stopped.result
+    (subst (λ r. RaisesIn c.replace-disk_set.result c.raise_group-disk_set.result.0 r) c.in-Err.is c.raise_group-disk_set.ensures.brought)
     (λ n note was. subst (λ r. RaisesGroup n note c.replace-disk_set.result c.raise_group-disk_set.result.0 r) c.in-Err.is (c.raise_group-disk_set.ensures.raised n note was))
     (λ n note was. subst (λ r. RaisesMaps c.replace-disk_set.result c.raise_group-disk_set.result.0 r) c.in-Err.is (c.raise_group-disk_set.ensures.maps n note was))
     c.group_stopped.ensures
