@@ -1,5 +1,5 @@
 -- What a recovery of a site whose group has a replicated volume group leads its yard to, where the group came up and the replicated volume group did not.
-use Rattle.std.proofs.Common.{◌≡◌, ◌∙◌, ◌⊎◌, ◌++◌, ◌+◌, ◌<◌, ◌≤◌, ℕ, zero, suc, Bool, true, false, List, [], ◌∷◌, length, map, ap, sym, subst, refl, arith, inl, inr, ⊎_elim}
+use Rattle.std.proofs.Common.{◌≡◌, ◌∙◌, ◌++◌, ◌+◌, ◌<◌, ◌≤◌, ℕ, zero, suc, Bool, true, false, List, [], ◌∷◌, length, map, ap, sym, subst, refl, arith, inl, inr, ⊎_elim}
 use Rattle.std.specs.Prelude.{Contains, Option, Some, slice_get, slice_set}
 use Rattle.vx_model.specs.declared.errors.Stop.{Stop}
 use Rattle.vx_model.specs.declared.limits.TheConstants.{MOST_NUMBER}
