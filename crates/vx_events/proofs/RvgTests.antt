@@ -172,7 +172,7 @@ gained_note s next last new left =
     ∙ ap (λ (k : Node). note_at k) (at_place last.world.nodes s (record (last.world.nodes s) { group = Some next }))
 
 -- the units are volumes of the configuration that is noted then
-gained_units : (told : Type 0) (s : ℕ) (fails : Fails) (units : Units) (note middle next : GroupNode) (x : NotesRvg told s fails units note middle next)
+pub gained_units : (told : Type 0) (s : ℕ) (fails : Fails) (units : Units) (note middle next : GroupNode) (x : NotesRvg told s fails units note middle next)
     → HasUnits (entries_noted note) units → HasUnits x.moves.now.volumes units
 gained_units told s fails units note middle next x has =
     let c : Config = as_replicated units x.moves.old in

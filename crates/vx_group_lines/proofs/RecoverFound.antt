@@ -45,7 +45,7 @@ use Rattle.vx_yard.proofs.OverGroup.{over_rvg}
 use Rattle.vx_yard.specs.Standing.{StandsFor}
 use Rattle.vx_yard.specs.declared.yard.Yard.{Yard}
 use Rattle.vx_group_lines.specs.Noting.{made_facts}
-use Rattle.vx_group_lines.specs.Rises.{ComesDown, FindsUp, StandsOver, StoodUp, kept_shown}
+use Rattle.vx_group_lines.specs.Rises.{ComesDown, FindsAbove, StandsOver, StoodUp, kept_shown}
 use Rattle.vx_group_lines.specs.RvgRises.{RaisesIs, RestsSo, rests_as, rests_world}
 use Rattle.vx_group_lines.proofs.Arriving.{Arrives}
 use Rattle.vx_group_lines.proofs.GroupAt.{GroupAt, down_noted, group_by}
@@ -222,7 +222,7 @@ module _ {R : Type 0} {g : Ghosts R} where
 
   pub found_risen : (e : Doubted) (s : ℕ) (old mid new : Yard R g) (before between : DiskSet R g) (first : RaisedTo old mid s before between) (begin : Begins e s old)
       (cut : Option CutWrite) (result : Result Said OutOfMemory) (st : StoodUp s cut mid new result) (x : OverSet R g) → between ≡ Over x → cut ≡ None
-      → PlainFound (beside_of e s) (e.world.nodes s) (note_at (e.world.nodes s)) x → FindsUp e s old new result
+      → PlainFound (beside_of e s) (e.world.nodes s) (note_at (e.world.nodes s)) x → FindsAbove e s old new result
   found_risen e s old mid new before between first begin cut result st x is none again = by st.answer refl looks
     where
       n : Node
@@ -275,9 +275,9 @@ module _ {R : Type 0} {g : Ghosts R} where
           st.above f sits.config sits.core (ap (λ (fs : List SiteFacts). slice_get fs s) first.facts ∙ at.fact)
           (subst (λ (y : DiskSet R g). AtSite (λ z. site_config z ≡ Some sits.config) y) (sym at_before) sits.has) (subst (λ (y : DiskSet R g). core_in y ≡ Some sits.core) (sym at_before) sits.has_core)
 
-      by : (answer : Result (Option KeptWrite) Stop) → st.answer ≡ answer → LookedOver (beside_of e s) here.node here.next None x p st.answer → FindsUp e s old new result
+      by : (answer : Result (Option KeptWrite) Stop) → st.answer ≡ answer → LookedOver (beside_of e s) here.node here.next None x p st.answer → FindsAbove e s old new result
       by (Err stop) ends it = absurd (never_lost (beside_of e s) here.node here.next x p stop (subst (λ (a : Result (Option KeptWrite) Stop). LookedOver (beside_of e s) here.node here.next None x p a) ends it))
-      by (Ok read) ends it = subst (λ (r : Result Said OutOfMemory). FindsUp e s old new r) (sym replied) (record {
+      by (Ok read) ends it = subst (λ (r : Result Said OutOfMemory). FindsAbove e s old new r) (sym replied) (record {
         next = left;
         fails = found_fails e e (Recover []) s false old new before p lit (found e [] refl);
         finds = λ d name comes.

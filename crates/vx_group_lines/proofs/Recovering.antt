@@ -71,7 +71,7 @@ use Rattle.vx_yard.specs.Yards.{IsTold, count_of, in_files}
 use Rattle.vx_yard.specs.declared.yard.Yard.{Yard}
 use Rattle.vx_packet.specs.Assemblies.{Assembled}
 use Rattle.vx_group_lines.specs.Noting.{HasConfig, HasCore, HasNoCore, KeepsRest, made_facts, reply_noted}
-use Rattle.vx_group_lines.specs.Rises.{ComesDown, FindsUp, RisesBeside, RisesIs, StandsOver, StandsSo, StoodUp, kept_shown}
+use Rattle.vx_group_lines.specs.Rises.{ComesDown, FindsAbove, RisesBeside, RisesIs, StandsOver, StandsSo, StoodUp, kept_shown}
 use Rattle.vx_group_lines.specs.Views.{view_with}
 use Rattle.vx_group_lines.proofs.Arriving.{Arrives, arrives_crash, noted_at}
 use Rattle.vx_group_lines.proofs.GroupAt.{GroupAt, down_noted, group_by, up_noted, up_notes, lit_up}
@@ -300,7 +300,7 @@ module _ {R : Type 0} {g : Ghosts R} where
 
   -- where a replicated volume group was found
   finds_beside : (d e : Doubted) (name : List ℕ) (s : ℕ) (old mid new : Yard R g) (result : Result Said OutOfMemory) → group_place d.world (Recover name) ≡ s → ComesDown d e s → (Carries d old → Carries e mid)
-      → RoseAll [] (count_of old) (count_of mid) → FindsUp e s mid new result → LeadsBesideIs d (Recover name) old new result
+      → RoseAll [] (count_of old) (count_of mid) → FindsAbove e s mid new result → LeadsBesideIs d (Recover name) old new result
   finds_beside d e name s old mid new (Ok said) place comes before rose f = record {
     next = f.next;
     fails = f.fails;

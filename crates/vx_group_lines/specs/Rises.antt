@@ -141,10 +141,10 @@ module _ {R : Type 0} {g : Ghosts R} where
     pub carries : Carries e old → Carries next new
     pub rose : RoseAll fails (count_of old) (count_of new)
 
-  abbrev pub FindsUp : Doubted → ℕ → Yard R g → Yard R g → Result Said OutOfMemory → Type 0
-  FindsUp e s old new (Ok said) = FindsFor e s said old new
-  FindsUp e s old new (Err x) = ⊥
+  abbrev pub FindsAbove : Doubted → ℕ → Yard R g → Yard R g → Result Said OutOfMemory → Type 0
+  FindsAbove e s old new (Ok said) = FindsFor e s said old new
+  FindsAbove e s old new (Err x) = ⊥
 
   -- a site whose group had none comes up without one, or one is found
   abbrev pub RisesBeside : Doubted → ℕ → Yard R g → Yard R g → Result Said OutOfMemory → Type 0
-  RisesBeside e s old new result = RisesIs e s old new result ⊎ FindsUp e s old new result
+  RisesBeside e s old new result = RisesIs e s old new result ⊎ FindsAbove e s old new result
