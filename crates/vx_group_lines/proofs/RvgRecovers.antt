@@ -1,14 +1,19 @@
 -- What a line that recovers a site whose group has a replicated volume group leads a yard to: one that is up crashes first.
 use Rattle.std.proofs.Common.{◌≡◌, ◌∙◌, ◌⊎◌, ◌<◌, ℕ, Bool, true, false, List, [], length, ap, sym, subst, refl, arith, inl, inr}
-use Rattle.std.specs.Prelude.{eqb, is_some, not, ◌&&◌, Option, Result, Ok, Err}
+use Rattle.std.specs.Prelude.{eqb, is_some, not, ◌&&◌, Option, Some, slice_get, Result, Ok, Err}
 use Rattle.vx_model.specs.declared.errors.OutOfMemory.{OutOfMemory}
 use Rattle.vx_model.specs.declared.site.SiteState.{SiteState}
 use Rattle.vx_model.specs.declared.site.SiteState.TheVariants.{Bare as IsBare, Up as IsUp, Deported as IsAway, Down as IsDown}
 use Rattle.vx_disk.specs.declared.shelf.Shelf.{Ghosts}
+use Rattle.vx_diskset.specs.Holds.{KeptBeside, beside_of}
+use Rattle.vx_diskset.specs.Stands.{OverStands, SiteStands}
+use Rattle.vx_diskset.specs.declared.disk_set.DiskSet.{DiskSet}
+use Rattle.vx_diskset.specs.declared.over_set.OverSite.{OverSite}
+use Rattle.vx_diskset.specs.declared.over_set.OverSite.TheVariants.{Origin as OriginSite, Receiver as ReceiverSite, Deported as OverAway, Down as OverFell, Gone as NoOver}
 use Rattle.vx_effects.proofs.Fitting.{fit_happened}
 use Rattle.vx_history.specs.Doubts.{Doubted, happened}
 use Rattle.vx_history.specs.Groups.{GroupNode}
-use Rattle.vx_history.specs.World.{Volume}
+use Rattle.vx_history.specs.World.{Node, Volume}
 use Rattle.vx_history.specs.declared.event.Event.TheVariants.{Crash as CrashAt}
 use Rattle.vx_script.specs.declared.line.ScriptLine.TheVariants.{Recover}
 use Rattle.vx_events.proofs.Parts.{none_done}
@@ -28,15 +33,9 @@ use Rattle.vx_yard.specs.Standing.{Falls, StandsFor, crash_of}
 use Rattle.vx_yard.specs.Stands.{RoseAll}
 use Rattle.vx_yard.specs.Yards.{IsTold, count_of}
 use Rattle.vx_yard.specs.declared.yard.Yard.{Yard}
+use Rattle.vx_above.proofs.OverSites.{OverIs, over_set}
 use Rattle.vx_group_lines.specs.RvgRises.{RaisesIs, RestsSo, rests_as, rests_world}
 use Rattle.vx_group_lines.proofs.RvgWorlds.{rest_down, rest_up}
-
--- a site that is neither bare, up nor deported is down
-pub only_down : (t : SiteState) → (t ≡ IsBare → ⊥) → (t ≡ IsUp → ⊥) → (t ≡ IsAway → ⊥) → t ≡ IsDown
-only_down IsBare bare up away = absurd (bare refl)
-only_down IsUp bare up away = absurd (up refl)
-only_down IsAway bare up away = absurd (away refl)
-only_down IsDown bare up away = refl
 
 -- one that is down is where the line begins
 world_down : (d : Doubted) (s : ℕ) → (d.world.nodes s).state ≡ IsDown → rests_world d s 0 false ≡ d
@@ -46,6 +45,20 @@ world_up : (d : Doubted) (s kept : ℕ) (taken : Bool) → (d.world.nodes s).sta
 world_up d s kept taken up = ap (λ (t : SiteState). run_as taken d (fall_first t s kept)) up
 
 module _ {R : Type 0} {g : Ghosts R} where
+  -- a site with a replicated volume group over its group is not bare
+  stands_made : (beside : KeptBeside) (n : Node) (s : OverSite R g) → OverStands beside n s → n.state ≡ IsBare → ⊥
+  stands_made beside n (OriginSite f) it bare = let e : IsUp ≡ IsBare = sym it.state ∙ bare in absurd (cc)
+  stands_made beside n (ReceiverSite f) it bare = let e : IsUp ≡ IsBare = sym it.state ∙ bare in absurd (cc)
+  stands_made beside n (OverAway idle) it bare = let e : IsAway ≡ IsBare = sym it.0 ∙ bare in absurd (cc)
+  stands_made beside n (OverFell idle) it bare = let e : IsDown ≡ IsBare = sym it.0 ∙ bare in absurd (cc)
+  stands_made beside n NoOver it bare = it
+
+  pub made_over : (d : Doubted) (y : Yard R g) (s : ℕ) (e : DiskSet R g) → StandsFor d y → s < d.world.sites → slice_get y.disk_sets.items s ≡ Some e → is_over_rvg (d.world.nodes s) ≡ true → (d.world.nodes s).state ≡ IsBare → ⊥
+  made_over d y s e stands below there over bare =
+      let stood : SiteStands (beside_of d s) (d.world.nodes s) e = stands.disk_sets.sites s e below there in
+      let o : OverIs e = over_set (beside_of d s) (d.world.nodes s) e stood over in
+      stands_made (beside_of d s) (d.world.nodes s) o.set.site (subst (λ (x : DiskSet R g). SiteStands (beside_of d s) (d.world.nodes s) x) o.is stood).1 bare
+
   -- what the import leads to, wherever the site comes to rest
   abbrev pub Rises : Doubted → (s : ℕ) → Yard R g → Yard R g → Result Said OutOfMemory → Type 0
   Rises d s old new result =

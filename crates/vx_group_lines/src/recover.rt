@@ -1,18 +1,21 @@
 // The line that recovers a site whose disks are a group.
-ghost use Rattle.std.specs.Prelude.{◌≡◌, ◌<◌, [], IfOk, Some, length, option_copied, slice_get, slice_set, true};
+ghost use Rattle.std.specs.Prelude.{◌≡◌, ◌<◌, ℕ, Bool, List, [], IfOk, Some, length, option_copied, slice_get, slice_set, true};
 ghost use Rattle.vx_diskset.specs.Asked.{SameFailing};
 ghost use Rattle.vx_events.specs.GroupLines.{is_over_group};
 ghost use Rattle.vx_events.specs.GroupViews.{volumes_of};
 ghost use Rattle.vx_group_lines.specs.Noting.{KeepsRest};
+ghost use Rattle.vx_group_lines.specs.RvgRises.{RaisesIs, RestsSo, rests_as};
 ghost use Rattle.vx_group_lines.specs.Rises.{RisesBeside, StoodUp, kept_shown};
 ghost use Rattle.vx_model.specs.declared.site.SiteState.TheVariants.{Down as DownState};
 ghost use Rattle.vx_order.specs.declared.facts.SiteFacts.{SiteFacts as Facts};
 ghost use Rattle.vx_effects.specs.Facts.{down_fact};
-ghost use Rattle.vx_yard.specs.AboveLines.{LeadsBesideIs};
+ghost use Rattle.vx_yard.specs.AboveLines.{LeadsAboveIs, LeadsBesideIs};
 ghost use Rattle.vx_yard.specs.Loads.{LetGo};
 ghost use Rattle.vx_yard.specs.Replies.{reply_to};
 ghost use Rattle.vx_history.specs.Doubts.{Doubted};
 ghost use Rattle.vx_script.specs.declared.line.ScriptLine.TheVariants.{Recover};
+ghost use Rattle.vx_events.specs.RvgSteps.{is_for_rvg};
+ghost use Rattle.vx_events.specs.RvgViews.{is_over_rvg};
 ghost use Rattle.vx_events.specs.StepsOver.{is_for_group};
 ghost use Rattle.vx_yard.specs.OfSites.{AsAsked, OfSite};
 ghost use Rattle.vx_yard.specs.Standing.{StandsFor};
@@ -141,6 +144,7 @@ fn rise<R: Rack>(
     requires disks { room.views.disks ≡ [] }
     requires views { room.views.volumes ≡ [] }
     ensures rises { (e : Doubted) → StandsFor e yard.old → site < e.world.sites → is_over_group (e.world.nodes site) ≡ true → (e.world.nodes site).state ≡ DownState → RisesBeside e site yard.old yard.new result }
+    ensures rests { (d : Doubted) (kept : ℕ) (taken : Bool) (name : List ℕ) → RestsSo d site kept taken → StandsFor (rests_as d site kept taken) yard.old → site < (rests_as d site kept taken).world.sites → is_over_rvg ((rests_as d site kept taken).world.nodes site) ≡ true → ((rests_as d site kept taken).world.nodes site).state ≡ DownState → RaisesIs d (Recover name) site kept taken yard.old yard.new result }
     ensures failing { OfSite SameFailing site yard.old yard.new }
     ensures told { IsTold yard.new → IsTold yard.old }
     ensures files { in_files yard.new ≡ in_files yard.old }
@@ -164,6 +168,7 @@ pub fn recover_line<R: Rack>(
     requires kept { IsYardKept yard.old }
     requires free { IsFree yard.old (Recover name.now) }
     ensures beside { (d : Doubted) → StandsFor d yard.old → is_for_group d.world (Recover name.now) ≡ true → LeadsBesideIs d (Recover name.now) yard.old yard.new result }
+    ensures above { (d : Doubted) → StandsFor d yard.old → is_for_rvg d.world (Recover name.now) ≡ true → LeadsAboveIs d (Recover name.now) yard.old yard.new result }
     ensures asked { (d : Doubted) → StandsFor d yard.old → is_for_group d.world (Recover name.now) ≡ true → AsAsked d.world (Recover name.now) yard.old yard.new }
     ensures told { IsTold yard.new → IsTold yard.old }
     ensures files { in_files yard.new ≡ in_files yard.old }

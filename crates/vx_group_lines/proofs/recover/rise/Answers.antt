@@ -2,11 +2,13 @@
 use Rattle.std.proofs.Common.{◌∙◌, ap, sym, subst, refl}
 use Rattle.std.specs.Prelude.{Some, slice_set}
 use Rattle.vx_model.proofs.Lists.{get_there}
+use Rattle.vx_diskset.specs.OverRises.{RaisesAbove}
 use Rattle.vx_diskset.specs.OverStarts.{RaisesIn}
 use Rattle.vx_diskset.specs.Recovers.{RaisesGroup, RaisesMaps}
 use Rattle.vx_diskset.specs.declared.disk_set.DiskSet.TheVariants.{Gone}
 use Rattle.vx_yard.proofs.Lists.{get_at, set_twice}
 use Rattle.vx_group_lines.proofs.RecoverBeside.{beside_down, beside_up}
+use Rattle.vx_group_lines.proofs.RvgRaising.{came_above, fell_above}
 use Rattle.vx_group_lines.proofs.Recovering.{dir_mid, of_down, of_up, told_down, told_up}
 use Rattle.vx_group_lines.proofs.recover.rise.Goals as goal
 
@@ -133,3 +135,41 @@ pub returns-in-Err-clause-files : goal.returns-in-Err-clause-files
 returns-in-Err-clause-files g c =
     let fact = get_there c.args.yard.now.facts.items c.args.site c.requires.facts in
     dir_mid c.in-Err.stop c.args.site fact.0 _ c.group_stopped.new.yard c.group_stopped.result (c.group_stopped.ensures fact.0 fact.1)
+
+pub returns-in-Ok-clause-rests : goal.returns-in-Ok-clause-rests
+returns-in-Ok-clause-rests g c = λ d kept taken name rests stands below over down.
+    let ds = c.args.yard.now.disk_sets.items in
+    let s = c.args.site in
+    let at = get_at ds s c.index_mut.result.now c.requires.disk_set c.index_mut.ensures.value in
+    let there = at ∙ ap (λ x. Some x) (sym c.replace-disk_set.ensures.value) in
+    came_above d name s kept taken c.args.yard.now _ c.stand_up.new.yard c.replace-disk_set.result c.raise_group-disk_set.result.0
+    (record {
+      there = there;
+      disk_sets = ap (λ x. slice_set (slice_set ds s x) s c.raise_group-disk_set.result.0) c.replace-disk_set.ensures.after ∙ set_twice ds s Gone c.raise_group-disk_set.result.0;
+      facts = refl;
+      racks = refl;
+      load = record { flight = refl; assemblies = refl; feeders = refl };
+      failing = c.raise_group-disk_set.ensures.failing;
+      later = c.raise_group-disk_set.ensures.later;
+    })
+    (record { rests = rests; stands = stands; below = below; over = over; down = down }) c.in-Ok.cut c.stand_up.result c.stand_up.ensures.stood
+    (subst (λ r. RaisesAbove c.replace-disk_set.result c.raise_group-disk_set.result.0 r) c.in-Ok.is c.raise_group-disk_set.ensures.above)
+
+pub returns-in-Err-clause-rests : goal.returns-in-Err-clause-rests
+returns-in-Err-clause-rests g c = λ d kept taken name rests stands below over down.
+    let ds = c.args.yard.now.disk_sets.items in
+    let s = c.args.site in
+    let at = get_at ds s c.index_mut.result.now c.requires.disk_set c.index_mut.ensures.value in
+    let there = at ∙ ap (λ x. Some x) (sym c.replace-disk_set.ensures.value) in
+    fell_above d name s kept taken c.args.yard.now _ c.group_stopped.new.yard c.replace-disk_set.result c.raise_group-disk_set.result.0
+    (record {
+      there = there;
+      disk_sets = ap (λ x. slice_set (slice_set ds s x) s c.raise_group-disk_set.result.0) c.replace-disk_set.ensures.after ∙ set_twice ds s Gone c.raise_group-disk_set.result.0;
+      facts = refl;
+      racks = refl;
+      load = record { flight = refl; assemblies = refl; feeders = refl };
+      failing = c.raise_group-disk_set.ensures.failing;
+      later = c.raise_group-disk_set.ensures.later;
+    })
+    (record { rests = rests; stands = stands; below = below; over = over; down = down }) c.in-Err.stop c.group_stopped.result
+    (subst (λ r. RaisesAbove c.replace-disk_set.result c.raise_group-disk_set.result.0 r) c.in-Err.is c.raise_group-disk_set.ensures.above) c.group_stopped.ensures
