@@ -35,7 +35,8 @@ use Rattle.vx_grouped.proofs.SiteReturnLemmas.{dark_away, none_can}
 use Rattle.vx_history.specs.Groups.{GroupNode}
 use Rattle.vx_history.specs.Steps.{burned, crashed}
 use Rattle.vx_history.specs.Stops.{IsFused}
-use Rattle.vx_history.specs.World.{Fuse, FuseLit, FuseSet, NoFuse, Node}
+use Rattle.vx_history.proofs.Fuses.{burned_twice}
+use Rattle.vx_history.specs.World.{Fuse, NoFuse, Node}
 use Rattle.vx_logimport.specs.declared.rested.Rested.{Rested}
 use Rattle.vx_model.specs.Content.{Write}
 use Rattle.vx_model.specs.Sites.{is_origin}
@@ -128,11 +129,6 @@ never_none e = cc
 
 never_ok : (stop : Stop) → ◌≡◌ {A = Result (Unit {0}) Stop} (Ok tt) (Err stop) → ⊥
 never_ok stop is = cc
-
-burned_twice : (f : Fuse) → burned (burned f) ≡ burned f
-burned_twice NoFuse = refl
-burned_twice (FuseSet calls) = refl
-burned_twice (FuseLit most) = refl
 
 -- ---- a site that stands by itself
 
