@@ -28,9 +28,9 @@ use Rattle.vx_report.specs.declared.view.Kept.{Kept}
 use Rattle.vx_report.specs.declared.view.SiteView.{SiteView}
 use Rattle.vx_script.specs.declared.line.ScriptLine.TheVariants.{Recover}
 use Rattle.vx_grouped.proofs.MapNoteLemmas.{up_with_maps}
-use Rattle.vx_grouped.specs.GroupSites.{UpNoted, laid_below, laid_disks, site_below, site_config}
+use Rattle.vx_grouped.specs.GroupSites.{DownNoted, UpNoted, laid_below, laid_disks, site_below, site_config}
 use Rattle.vx_grouped.specs.SetFuses.{HasFuse}
-use Rattle.vx_grouped.specs.SiteMaps.{MapsOf, StandMaps, StaysMapped}
+use Rattle.vx_grouped.specs.SiteMaps.{CameMapped, MapsOf, StandMaps, StaysMapped}
 use Rattle.vx_grouped.specs.SiteReturns.{returned_with}
 use Rattle.vx_grouped.specs.declared.group_site.GroupSite.{GroupSite}
 use Rattle.vx_grouped.specs.declared.group_site.GroupSite.TheVariants.{Up as SiteUp, Deported as SiteAway, Down as SiteDown, Marked, Gone as SiteGone}
@@ -90,7 +90,7 @@ use Rattle.vx_group_lines.proofs.MapGoing.{on_both}
 use Rattle.vx_group_lines.proofs.Raising.{RaisedTo}
 use Rattle.vx_group_lines.proofs.Rising.{HasUp, has_up}
 use Rattle.vx_group_lines.proofs.RvgAtRest.{AtRest, called_rest, first_fact, rest_set, stood_changed, stood_failing, stood_load, stood_same}
-use Rattle.vx_group_lines.proofs.RvgComing.{DownCall, rest_links, rest_stood, rest_sure, rest_unfused}
+use Rattle.vx_group_lines.proofs.RvgComing.{DownCall, rest_fell, rest_links, rest_stood, rest_sure, rest_unfused}
 use Rattle.vx_group_lines.proofs.RvgFound.{arrives_astray, knows_nothing}
 use Rattle.vx_group_lines.proofs.RvgWorlds.{own_state}
 
@@ -141,6 +141,14 @@ module _ {R : Type 0} {g : Ghosts R} where
   up_as n k like note (Marked rack) it = absurd it
   up_as n k like note SiteGone it = absurd it
 
+  -- what was noted of the maps of a group that came up, where nothing was known of it
+  came_some : (n : Node) (note : GroupNode) (old new : GroupSite R g) (d : Config) → DownNoted n note old → CameMapped old new (Ok tt) → site_config new ≡ Some d → (w : MissedNote) × MapsOf w d new
+  came_some n note (SiteUp laid) new d down came is = absurd down
+  came_some n note (SiteAway idle) new d down came is = absurd down
+  came_some n note (SiteDown idle) new d down came is = came.some d is
+  came_some n note (Marked rack) new d down came is = absurd down
+  came_some n note SiteGone new d down came is = absurd down
+
   -- without a write that was cut nothing is read, and no disk fails
   never_unread : (n : Node) (note : GroupNode) (e : GroupSite R g) (after : DiskSet R g) (stop : Stop) → RisesWith n note None e after (Err stop) → ⊥
   never_unread n note e after (StopsBy (Device disk)) it = it.2
@@ -183,7 +191,7 @@ module _ {R : Type 0} {g : Ghosts R} where
     -- ---- the note
 
     memory : (w : MissedNote) × MapsOf w r.laid.core.inner.config (SiteUp r.laid)
-    memory = r.maps.some r.laid.core.inner.config refl
+    memory = came_some (below_rvg n) note (site_in o) (SiteUp r.laid) r.laid.core.inner.config (rest_fell b old new s o st.after call) r.maps refl
 
     abbrev next : GroupNode
     next = with_maps memory.0 r.group.middle
