@@ -20,7 +20,7 @@ use Rattle.vx_diskset.specs.Asked.{FailsAs, FusedAs, SameFailing, disks_told}
 use Rattle.vx_diskset.specs.Fuses.{FuseOn}
 use Rattle.vx_diskset.specs.Holds.{KeptBeside, beside_of}
 use Rattle.vx_diskset.specs.Layouts.{units_by, units_of}
-use Rattle.vx_diskset.specs.Noted.{NotedAt, NotesAs, SiteNoted}
+use Rattle.vx_diskset.specs.Noted.{NotedOver, NotesAs, SiteNoted}
 use Rattle.vx_diskset.specs.Stands.{SiteStands}
 use Rattle.vx_diskset.specs.declared.disk_set.DiskSet.TheVariants.{Over}
 use Rattle.vx_diskset.specs.declared.over_set.OverSet.{OverSet}
@@ -147,7 +147,7 @@ module _ {R : Type 0} {g : Ghosts R} (d : Doubted) (old new : Yard R g) (s : ℕ
               subst (λ (x : Node). IsSameSite x a.node) here (record { name = w.name; disks = w.disks; blocks = w.blocks; volumes = w.volumes });
         }
 
-    noted_with : (base k : Node) → NotesAs base k → base.group ≡ Some next → base.volumes ≡ n.volumes → SiteNoted base next (Over p) → NotedAt k (Over p)
+    noted_with : (base k : Node) → NotesAs base k → base.group ≡ Some next → base.volumes ≡ n.volumes → SiteNoted base next (Over p) → NotedOver k (Over p)
     noted_with base k like group volumes noted =
         noted_as base k like p (
           (λ note is. subst (λ (x : GroupNode). SiteNoted base x (Over p)) (some_same (sym group ∙ is)) noted),
@@ -163,9 +163,9 @@ module _ {R : Type 0} {g : Ghosts R} (d : Doubted) (old new : Yard R g) (s : ℕ
       pub comes_up : ((x : Meaning) → FuseOn m.fuse x → FuseOn (burned n.fuse) x) → (m.fuse ≡ NoFuse → burned n.fuse ≡ NoFuse) → Comes d (with_one e s node_up) s (Over p)
       comes_up lit unlit = comes_with (burned n.fuse) lit unlit (fused_over node_up (beside_of e s) m reach.stands up refl)
 
-      pub noted_up : NotedAt ((with_one e s node_up).world.nodes s) (Over p)
+      pub noted_up : NotedOver ((with_one e s node_up).world.nodes s) (Over p)
       noted_up =
-          subst (λ (x : Node). NotedAt x (Over p)) (sym (at_place e.world.nodes s node_up))
+          subst (λ (x : Node). NotedOver x (Over p)) (sym (at_place e.world.nodes s node_up))
           (noted_with (with_note next n) node_up (record { name = stays.name; disks = stays.disks; blocks = stays.blocks; volumes = stays.volumes; group = refl; state = up ∙ sym call.up; fuse = refl }) refl refl
           (call_up d old new s o p call (beside_of e s) m reach.stands up).0)
 
@@ -178,8 +178,8 @@ module _ {R : Type 0} {g : Ghosts R} (d : Doubted) (old new : Yard R g) (s : ℕ
       pub comes_off : Comes d (with_one e s node_off) s (Over p)
       comes_off = comes_with NoFuse (λ x on. subst (λ (f : Fuse). FuseOn f x) unfused on) (λ _. refl) (fused_none node_off (Over p) refl)
 
-      pub noted_off : NotedAt ((with_one e s node_off).world.nodes s) (Over p)
+      pub noted_off : NotedOver ((with_one e s node_off).world.nodes s) (Over p)
       noted_off =
-          subst (λ (x : Node). NotedAt x (Over p)) (sym (at_place e.world.nodes s node_off))
+          subst (λ (x : Node). NotedOver x (Over p)) (sym (at_place e.world.nodes s node_off))
           (noted_with (crashed (with_note next n) 0) node_off (record { name = stays.name; disks = stays.disks; blocks = stays.blocks; volumes = stays.volumes; group = refl; state = down; fuse = refl }) refl refl
           (call_off d old new s o p call (beside_of e s) m reach.stands down).0)

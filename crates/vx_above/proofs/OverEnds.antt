@@ -21,7 +21,7 @@ use Rattle.vx_grouped.specs.declared.group_site.GroupSite.TheVariants.{Up as Gro
 use Rattle.vx_diskset.specs.Aboves.{site_in}
 use Rattle.vx_diskset.specs.Fuses.{FuseOn}
 use Rattle.vx_diskset.specs.Holds.{beside_of}
-use Rattle.vx_diskset.specs.Noted.{AgreesStill, NotedAt, NotedOn, below_rvg}
+use Rattle.vx_diskset.specs.Noted.{AgreesStill, NotedOver, NotedOn, below_rvg}
 use Rattle.vx_diskset.specs.Stands.{IsRackTold, IsToldAt}
 use Rattle.vx_diskset.specs.declared.disk_set.DiskSet.{DiskSet}
 use Rattle.vx_diskset.specs.declared.disk_set.DiskSet.TheVariants.{Over}
@@ -145,7 +145,7 @@ module _ {R : Type 0} {g : Ghosts R} where
             left = left_as;
           }
 
-          leads_over : (said : Said) (fails : Fails) → Comes d left s (Over p) → NotedAt (left.world.nodes s) (Over p) → OverRvg (IsTold new) d line (rvg_place d.world line) fails said left
+          leads_over : (said : Said) (fails : Fails) → Comes d left s (Over p) → NotedOver (left.world.nodes s) (Over p) → OverRvg (IsTold new) d line (rvg_place d.world line) fails said left
               → (f : SiteFacts) → f ≡ linked_fact e.world s → new.facts.items ≡ slice_set old.facts.items s f → (Carries d old → Carries left new) → RoseAll fails (count_of old) (count_of new) → LeadsAbove d line said old new
           leads_over said fails comes noted works f shown facts carries rose = record {
             next = left;

@@ -19,7 +19,7 @@ use Rattle.vx_diskset.specs.GroupSets.{cut_value}
 use Rattle.vx_diskset.specs.Holds.{KeptBeside}
 use Rattle.vx_diskset.specs.Layouts.{units_by, units_of}
 use Rattle.vx_diskset.specs.Asked.{IsRawSet}
-use Rattle.vx_diskset.specs.Noted.{FellAs, FusesNoted, IsNamed, NotedAt, NotedOn, NotesAs, OverFalls, OversFall, OversFused, OversStay, RestsNamed, SiteNoted, StaysNoted, TidyNote, below_rvg}
+use Rattle.vx_diskset.specs.Noted.{FellAs, FusesNoted, IsNamed, NotedOver, NotedOn, NotesAs, OverFalls, OversFall, OversFused, OversStay, RestsNamed, SiteNoted, StaysNoted, TidyNote, below_rvg}
 use Rattle.vx_diskset.specs.Stands.{SiteStands}
 use Rattle.vx_diskset.specs.declared.disk_set.DiskSet.{DiskSet}
 use Rattle.vx_diskset.specs.declared.disk_set.DiskSet.TheVariants.{Bare, Spoiled, Up as UpSet, Receives, Down as DownSet, OfGroup, Over, Gone as GoneSet}
@@ -30,7 +30,7 @@ use Rattle.vx_diskset.proofs.OverNoted.{down_again, noted_up, up_noted}
 
 module _ {R : Type 0} {g : Ghosts R} where
   -- of disks that are not below a replicated volume group nothing is said
-  pub noted_apart : (m : Node) (e : DiskSet R g) → IsRawSet e → NotedAt m e
+  pub noted_apart : (m : Node) (e : DiskSet R g) → IsRawSet e → NotedOver m e
   noted_apart m (Bare rack) apart = tt
   noted_apart m (Spoiled rack) apart = tt
   noted_apart m (UpSet rvg) apart = tt
@@ -76,10 +76,10 @@ module _ (n m : Node) (like : NotesAs n m) where
     )
 
     -- by another node that has all by which a group is noted
-    pub noted_as : (o : OverSet R g) → NotedAt n (Over o) → NotedAt m (Over o)
+    pub noted_as : (o : OverSet R g) → NotedOver n (Over o) → NotedOver m (Over o)
     noted_as o noted = (λ note is. site_like note o (noted.0 note (sym like.group ∙ is)), named_as noted.1)
 
-    over_stays : (o s : OverSet R g) → StaysNoted o s → NotedAt n (Over o) → NotedAt m (Over s)
+    over_stays : (o s : OverSet R g) → StaysNoted o s → NotedOver n (Over o) → NotedOver m (Over s)
     over_stays o s stays noted = (
       (λ note is.
           let was = noted.0 note (sym like.group ∙ is) in
@@ -88,7 +88,7 @@ module _ (n m : Node) (like : NotesAs n m) where
     )
 
     -- behind a call that leaves the note as it is
-    pub noted_stays : (e new : DiskSet R g) → OversStay e new → NotedAt n e → NotedAt m new
+    pub noted_stays : (e new : DiskSet R g) → OversStay e new → NotedOver n e → NotedOver m new
     noted_stays (Over o) (Over s) stays noted = over_stays o s stays noted
     noted_stays (Over o) (Bare rack) stays noted = absurd stays
     noted_stays (Over o) (Spoiled rack) stays noted = absurd stays
@@ -106,7 +106,7 @@ module _ (n m : Node) (like : NotesAs n m) where
     noted_stays GoneSet new stays noted = noted_apart m new stays
 
 module _ {R : Type 0} {g : Ghosts R} (beside : KeptBeside) (n m : Node) where
-  over_fused : (calls : ℕ) (like : NotesAs (record n { fuse = FuseSet calls }) m) (o s : OverSet R g) → SiteStands beside n (Over o) → n.state ≡ IsUp → FusesNoted calls o s → NotedAt n (Over o) → NotedAt m (Over s)
+  over_fused : (calls : ℕ) (like : NotesAs (record n { fuse = FuseSet calls }) m) (o s : OverSet R g) → SiteStands beside n (Over o) → n.state ≡ IsUp → FusesNoted calls o s → NotedOver n (Over o) → NotedOver m (Over s)
   over_fused calls like o s stands up fuses noted = (
     (λ note is.
         let was = noted.0 note (sym like.group ∙ is) in
@@ -121,7 +121,7 @@ module _ {R : Type 0} {g : Ghosts R} (beside : KeptBeside) (n m : Node) where
   )
 
   -- behind one that sets the fuse of a site that is up
-  pub noted_fused : (calls : ℕ) (like : NotesAs (record n { fuse = FuseSet calls }) m) (e new : DiskSet R g) → SiteStands beside n e → n.state ≡ IsUp → OversFused calls e new → NotedAt n e → NotedAt m new
+  pub noted_fused : (calls : ℕ) (like : NotesAs (record n { fuse = FuseSet calls }) m) (e new : DiskSet R g) → SiteStands beside n e → n.state ≡ IsUp → OversFused calls e new → NotedOver n e → NotedOver m new
   noted_fused calls like (Over o) (Over s) stands up fused noted = over_fused calls like o s stands up fused noted
   noted_fused calls like (Over o) (Bare rack) stands up fused noted = absurd fused
   noted_fused calls like (Over o) (Spoiled rack) stands up fused noted = absurd fused
@@ -138,7 +138,7 @@ module _ {R : Type 0} {g : Ghosts R} (beside : KeptBeside) (n m : Node) where
   noted_fused calls like (OfGroup s) new stands up fused noted = noted_apart m new fused
   noted_fused calls like GoneSet new stands up fused noted = noted_apart m new fused
 
-  over_fell : (like : FellAs n m) (o s : OverSet R g) → SiteStands beside n (Over o) → n.state ≡ IsUp → OverFalls o s → NotedAt n (Over o) → NotedAt m (Over s)
+  over_fell : (like : FellAs n m) (o s : OverSet R g) → SiteStands beside n (Over o) → n.state ≡ IsUp → OverFalls o s → NotedOver n (Over o) → NotedOver m (Over s)
   over_fell like o s stands up falls noted =
       let down : NotesAs (crashed n 0) m = record { name = like.name; disks = like.disks; blocks = like.blocks; volumes = like.volumes; group = like.group; state = like.state; fuse = like.fuse } in (
         (λ note is.
@@ -156,7 +156,7 @@ module _ {R : Type 0} {g : Ghosts R} (beside : KeptBeside) (n m : Node) where
       )
 
   -- behind the crash
-  pub noted_fell : (like : FellAs n m) (e new : DiskSet R g) → SiteStands beside n e → n.state ≡ IsUp → OversFall e new → NotedAt n e → NotedAt m new
+  pub noted_fell : (like : FellAs n m) (e new : DiskSet R g) → SiteStands beside n e → n.state ≡ IsUp → OversFall e new → NotedOver n e → NotedOver m new
   noted_fell like (Over o) (Over s) stands up fell noted = over_fell like o s stands up fell noted
   noted_fell like (Over o) (Bare rack) stands up fell noted = absurd fell
   noted_fell like (Over o) (Spoiled rack) stands up fell noted = absurd fell

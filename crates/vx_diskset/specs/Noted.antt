@@ -109,9 +109,9 @@ module _ {R : Type 0} {g : Ghosts R} where
   SiteNoted n note other = ⊥
 
   -- the group of a site with a replicated volume group over it is as the site notes it, and so are the data volumes of the site
-  abbrev pub NotedAt : Node → DiskSet R g → Type 0
-  NotedAt n (Over s) = ((note : GroupNode) → n.group ≡ Some note → SiteNoted n note (Over s)) × IsNamed n
-  NotedAt n e = Unit {0}
+  abbrev pub NotedOver : Node → DiskSet R g → Type 0
+  NotedOver n (Over s) = ((note : GroupNode) → n.group ≡ Some note → SiteNoted n note (Over s)) × IsNamed n
+  NotedOver n e = Unit {0}
 
   -- How a call on the replicated volume group of a site moves the note: its group is up still, or it crashed as its fuse ran out.
   abbrev pub NotesMoved : Node → GroupNode → GroupSite R g → DiskSet R g → GroupSite R g → DiskSet R g → Type 0

@@ -34,7 +34,7 @@ use Rattle.vx_diskset.specs.Asked.{FailsAs, SameFailing}
 use Rattle.vx_diskset.specs.GroupCalls.{AtPlain, InitIs, bare_disks, cut_in}
 use Rattle.vx_diskset.specs.GroupSets.{cut_value}
 use Rattle.vx_diskset.specs.Holds.{beside_of}
-use Rattle.vx_diskset.specs.Noted.{NotedAt}
+use Rattle.vx_diskset.specs.Noted.{NotedOver}
 use Rattle.vx_diskset.specs.Stands.{RoleIs, SiteStands, faults_at}
 use Rattle.vx_diskset.specs.declared.disk_set.DiskSet.{DiskSet}
 use Rattle.vx_diskset.specs.declared.disk_set.DiskSet.TheVariants.{OfGroup}
@@ -218,7 +218,7 @@ module _ {R : Type 0} {g : Ghosts R} where
         let to : SetThen Q after = set_then Q after at in
         stands_still d d old new s before after stands site.at.below changed
         (comes_same d s after stands.links here fails_as (fused_none n after unfused) (subst (λ (x : DiskSet R g). RoleIs n x) (sym to.is) tt)) (λ was. was)
-        (λ _. subst (λ (x : DiskSet R g). NotedAt n x) (sym to.is) tt) refl (ap (λ fs. fs.items) facts)
+        (λ _. subst (λ (x : DiskSet R g). NotedOver n x) (sym to.is) tt) refl (ap (λ fs. fs.items) facts)
 
     pub init_stops : (stop : Stop) (said : Result Said MemoryError) → said ≡ reply_to stop → InitIs s n before after (Err stop) → SiteStands (beside_of d s) n after → new.facts ≡ old.facts → LeadsOverIs d (GroupInit name) old new said
     init_stops stop said says begun here facts = subst (λ (r : Result Said MemoryError). LeadsOverIs d (GroupInit name) old new r) (sym says) (by stop begun)

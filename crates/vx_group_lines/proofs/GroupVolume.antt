@@ -68,7 +68,7 @@ use Rattle.vx_yard.proofs.Carrying.{SameLoad}
 use Rattle.vx_yard.proofs.FailsStay.{fails_then}
 use Rattle.vx_yard.proofs.Lists.{set_same}
 use Rattle.vx_yard.proofs.OneSite.{Changed}
-use Rattle.vx_yard.specs.GroupFacts.{with_volumes}
+use Rattle.vx_yard.specs.GroupFacts.{with_table}
 use Rattle.vx_yard.specs.Standing.{LeadsOver, LeadsOverIs, StandsFor, StaysFor}
 use Rattle.vx_yard.specs.declared.yard.Yard.{Yard}
 use Rattle.vx_above.proofs.SiteCalls.{calls}
@@ -259,7 +259,7 @@ module _ {R : Type 0} {g : Ghosts R} where
     many_of was = (site_disks it.call.at.set.site).units + length was.disks + logs_bound was.volumes
 
     pub volume_done : (vol : ℕ) → OnSites (λ o e. SiteAdded n note volume want o e (Ok vol)) before after → OnSites (λ o e. AddedMapped o e (Ok vol)) before after
-        → ((c : Config) → AtSite (λ e. site_config e ≡ Some c) after → new.facts.items ≡ slice_set old.facts.items s (with_volumes (kinds_by c.rvg c.volumes) (fact_of_group (d.world.nodes s) (note_at (d.world.nodes s)))))
+        → ((c : Config) → AtSite (λ e. site_config e ≡ Some c) after → new.facts.items ≡ slice_set old.facts.items s (with_table (kinds_by c.rvg c.volumes) (fact_of_group (d.world.nodes s) (note_at (d.world.nodes s)))))
         → SameLoad old new → LeadsOver d (Volume name volume blocks mirrors layout log map_of policy) Done old new
     volume_done vol on maps facts load =
         let it_is : SetThen (λ e. SiteAdded n note volume want was_site e (Ok vol)) after = sets_then (λ o e. SiteAdded n note volume want o e (Ok vol)) before after it.call.at.set it.call.at.is_set on in
@@ -277,7 +277,7 @@ module _ {R : Type 0} {g : Ghosts R} where
         let noted_k : NotesConfig k goes.now = record { is = goes.noted_now.is; spells = goes.noted_now.spells } in
         let plain : rvg_noted next ≡ None =
         rvg_goes note next goes.was goes.now goes.noted goes.noted_now goes.change.moves.parts.rvg ∙ plain_were d old new name s before after stands it.call in
-        let f : SiteFacts = with_volumes (kinds_by goes.now.rvg goes.now.volumes) (fact_of_group (d.world.nodes s) (note_at (d.world.nodes s))) in
+        let f : SiteFacts = with_table (kinds_by goes.now.rvg goes.now.volumes) (fact_of_group (d.world.nodes s) (note_at (d.world.nodes s))) in
         turned_leads d (Volume name volume blocks mirrors layout log map_of policy) old new name s before after stands it Done (calls s old new many) k it_is.set it_is.is up (stand_as (with_maps go.maps next) k it_is.set.site refl refl refl go.stands) plain it_is.holds.1.same.cut f
         (seen_up k goes.now noted_k (sym (ap (λ (o : Option Config). config_rvg o) (notes_config next goes.now goes.noted_now)) ∙ plain))
         (facts goes.now (subst (λ (x : DiskSet R g). AtSite (λ e. site_config e ≡ Some goes.now) x) (sym it_is.is) (config_now goes.now (with_note k n) k it_is.set.site up goes.has))) load
@@ -285,9 +285,9 @@ module _ {R : Type 0} {g : Ghosts R} where
         (does many (calls s old new many) next it_is.set.site vol goes.was goes.now names goes.noted goes.noted_now (omega arith) (omega arith) goes.change it_is.holds.1 go.maps go.by, refl) (it.is_line.done k))
         (calls_all d old new name s before after stands it.call many)
       where
-        seen_up : (k : GroupNode) (c : Config) → NotesConfig k c → c.rvg ≡ None → with_volumes (kinds_by c.rvg c.volumes) (fact_of_group (d.world.nodes s) (note_at (d.world.nodes s))) ≡ fact_of_group (with_note k (d.world.nodes s)) k
+        seen_up : (k : GroupNode) (c : Config) → NotesConfig k c → c.rvg ≡ None → with_table (kinds_by c.rvg c.volumes) (fact_of_group (d.world.nodes s) (note_at (d.world.nodes s))) ≡ fact_of_group (with_note k (d.world.nodes s)) k
         seen_up k c noted none =
-            ap (λ (vs : List VolumeFacts). with_volumes vs (fact_of_group (d.world.nodes s) (note_at (d.world.nodes s))))
+            ap (λ (vs : List VolumeFacts). with_table vs (fact_of_group (d.world.nodes s) (note_at (d.world.nodes s))))
             (ap (λ (u : Option Units). kinds_by u c.volumes) none ∙ sym (notes_table k c noted))
 
     -- memory ran out, and nothing was

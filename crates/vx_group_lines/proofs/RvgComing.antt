@@ -16,7 +16,7 @@ use Rattle.vx_grouped.specs.GroupSites.{DownNoted}
 use Rattle.vx_diskset.specs.Aboves.{below_site, site_in}
 use Rattle.vx_diskset.specs.Asked.{FailsAs, FusedAs, SameFailing}
 use Rattle.vx_diskset.specs.Holds.{KeptBeside, beside_of, doubt_of, header_links}
-use Rattle.vx_diskset.specs.Noted.{IsNamed, NotedAt, NotedOn, SiteNoted, below_rvg}
+use Rattle.vx_diskset.specs.Noted.{IsNamed, NotedOver, NotedOn, SiteNoted, below_rvg}
 use Rattle.vx_diskset.specs.Stands.{OverStands, RoleIs, SiteStands}
 use Rattle.vx_diskset.specs.declared.disk_set.DiskSet.{DiskSet}
 use Rattle.vx_diskset.specs.declared.disk_set.DiskSet.TheVariants.{Over}
@@ -140,10 +140,10 @@ module _ {R : Type 0} {g : Ghosts R} where
         doubt = λ was a is. absurd (never_some (sym arrives.sure ∙ is));
       }
 
-      pub stands_so : (f : SiteFacts) → NotedAt m after → f ≡ fact_over e.world s → new.facts.items ≡ slice_set old.facts.items s f → StandsFor e new
+      pub stands_so : (f : SiteFacts) → NotedOver m after → f ≡ fact_over e.world s → new.facts.items ≡ slice_set old.facts.items s f → StandsFor e new
       stands_so f noted seen facts =
           stands_at b e old new s f (Over o) after call.stands call.below call.changed comes
-          (λ was. subst (λ (x : Node). BeginsFirst s x) (sym arrives.node) (arrives.first was)) (λ _. subst (λ (x : Node). NotedAt x after) (sym arrives.node) noted) seen facts
+          (λ was. subst (λ (x : Node). BeginsFirst s x) (sym arrives.node) (arrives.first was)) (λ _. subst (λ (x : Node). NotedOver x after) (sym arrives.node) noted) seen facts
 
     -- what the yard carries, where writes arise at the site, or it is not up
     pub carries_so : (e : Doubted) (m : Node) → Arrives b e s m (b.world.gathering s) → (m.state ≡ IsUp → is_origin m.role ≡ false → ⊥) → SameLoad old new → Carries b old → Carries e new

@@ -26,7 +26,7 @@ use Rattle.vx_diskset.proofs.Roles.{role_origin}
 use Rattle.vx_diskset.specs.Aboves.{site_in}
 use Rattle.vx_diskset.specs.Asked.{FailsAs, FusedAs, SameFailing}
 use Rattle.vx_diskset.specs.Holds.{KeptBeside, beside_of, header_links}
-use Rattle.vx_diskset.specs.Noted.{IsNamed, NotedAt, SiteNoted}
+use Rattle.vx_diskset.specs.Noted.{IsNamed, NotedOver, SiteNoted}
 use Rattle.vx_diskset.specs.OverRises.{FoundOver, KnowsLess}
 use Rattle.vx_diskset.specs.Stands.{RoleIs, SiteStands}
 use Rattle.vx_diskset.specs.declared.disk_set.DiskSet.{DiskSet}
@@ -351,7 +351,7 @@ module _ {R : Type 0} {g : Ghosts R} where
     named =
         (call.over.now, call.over.units, ap (λ (x : GroupNode). config_of x.config) found_noted ∙ call.over.is, call.over.fits.rvg, call.over.fits.volumes, call.over.has, ap (λ (x : GroupNode). x.cut) found_noted ∙ call.over.clear)
 
-    here_noted : NotedAt call.over.node (Over p)
+    here_noted : NotedOver call.over.node (Over p)
     here_noted = over_noted m next (Over p) call.over.same.group named call.over.noted
 
     pub found_sits : RvgOver (beside_of found_left s) call.over.node call.over.next (Over p)
@@ -369,7 +369,7 @@ module _ {R : Type 0} {g : Ghosts R} where
         → new.facts.items ≡ slice_set old.facts.items s (made_facts core c (fact_of_group ((own_disks taken s d.world h).world.nodes s) (note_at ((own_disks taken s d.world h).world.nodes s)))) → StandsFor found_left new
     found_stands_by core c notes shows facts =
         stands_at b found_left old new s (made_facts core c (fact_of_group n (note_at n))) before (Over p) call.stands call.below call.changed comes
-        (λ was. subst (λ (x : Node). BeginsFirst s x) (sym found_arrives.node) (found_arrives.first was)) (λ _. subst (λ (x : Node). NotedAt x (Over p)) (sym found_arrives.node) here_noted)
+        (λ was. subst (λ (x : Node). BeginsFirst s x) (sym found_arrives.node) (found_arrives.first was)) (λ _. subst (λ (x : Node). NotedOver x (Over p)) (sym found_arrives.node) here_noted)
         (found_seen core c notes shows) facts
 
     pub found_stands : new.facts.items ≡ slice_set old.facts.items s (made_facts found_sits.core found_sits.config (fact_of_group ((own_disks taken s d.world h).world.nodes s) (note_at ((own_disks taken s d.world h).world.nodes s)))) → StandsFor found_left new

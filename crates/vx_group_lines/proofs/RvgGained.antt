@@ -24,7 +24,7 @@ use Rattle.vx_diskset.specs.Asked.{FailsAs, FusedAs, SameFailing}
 use Rattle.vx_diskset.specs.GroupCalls.{CalledOn}
 use Rattle.vx_diskset.specs.Holds.{beside_of, doubt_of}
 use Rattle.vx_diskset.specs.Makings.{StandsUnlinked, rvg_made}
-use Rattle.vx_diskset.specs.Noted.{IsNamed, NotedAt, SiteNoted}
+use Rattle.vx_diskset.specs.Noted.{IsNamed, NotedOver, SiteNoted}
 use Rattle.vx_diskset.specs.Stands.{RoleIs, SiteStands}
 use Rattle.vx_diskset.specs.declared.disk_set.DiskSet.{DiskSet}
 use Rattle.vx_diskset.specs.declared.disk_set.DiskSet.TheVariants.{Bare, Spoiled, Up, Receives, Down, OfGroup, Over, Gone}
@@ -59,7 +59,7 @@ no_after w s (Some a) is = absurd (never_some (sym is))
 
 module _ {R : Type 0} {g : Ghosts R} where
   -- what stands by one note of a site stands by that which the site notes
-  pub over_noted : (k : Node) (note : GroupNode) (e : DiskSet R g) → k.group ≡ Some note → IsNamed k → SiteNoted k note e → NotedAt k e
+  pub over_noted : (k : Node) (note : GroupNode) (e : DiskSet R g) → k.group ≡ Some note → IsNamed k → SiteNoted k note e → NotedOver k e
   over_noted k note (Bare rack) is named it = tt
   over_noted k note (Spoiled rack) is named it = tt
   over_noted k note (Up rvg) is named it = tt
@@ -176,7 +176,7 @@ module _ {R : Type 0} {g : Ghosts R} (d : Doubted) (old new : Yard R g) (name sr
           )
 
       -- and it is so noted
-      here_noted : NotedAt k after
+      here_noted : NotedOver k after
       here_noted = over_noted k gained after refl here_named (subst (λ (x : Node). SiteNoted x gained after) same_made noted)
 
       pub seen : made_facts sits.core sits.config (fact_of_group (d.world.nodes s) (note_at (d.world.nodes s))) ≡ fact_over rvg_next.world s
@@ -187,7 +187,7 @@ module _ {R : Type 0} {g : Ghosts R} (d : Doubted) (old new : Yard R g) (name sr
       pub gained_stands : new.facts.items ≡ slice_set old.facts.items s (made_facts sits.core sits.config (fact_of_group (d.world.nodes s) (note_at (d.world.nodes s)))) → StandsFor rvg_next new
       gained_stands facts =
           stands_at d rvg_next old new s (made_facts sits.core sits.config (fact_of_group n note)) before after stands at.group.below changed comes
-          (λ was. subst (λ (x : Node). BeginsFirst s x) (sym arrives.node) (arrives.first was)) (λ _. subst (λ (x : Node). NotedAt x after) (sym arrives.node) here_noted) seen facts
+          (λ was. subst (λ (x : Node). BeginsFirst s x) (sym arrives.node) (arrives.first was)) (λ _. subst (λ (x : Node). NotedOver x after) (sym arrives.node) here_noted) seen facts
 
       pub gained_carries : SameLoad old new → Carries d old → Carries rvg_next new
       gained_carries load carries =

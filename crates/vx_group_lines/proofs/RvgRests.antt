@@ -15,7 +15,7 @@ use Rattle.vx_order.specs.declared.facts.SiteFacts.{SiteFacts}
 use Rattle.vx_script.specs.declared.line.ScriptLine.TheVariants.{Recover}
 use Rattle.vx_diskset.proofs.Roles.{role_origin}
 use Rattle.vx_diskset.specs.Holds.{KeptBeside, beside_of}
-use Rattle.vx_diskset.specs.Noted.{IsNamed, NotedAt, SiteNoted}
+use Rattle.vx_diskset.specs.Noted.{IsNamed, NotedOver, SiteNoted}
 use Rattle.vx_diskset.specs.OverRises.{rest_in}
 use Rattle.vx_diskset.specs.Stands.{SiteStands}
 use Rattle.vx_diskset.specs.declared.disk_set.DiskSet.TheVariants.{Over}
@@ -123,7 +123,7 @@ module _ {R : Type 0} {g : Ghosts R} (d : Doubted) (s kept : ℕ) (taken : Bool)
     apart : is_over_group m ≡ false
     apart = rvg_apart m (over_again n m next call.over refl refl)
 
-    noted_there : NotedAt m (Over p)
+    noted_there : NotedOver m (Over p)
     noted_there = ((λ k is. subst (λ (y : GroupNode). SiteNoted m y (Over p)) (some_same is) noted), named)
 
     module _ (e : Doubted) (arrives : Arrives (rests_as d s kept taken) e s (rest_in session next ((rests_as d s kept taken).world.nodes s)) ((rests_as d s kept taken).world.gathering s))

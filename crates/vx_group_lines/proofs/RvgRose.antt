@@ -19,7 +19,7 @@ use Rattle.vx_grouped.specs.GroupSites.{site_disks}
 use Rattle.vx_diskset.proofs.Roles.{role_origin}
 use Rattle.vx_diskset.specs.Aboves.{site_in}
 use Rattle.vx_diskset.specs.Holds.{KeptBeside, beside_of, header_links}
-use Rattle.vx_diskset.specs.Noted.{IsNamed, NotedAt, SiteNoted}
+use Rattle.vx_diskset.specs.Noted.{IsNamed, NotedOver, SiteNoted}
 use Rattle.vx_diskset.specs.OverRises.{RoseAgain, came_with}
 use Rattle.vx_diskset.specs.Stands.{SiteStands}
 use Rattle.vx_diskset.specs.declared.disk_set.DiskSet.TheVariants.{Over}
@@ -169,7 +169,7 @@ module _ {R : Type 0} {g : Ghosts R} (d : Doubted) (s kept : ℕ) (taken : Bool)
     noted_here : SiteNoted risen next (Over p)
     noted_here = subst (λ (k : Node). SiteNoted k next (Over p)) (worked_is n next unfused_rest) noted
 
-    noted_at_last : NotedAt risen (Over p)
+    noted_at_last : NotedOver risen (Over p)
     noted_at_last = ((λ k is. subst (λ (y : GroupNode). SiteNoted risen y (Over p)) (some_same is) noted_here), named)
 
     -- what came up

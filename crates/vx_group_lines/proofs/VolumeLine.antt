@@ -37,7 +37,7 @@ use Rattle.vx_events.specs.declared.said.Said.TheVariants.{Done}
 use Rattle.vx_yard.proofs.Lists.{get-set_same, set_same}
 use Rattle.vx_yard.proofs.NamedSite.{asks_at, named_same, place_at}
 use Rattle.vx_yard.proofs.OneSite.{Changed, told_by}
-use Rattle.vx_yard.specs.GroupFacts.{with_volumes}
+use Rattle.vx_yard.specs.GroupFacts.{with_table}
 use Rattle.vx_yard.specs.OfSites.{OfSite}
 use Rattle.vx_yard.specs.Standing.{LeadsOver, LeadsOverIs, StandsFor}
 use Rattle.vx_yard.specs.Working.{IsFree}
@@ -103,14 +103,14 @@ module _ {R : Type 0} {g : Ghosts R} where
     is_up = at_up d old name s before at up
 
     line_done : (new : Yard R g) (vol : ℕ) → ((k : Node) (next : GroupNode) → AtSite (UpNoted k next) before → OnSites (λ o e. SiteAdded k next volume want o e (Ok vol)) before after) → ((k : Node) (next : GroupNode) → AtSite (UpNoted k next) before → OnSites (λ o e. AddedMapped o e (Ok vol)) before after)
-        → ((f : SiteFacts) (c : Config) → slice_get mid.facts.items s ≡ Some f → HasConfig s c mid → new.facts.items ≡ slice_set mid.facts.items s (with_volumes (kinds_by c.rvg c.volumes) f))
+        → ((f : SiteFacts) (c : Config) → slice_get mid.facts.items s ≡ Some f → HasConfig s c mid → new.facts.items ≡ slice_set mid.facts.items s (with_table (kinds_by c.rvg c.volumes) f))
         → new.assemblies ≡ mid.assemblies → KeepsRest mid new → LeadsOver d (Volume name volume blocks mirrors layout log map_of policy) Done old new
     line_done new vol made maps facts assemblies rest =
         volume_done d old new name volume blocks mirrors layout log map_of policy want is_want s before after stands (calling new rest) vol (made n note is_up) (maps n note is_up)
         (λ c has.
         facts (fact_of_group (d.world.nodes s) (note_at (d.world.nodes s))) c (ap (λ (fs : List SiteFacts). slice_get fs s) half.facts ∙ at.fact)
         (record { disk_set = after; there = ap (λ (es : List (DiskSet R g)). slice_get es s) changed.disk_sets ∙ get-set_same old.disk_sets.items s after (slice_get_within old.disk_sets.items s before changed.there); is = has })
-        ∙ ap (λ (fs : List SiteFacts). slice_set fs s (with_volumes (kinds_by c.rvg c.volumes) (fact_of_group (d.world.nodes s) (note_at (d.world.nodes s))))) half.facts)
+        ∙ ap (λ (fs : List SiteFacts). slice_set fs s (with_table (kinds_by c.rvg c.volumes) (fact_of_group (d.world.nodes s) (note_at (d.world.nodes s))))) half.facts)
         (load_on old mid new half rest (ap (λ xs. xs.items) assemblies))
 
     line_stopped : (new : Yard R g) (stop : Stop) (result : Result Said OutOfMemory) → ((k : Node) (next : GroupNode) → AtSite (UpNoted k next) before → OnSites (λ o e. SiteAdded k next volume want o e (Err stop)) before after) → ((k : Node) (next : GroupNode) → AtSite (UpNoted k next) before → OnSites (λ o e. AddedMapped o e (Err stop)) before after)
@@ -141,7 +141,7 @@ module _ {R : Type 0} {g : Ghosts R} where
       → want ≡ shape_of blocks mirrors layout log map_of policy → (s : ℕ) (before after : DiskSet R g) → StandsFor d old → seat_of old.facts.items name ≡ Some s → over_group_at d.world name ≡ true
       → IsFree old (Volume name volume blocks mirrors layout log map_of policy) → Changed old mid s before after → SameFailing before after → cut_in after ≡ cut_in before → CalledOn before after → Midway old mid
       → (vol : ℕ) → ((k : Node) (next : GroupNode) → AtSite (UpNoted k next) before → OnSites (λ o e. SiteAdded k next volume want o e (Ok vol)) before after) → ((k : Node) (next : GroupNode) → AtSite (UpNoted k next) before → OnSites (λ o e. AddedMapped o e (Ok vol)) before after)
-      → ((f : SiteFacts) (c : Config) → slice_get mid.facts.items s ≡ Some f → HasConfig s c mid → new.facts.items ≡ slice_set mid.facts.items s (with_volumes (kinds_by c.rvg c.volumes) f))
+      → ((f : SiteFacts) (c : Config) → slice_get mid.facts.items s ≡ Some f → HasConfig s c mid → new.facts.items ≡ slice_set mid.facts.items s (with_table (kinds_by c.rvg c.volumes) f))
       → new.assemblies ≡ mid.assemblies → LeadsOver d (Volume name volume blocks mirrors layout log map_of policy) Done old new
   done_by mid new rest d old name volume blocks mirrors layout log map_of policy want is_want s before after stands seat over free changed failing cut since half vol made maps facts assemblies =
       line_done d old mid name volume blocks mirrors layout log map_of policy want is_want s before after stands seat over free changed failing cut since half new vol made maps facts assemblies rest

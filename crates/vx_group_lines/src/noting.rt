@@ -8,7 +8,7 @@ ghost use Rattle.vx_events.specs.declared.said.Said.TheVariants.{Refused};
 ghost use Rattle.vx_order.specs.declared.facts.SiteFacts.{SiteFacts as Facts};
 ghost use Rattle.vx_rvg.specs.Views.{Core, last_of};
 ghost use Rattle.vx_yard.specs.Changes.{up_facts};
-ghost use Rattle.vx_yard.specs.GroupFacts.{group_up_facts, with_volumes};
+ghost use Rattle.vx_yard.specs.GroupFacts.{group_up_facts, with_table};
 ghost use Rattle.vx_yard.specs.Loads.{LetGoBy};
 ghost use Rattle.vx_yard.specs.Writes.{below_facts};
 ghost use Rattle.vx_group_lines.specs.Noting.{HasConfig, HasCore, HasNoCore, KeepsRest, made_facts, reply_noted};
@@ -95,7 +95,7 @@ pub(crate) fn note_volumes<R: Rack>(yard: &mut Yard<R>, site: usize, room: Volum
     requires facts { site < length yard.old.facts.items }
     requires disk_set { site < length yard.old.disk_sets.items }
     requires empty { room ≡ [] }
-    ensures facts { (f : Facts) (c : ConfigValue) → slice_get yard.old.facts.items site ≡ Some f → HasConfig site c yard.old → yard.new.facts.items ≡ slice_set yard.old.facts.items site (with_volumes (kinds_by c.rvg c.volumes) f) }
+    ensures facts { (f : Facts) (c : ConfigValue) → slice_get yard.old.facts.items site ≡ Some f → HasConfig site c yard.old → yard.new.facts.items ≡ slice_set yard.old.facts.items site (with_table (kinds_by c.rvg c.volumes) f) }
     ensures assemblies { yard.new.assemblies ≡ yard.old.assemblies }
     ensures same { KeepsRest yard.old yard.new }
 {

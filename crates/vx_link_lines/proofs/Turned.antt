@@ -9,7 +9,7 @@ use Rattle.vx_history.specs.World.{Node}
 use Rattle.vx_disk.specs.declared.shelf.Shelf.{Ghosts}
 use Rattle.vx_diskset.specs.Asked.{FailsAs, FusedAs}
 use Rattle.vx_diskset.specs.Holds.{KeptBeside, beside_of}
-use Rattle.vx_diskset.specs.Noted.{NotedAt}
+use Rattle.vx_diskset.specs.Noted.{NotedOver}
 use Rattle.vx_diskset.specs.Stands.{RoleIs, SiteStands}
 use Rattle.vx_diskset.specs.declared.disk_set.DiskSet.{DiskSet}
 use Rattle.vx_events.specs.Effects.{ChangesNode}
@@ -32,7 +32,7 @@ module _ {R : Type 0} {g : Ghosts R} where
 
   -- the yard stands for the world that this one comes to
   pub stands_turned : (d e : Doubted) (old new : Yard R g) (s : ℕ) (before after : DiskSet R g) → StandsFor d old → s < d.world.sites → Changed old new s before after → Turned d e s after
-      → (BeginsFirst s (d.world.nodes s) → BeginsFirst s (e.world.nodes s)) → (NotedAt (d.world.nodes s) before → NotedAt (e.world.nodes s) after) → new.facts.items ≡ facts_over e.world → ((a : After) → e.after s ≡ Some a → IsSameSite (e.world.nodes s) a.node) → StandsFor e new
+      → (BeginsFirst s (d.world.nodes s) → BeginsFirst s (e.world.nodes s)) → (NotedOver (d.world.nodes s) before → NotedOver (e.world.nodes s) after) → new.facts.items ≡ facts_over e.world → ((a : After) → e.after s ≡ Some a → IsSameSite (e.world.nodes s) a.node) → StandsFor e new
   stands_turned d e old new s before after stands below changed turned first noted facts doubt = record {
     facts = facts;
     disk_sets = subst (λ es. SitesAgree e es) (sym changed.disk_sets) (record {
@@ -56,8 +56,8 @@ module _ {R : Type 0} {g : Ghosts R} where
         (λ (same : i ≡ s). subst (λ (k : ℕ). BeginsFirst k (e.world.nodes k)) (sym same) (first (stands.first s below)))
         (λ apart. subst (λ (n : Node). BeginsFirst i n) (sym (turned.changes.nodes i apart)) (stands.first i (omega (arith, inside, turned.changes.sites))))
         (cases_eq i s);
-    noted = λ i x inside is. at_set (λ j y. NotedAt (e.world.nodes j) y) old.disk_sets.items s after within (noted (stands.noted s before below changed.there)) i x (here i x is)
-        (λ apart was. subst (λ (n : Node). NotedAt n x) (sym (turned.changes.nodes i apart)) (stands.noted i x (omega (arith, inside, turned.changes.sites)) was));
+    noted = λ i x inside is. at_set (λ j y. NotedOver (e.world.nodes j) y) old.disk_sets.items s after within (noted (stands.noted s before below changed.there)) i x (here i x is)
+        (λ apart was. subst (λ (n : Node). NotedOver n x) (sym (turned.changes.nodes i apart)) (stands.noted i x (omega (arith, inside, turned.changes.sites)) was));
     doubts = λ i a is. ⊎_elim
         (λ (same : i ≡ s). subst (λ (k : ℕ). IsSameSite (e.world.nodes k) a.node) (sym same) (doubt a (ap (λ (k : ℕ). e.after k) (sym same) ∙ is)))
         (λ apart. subst (λ (n : Node). IsSameSite n a.node) (sym (turned.changes.nodes i apart)) (stands.doubts i a (sym (turned.changes.after i apart) ∙ is)))

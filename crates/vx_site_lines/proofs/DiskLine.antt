@@ -43,7 +43,7 @@ use Rattle.vx_diskset.proofs.Laying.{raw_in}
 use Rattle.vx_yard.proofs.FirstSites.{begins_like}
 use Rattle.vx_diskset.proofs.NotedLikes.{noted_stays}
 use Rattle.vx_diskset.specs.Aboves.{site_in}
-use Rattle.vx_diskset.specs.Noted.{NotedAt, NotedOn, OversStay, below_rvg}
+use Rattle.vx_diskset.specs.Noted.{NotedOver, NotedOn, OversStay, below_rvg}
 use Rattle.vx_history.specs.Groups.{GroupNode}
 use Rattle.vx_events.specs.Ends.{Ends}
 use Rattle.vx_events.specs.GroupLines.{is_over_group}
@@ -86,7 +86,7 @@ module _ {R : Type 0} {g : Ghosts R} where
   over_units n note (Marked rack) h = absurd h
   over_units n note GroupGone h = absurd h
 
-  units_at : (beside : KeptBeside) (n : Node) (e : DiskSet R g) → NotedAt n e → SiteStands beside n e → units_in e ≡ n.disks
+  units_at : (beside : KeptBeside) (n : Node) (e : DiskSet R g) → NotedOver n e → SiteStands beside n e → units_in e ≡ n.disks
   units_at beside n (Bare rack) noted h = h.bare.fitted.units
   units_at beside n (Spoiled rack) noted h = h.fitted.units
   units_at beside n (Up rvg) noted h = (raw_in n (g.meaning rvg.shelf) h.0.0 h.1.lies).units
@@ -121,7 +121,7 @@ module _ {R : Type 0} {g : Ghosts R} where
       (record { told = λ x at u fails. set_on disk on (disks_told before) (disks_told after) m.failing (stands.failing s before below changed.there).told sets x at u fails })
       (fused_set m n before after disk on refl sets (stands.fuses s before below changed.there)) (role_kept d old s before after stands below changed.there role))
       (λ first. subst (λ (x : Node). BeginsFirst s x) (sym (at_place d.world.nodes s n)) (begins_like s m n (λ bare. bare) refl refl refl refl first))
-      (λ was. subst (λ (x : Node). NotedAt x after) (sym (at_place d.world.nodes s n))
+      (λ was. subst (λ (x : Node). NotedOver x after) (sym (at_place d.world.nodes s n))
       (noted_stays m n (record { name = refl; disks = refl; blocks = refl; volumes = refl; group = refl; state = refl; fuse = refl }) before after noted was))
       (fact_stays d.world (with_one d s n).world s over (over_is n ((with_one d s n).world.nodes s) (at_place d.world.nodes s n) over)
       (fact_same n ((with_one d s n).world.nodes s) (d.world.links s) (d.world.links s) d.world.sites d.world.sites (at_place d.world.nodes s n) (λ k. refl) refl

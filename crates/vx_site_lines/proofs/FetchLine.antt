@@ -64,7 +64,7 @@ use Rattle.vx_yard.proofs.NamedSite.{SiteAt, apart_at, fact_named, named_at, sit
 use Rattle.vx_yard.proofs.NoteSite.{comes_same, one_left, only_left}
 use Rattle.vx_yard.proofs.OneSite.{Changed, Comes, beside_same, role_kept, rose_at, stands_still, told_by}
 use Rattle.vx_site_lines.proofs.Apart.{never_up}
-use Rattle.vx_diskset.specs.Noted.{NotedAt}
+use Rattle.vx_diskset.specs.Noted.{NotedOver}
 use Rattle.vx_yard.proofs.OverGroup.{noted_none, none_rvg}
 use Rattle.vx_yard.proofs.RawSites.{raw_site, raw_told, ungrouped_over, ungrouped_site}
 use Rattle.vx_yard.proofs.SiteEvents.{first_choice}
@@ -250,7 +250,7 @@ module _ {R : Type 0} {g : Ghosts R} where
       doubt = comes.doubt;
     }
 
-    still_noted : NotedAt (d.world.nodes s) before → NotedAt (d.world.nodes s) after
+    still_noted : NotedOver (d.world.nodes s) before → NotedOver (d.world.nodes s) after
     still_noted was = noted_none (beside_of d s) (d.world.nodes s) (d.world.nodes s) after here none
 
     pub stays_for : StandsFor d new

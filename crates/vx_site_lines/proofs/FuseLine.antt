@@ -37,7 +37,7 @@ use Rattle.vx_yard.proofs.Carrying.{SameLoad, carries_node}
 use Rattle.vx_site_lines.proofs.Apart.{fact_stays, over_is, state_placed}
 use Rattle.vx_yard.proofs.FirstSites.{begins_like}
 use Rattle.vx_diskset.proofs.NotedLikes.{noted_fused}
-use Rattle.vx_diskset.specs.Noted.{NotedAt, OversFused}
+use Rattle.vx_diskset.specs.Noted.{NotedOver, OversFused}
 use Rattle.vx_events.specs.Ends.{Ends}
 use Rattle.vx_events.specs.GroupLines.{is_over_group}
 use Rattle.vx_events.specs.GroupNotes.{IsKnown, note_at}
@@ -82,7 +82,7 @@ module _ {R : Type 0} {g : Ghosts R} where
       (λ x y set left. subst (λ (z : Option (ℕ × ℕ)). HasLeft calls z) (sym set.1) (omega arith)) sets (stands.fuses s before below changed.there))
       (role_kept d old s before after stands below changed.there keeps))
       (λ first. subst (λ (x : Node). BeginsFirst s x) (sym (at_place d.world.nodes s n)) (begins_like s m n (λ bare. bare) refl refl refl refl first))
-      (λ was. subst (λ (x : Node). NotedAt x after) (sym (at_place d.world.nodes s n))
+      (λ was. subst (λ (x : Node). NotedOver x after) (sym (at_place d.world.nodes s n))
       (noted_fused (beside_of d s) m n calls (record { name = refl; disks = refl; blocks = refl; volumes = refl; group = refl; state = refl; fuse = refl }) before after there up noted was))
       (fact_stays d.world (with_one d s n).world s over (over_is n ((with_one d s n).world.nodes s) (at_place d.world.nodes s n) over)
       (fact_same n ((with_one d s n).world.nodes s) (d.world.links s) (d.world.links s) d.world.sites d.world.sites (at_place d.world.nodes s n) (λ k. refl) refl

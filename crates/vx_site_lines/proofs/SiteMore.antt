@@ -30,7 +30,7 @@ use Rattle.vx_script.specs.declared.line.ScriptLine.TheVariants.{Site}
 use Rattle.vx_diskset.specs.Asked.{FailsAs, FusedAs}
 use Rattle.vx_diskset.specs.DiskSets.{FitIs}
 use Rattle.vx_diskset.specs.Holds.{KeptBeside, KeptSite, beside_of, doubt_of, row_links}
-use Rattle.vx_diskset.specs.Noted.{NotedAt}
+use Rattle.vx_diskset.specs.Noted.{NotedOver}
 use Rattle.vx_diskset.specs.Stands.{IsUnused, RoleIs, SiteStands}
 use Rattle.vx_diskset.specs.declared.disk_set.DiskSet.{DiskSet}
 use Rattle.vx_effects.proofs.Fitting.{fit_happened}
@@ -243,8 +243,8 @@ module _ {R : Type 0} {g : Ghosts R} where
         (λ (same : i ≡ s). subst (λ (k : ℕ). BeginsFirst k (e.world.nodes k)) (sym same) (subst (λ (m : Node). BeginsFirst s m) (sym adds.node) (λ made none. absurd (made bare))))
         (λ apart. subst (λ (m : Node). BeginsFirst i m) (sym (adds.nodes i apart)) (stands.first i (less i apart inside)))
         (cases_eq i s);
-    noted = λ i x inside is. at_set (λ j y. NotedAt (e.world.nodes j) y) old.disk_sets.items s after within (noted_none (beside_of e s) n (e.world.nodes s) after here none) i x (there i x is)
-        (λ apart was. subst (λ (m : Node). NotedAt m x) (sym (adds.nodes i apart)) (stands.noted i x (less i apart inside) was));
+    noted = λ i x inside is. at_set (λ j y. NotedOver (e.world.nodes j) y) old.disk_sets.items s after within (noted_none (beside_of e s) n (e.world.nodes s) after here none) i x (there i x is)
+        (λ apart was. subst (λ (m : Node). NotedOver m x) (sym (adds.nodes i apart)) (stands.noted i x (less i apart inside) was));
     doubts = λ i a is. doubted i a is;
     failing = λ i x inside is. at_set (λ j y. FailsAs (e.world.nodes j) y) old.disk_sets.items s after within (subst (λ (m : Node). FailsAs m after) (sym adds.node) failing) i x (there i x is)
         (λ apart was. subst (λ (m : Node). FailsAs m x) (sym (adds.nodes i apart)) (stands.failing i x (less i apart inside) was));

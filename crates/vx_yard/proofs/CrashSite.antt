@@ -20,7 +20,7 @@ use Rattle.vx_script.specs.declared.line.ScriptLine.TheVariants.{Crash}
 use Rattle.vx_diskset.specs.Asked.{FailsAs, FusedAs, SameFailing}
 use Rattle.vx_diskset.specs.DiskSets.{CrashedAt, CrashedTo}
 use Rattle.vx_diskset.specs.Holds.{KeptBeside, KeptSite, beside_of, doubt_of, itself, row_links, sure_of}
-use Rattle.vx_diskset.specs.Noted.{FellAs, NotedAt}
+use Rattle.vx_diskset.specs.Noted.{FellAs, NotedOver}
 use Rattle.vx_diskset.specs.Stands.{SiteStands}
 use Rattle.vx_diskset.specs.declared.disk_set.DiskSet.{DiskSet}
 use Rattle.vx_diskset.proofs.FailSets.{stands_failing}
@@ -212,7 +212,7 @@ module _ {R : Type 0} {g : Ghosts R} where
 
   -- the same of a yard
   pub falls : (d : Doubted) (old new : Yard R g) (s : ℕ) (f f' : SiteFacts) (before after : DiskSet R g) → StandsFor d old → s < d.world.sites → (d.world.nodes s).state ≡ Up → slice_get old.facts.items s ≡ Some f
-      → Changed old new s before after → CrashedAt (beside_of d s) (d.world.nodes s) after → ((d.world.nodes s).halted ≡ None → CrashedTo (beside_of d s) (d.world.nodes s) (d.world.nodes s).safe after) → SameFailing before after → ((m : Node) → FellAs (d.world.nodes s) m → NotedAt (d.world.nodes s) before → NotedAt m after)
+      → Changed old new s before after → CrashedAt (beside_of d s) (d.world.nodes s) after → ((d.world.nodes s).halted ≡ None → CrashedTo (beside_of d s) (d.world.nodes s) (d.world.nodes s).safe after) → SameFailing before after → ((m : Node) → FellAs (d.world.nodes s) m → NotedOver (d.world.nodes s) before → NotedOver m after)
       → f' ≡ down_fact f → new.facts.items ≡ slice_set old.facts.items s f' → LetsGo old new s → Falls d s old new
   falls d old new s f f' before after stands below up at changed fell durable same noted is facts lets = by_halt (d.world.nodes s).halted refl
     where
@@ -253,7 +253,7 @@ module _ {R : Type 0} {g : Ghosts R} where
             stands = stands_at d (crash_of d s count false) old new s f' before after stands below changed
                 (crash_comes d s count false n (d.world.links s) refl (λ j. refl) (λ _. refl) below up least most before after stands.links (stands.failing s before below changed.there) same here)
                 (λ first. subst (λ (x : Node). BeginsFirst s x) (sym (crash_node d s count false n (d.world.links s) refl (λ j. refl) (λ _. refl) below up least most)) (begins_fell s n n count up first))
-                (λ was. subst (λ (x : Node). NotedAt x after) (sym (crash_node d s count false n (d.world.links s) refl (λ j. refl) (λ _. refl) below up least most))
+                (λ was. subst (λ (x : Node). NotedOver x after) (sym (crash_node d s count false n (d.world.links s) refl (λ j. refl) (λ _. refl) below up least most))
                 (noted (crashed_node n n count) (record { name = refl; disks = refl; blocks = refl; volumes = refl; group = refl; state = refl; fuse = refl }) was))
                 (is ∙ was ∙ crash_fact d s count false n (d.world.links s) refl (λ j. refl) (λ _. refl) below up least most refl refl refl refl) facts;
             rose = rose_still old new s before after changed.there changed.later changed.disk_sets;
@@ -292,7 +292,7 @@ module _ {R : Type 0} {g : Ghosts R} where
                 (λ _. subst (λ (x : Node). BeginsFirst s x) (sym (crash_node d s count true a.node a.row node_is row_is (λ e. absurd (never e)) below fits.up_too least most))
                 (begins_fell s n a.node count fits.up_too
                 (λ made none. absurd (doubt_apart (beside_of d s) n before k (stands.disk_sets.sites s before below changed.there) up other (sym same_site.volumes ∙ none)))))
-                (λ was. subst (λ (x : Node). NotedAt x after) (sym (crash_node d s count true a.node a.row node_is row_is (λ e. absurd (never e)) below fits.up_too least most))
+                (λ was. subst (λ (x : Node). NotedOver x after) (sym (crash_node d s count true a.node a.row node_is row_is (λ e. absurd (never e)) below fits.up_too least most))
                 (noted (crashed_node n a.node count)
                 (record { name = same_site.name; disks = same_site.disks; blocks = same_site.blocks; volumes = same_site.volumes; group = refl; state = refl; fuse = refl }) was))
                 (is ∙ was ∙ crash_fact d s count true a.node a.row node_is row_is (λ e. absurd (never e)) below fits.up_too least most same_site.name same_site.disks same_site.blocks same_site.volumes) facts;

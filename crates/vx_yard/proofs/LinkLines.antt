@@ -11,7 +11,7 @@ use Rattle.vx_diskset.specs.Asked.{FailsAs, FusedAs}
 use Rattle.vx_diskset.specs.Holds.{KeptBeside, KeptSite, beside_of, doubt_of, header_links}
 use Rattle.vx_diskset.specs.Stands.{RoleIs, SiteStands}
 use Rattle.vx_diskset.specs.declared.disk_set.DiskSet.{DiskSet}
-use Rattle.vx_diskset.specs.Noted.{NotedAt}
+use Rattle.vx_diskset.specs.Noted.{NotedOver}
 use Rattle.vx_effects.proofs.Fitting.{fit_happened}
 use Rattle.vx_events.proofs.LinkWaiting.{wait_agrees}
 use Rattle.vx_events.specs.Facts.{seat_of, site_number}
@@ -174,7 +174,7 @@ module _ {R : Type 0} {g : Ghosts R} where
     };
     first = λ s inside. subst (λ (n : Node). BeginsFirst s n) (sym (left.nodes s)) (stands.first s (omega (arith, inside, left.sites)));
     noted = λ s e inside is.
-        subst (λ (n : Node). NotedAt n e) (sym (left.nodes s)) (stands.noted s e (omega (arith, inside, left.sites)) (sym (ap (λ es. slice_get es s) same) ∙ is));
+        subst (λ (n : Node). NotedOver n e) (sym (left.nodes s)) (stands.noted s e (omega (arith, inside, left.sites)) (sym (ap (λ es. slice_get es s) same) ∙ is));
     doubts = λ s a is.
         let was = stands.doubts s a is in
         record {

@@ -18,7 +18,7 @@ use Rattle.vx_diskset.specs.declared.disk_set.DiskSet.{DiskSet}
 use Rattle.vx_diskset.specs.declared.disk_set.DiskSet.TheVariants.{Bare, Spoiled, Up, Receives, Down, OfGroup, Over, Gone}
 use Rattle.vx_diskset.specs.declared.over_set.OverSite.{OverSite}
 use Rattle.vx_diskset.specs.declared.over_set.OverSite.TheVariants.{Origin as OriginSite, Receiver as ReceiverSite, Deported as OverAway, Down as OverFell, Gone as NoOver}
-use Rattle.vx_diskset.specs.Noted.{NotedAt}
+use Rattle.vx_diskset.specs.Noted.{NotedOver}
 use Rattle.vx_model.specs.declared.site.SiteState.TheVariants.{Up as IsUp}
 use Rattle.vx_events.specs.Effects.{ChangesNode}
 use Rattle.vx_events.specs.Facts.{values_from}
@@ -133,7 +133,7 @@ module _ {R : Type 0} {g : Ghosts R} where
 
   -- so the yard stands with another disk set of a site, in the world that this one comes to
   pub stands_at : (d e : Doubted) (old new : Yard R g) (s : ℕ) (f : SiteFacts) (before after : DiskSet R g) → StandsFor d old → s < d.world.sites → Changed old new s before after → Comes d e s after
-      → (BeginsFirst s (d.world.nodes s) → BeginsFirst s (e.world.nodes s)) → (NotedAt (d.world.nodes s) before → NotedAt (e.world.nodes s) after)
+      → (BeginsFirst s (d.world.nodes s) → BeginsFirst s (e.world.nodes s)) → (NotedOver (d.world.nodes s) before → NotedOver (e.world.nodes s) after)
       → f ≡ fact_over e.world s → new.facts.items ≡ slice_set old.facts.items s f → StandsFor e new
   stands_at d e old new s f before after stands below changed comes first noted fact facts = record {
     facts = facts ∙ ap (λ (fs : List SiteFacts). slice_set fs s f) stands.facts ∙ ap (λ (x : SiteFacts). slice_set (facts_over d.world) s x) fact ∙ sym (facts_set d e s comes.changes);
@@ -147,8 +147,8 @@ module _ {R : Type 0} {g : Ghosts R} where
         (λ (same : i ≡ s). subst (λ (k : ℕ). BeginsFirst k (e.world.nodes k)) (sym same) (first (stands.first s below)))
         (λ apart. subst (λ (n : Node). BeginsFirst i n) (sym (comes.changes.nodes i apart)) (stands.first i (omega (arith, inside, comes.changes.sites))))
         (cases_eq i s);
-    noted = λ i x inside is. at_set (λ j y. NotedAt (e.world.nodes j) y) old.disk_sets.items s after within (noted (stands.noted s before below changed.there)) i x (here i x is)
-        (λ apart was. subst (λ (n : Node). NotedAt n x) (sym (comes.changes.nodes i apart)) (stands.noted i x (omega (arith, inside, comes.changes.sites)) was));
+    noted = λ i x inside is. at_set (λ j y. NotedOver (e.world.nodes j) y) old.disk_sets.items s after within (noted (stands.noted s before below changed.there)) i x (here i x is)
+        (λ apart was. subst (λ (n : Node). NotedOver n x) (sym (comes.changes.nodes i apart)) (stands.noted i x (omega (arith, inside, comes.changes.sites)) was));
     doubts = λ i a is. doubted i a is;
     failing = λ i x inside is. at_set (λ j y. FailsAs (e.world.nodes j) y) old.disk_sets.items s after within comes.failing i x (here i x is)
         (λ apart was. subst (λ (n : Node). FailsAs n x) (sym (comes.changes.nodes i apart)) (stands.failing i x (omega (arith, inside, comes.changes.sites)) was));
@@ -174,7 +174,7 @@ module _ {R : Type 0} {g : Ghosts R} where
 
   -- the same of a site of which the tests see nothing new
   pub stands_still : (d e : Doubted) (old new : Yard R g) (s : ℕ) (before after : DiskSet R g) → StandsFor d old → s < d.world.sites → Changed old new s before after → Comes d e s after
-      → (BeginsFirst s (d.world.nodes s) → BeginsFirst s (e.world.nodes s)) → (NotedAt (d.world.nodes s) before → NotedAt (e.world.nodes s) after)
+      → (BeginsFirst s (d.world.nodes s) → BeginsFirst s (e.world.nodes s)) → (NotedOver (d.world.nodes s) before → NotedOver (e.world.nodes s) after)
       → fact_over e.world s ≡ fact_over d.world s → new.facts.items ≡ old.facts.items → StandsFor e new
   stands_still d e old new s before after stands below changed comes first noted fact facts =
       let start : 0 + s ≡ s = omega arith in
@@ -185,12 +185,12 @@ module _ {R : Type 0} {g : Ghosts R} where
 
   -- the same of a site that is over no group
   pub stands_apart : (d e : Doubted) (old new : Yard R g) (s : ℕ) (f : SiteFacts) (before after : DiskSet R g) → StandsFor d old → s < d.world.sites → Changed old new s before after → Comes d e s after
-      → (NotedAt (d.world.nodes s) before → NotedAt (e.world.nodes s) after) → is_over_group (e.world.nodes s) ≡ false → f ≡ linked_fact e.world s → new.facts.items ≡ slice_set old.facts.items s f → StandsFor e new
+      → (NotedOver (d.world.nodes s) before → NotedOver (e.world.nodes s) after) → is_over_group (e.world.nodes s) ≡ false → f ≡ linked_fact e.world s → new.facts.items ≡ slice_set old.facts.items s f → StandsFor e new
   stands_apart d e old new s f before after stands below changed comes noted apart fact facts =
       stands_at d e old new s f before after stands below changed comes (λ _. begins_apart s (beside_of e s) (e.world.nodes s) after comes.stands apart) noted (fact ∙ sym (fact_apart e.world s apart)) facts
 
   pub still_apart : (d e : Doubted) (old new : Yard R g) (s : ℕ) (before after : DiskSet R g) → StandsFor d old → s < d.world.sites → Changed old new s before after → Comes d e s after
-      → (NotedAt (d.world.nodes s) before → NotedAt (e.world.nodes s) after) → is_over_group (d.world.nodes s) ≡ false → is_over_group (e.world.nodes s) ≡ false → linked_fact e.world s ≡ linked_fact d.world s → new.facts.items ≡ old.facts.items → StandsFor e new
+      → (NotedOver (d.world.nodes s) before → NotedOver (e.world.nodes s) after) → is_over_group (d.world.nodes s) ≡ false → is_over_group (e.world.nodes s) ≡ false → linked_fact e.world s ≡ linked_fact d.world s → new.facts.items ≡ old.facts.items → StandsFor e new
   still_apart d e old new s before after stands below changed comes noted was apart fact facts =
       stands_still d e old new s before after stands below changed comes (λ _. begins_apart s (beside_of e s) (e.world.nodes s) after comes.stands apart) noted (fact_apart e.world s apart ∙ fact ∙ sym (fact_apart d.world s was)) facts
 

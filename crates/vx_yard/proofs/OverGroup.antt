@@ -25,7 +25,7 @@ use Rattle.vx_diskset.specs.declared.over_set.OverSet.{OverSet}
 use Rattle.vx_diskset.specs.declared.over_set.OverSite.{OverSite}
 use Rattle.vx_diskset.specs.declared.over_set.OverSite.TheVariants.{Origin as OriginSite, Receiver as ReceiverSite, Deported as OverAway, Down as OverFell, Gone as NoOver}
 use Rattle.vx_diskset.specs.declared.group_set.GroupSet.{GroupSet}
-use Rattle.vx_diskset.specs.Noted.{NotedAt}
+use Rattle.vx_diskset.specs.Noted.{NotedOver}
 use Rattle.vx_events.proofs.Places.{never_some}
 use Rattle.vx_events.specs.GroupLines.{is_over_group}
 use Rattle.vx_events.specs.GroupNotes.{no_note, note_at}
@@ -143,7 +143,7 @@ module _ {R : Type 0} {g : Ghosts R} where
   over_rvg beside n s it = with_data n.group (length n.volumes) (some_group n.group it.0.0) (over_many beside n s.site it.1)
 
   -- of one without a replicated volume group over its group nothing more is noted
-  pub noted_off : (beside : KeptBeside) (n m : Node) (e : DiskSet R g) → SiteStands beside n e → is_over_rvg n ≡ false → NotedAt m e
+  pub noted_off : (beside : KeptBeside) (n m : Node) (e : DiskSet R g) → SiteStands beside n e → is_over_rvg n ≡ false → NotedOver m e
   noted_off beside n m (Bare rack) it off = tt
   noted_off beside n m (Spoiled rack) it off = tt
   noted_off beside n m (Up rvg) it off = tt
@@ -154,11 +154,11 @@ module _ {R : Type 0} {g : Ghosts R} where
   noted_off beside n m Gone it off = tt
 
   -- so it is of one that notes no group
-  pub noted_none : (beside : KeptBeside) (n m : Node) (e : DiskSet R g) → SiteStands beside n e → n.group ≡ None → NotedAt m e
+  pub noted_none : (beside : KeptBeside) (n m : Node) (e : DiskSet R g) → SiteStands beside n e → n.group ≡ None → NotedOver m e
   noted_none beside n m e it none = noted_off beside n m e it (none_rvg n none)
 
   -- and of one over a group
-  pub noted_group : (beside : KeptBeside) (n m : Node) (e : DiskSet R g) → SiteStands beside n e → is_over_group n ≡ true → NotedAt m e
+  pub noted_group : (beside : KeptBeside) (n m : Node) (e : DiskSet R g) → SiteStands beside n e → is_over_group n ≡ true → NotedOver m e
   noted_group beside n m e it over = noted_off beside n m e it (group_off n over)
 
   -- a site over no group has a volume, where it is made

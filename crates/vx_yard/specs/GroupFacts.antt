@@ -9,8 +9,8 @@ abbrev pub group_up_facts : List VolumeFacts → SiteFacts → SiteFacts
 group_up_facts volumes f = record f { state = Up; grouped = true; volumes = volumes; rvg = None }
 
 -- the same site, with these volumes
-abbrev pub with_volumes : List VolumeFacts → SiteFacts → SiteFacts
-with_volumes volumes f = record f { volumes = volumes }
+abbrev pub with_table : List VolumeFacts → SiteFacts → SiteFacts
+with_table volumes f = record f { volumes = volumes }
 
 -- one that was deported: nothing is seen of a replicated volume group that it may have, and of its links
 abbrev pub deported_facts : SiteFacts → SiteFacts

@@ -20,7 +20,7 @@ use Rattle.vx_diskset.specs.Asked.{FailsAs, FusedAs}
 use Rattle.vx_diskset.specs.Holds.{beside_of}
 use Rattle.vx_diskset.specs.Makings.{IsFirstSite}
 use Rattle.vx_diskset.specs.Stands.{IsUnused, RoleIs, SiteStands}
-use Rattle.vx_diskset.specs.Noted.{NotedAt}
+use Rattle.vx_diskset.specs.Noted.{NotedOver}
 use Rattle.vx_diskset.specs.declared.disk_set.DiskSet.{DiskSet}
 use Rattle.vx_events.specs.Fails.{Fails}
 use Rattle.vx_events.specs.GroupEnds.{GroupEnds}
@@ -80,7 +80,7 @@ module _ {R : Type 0} {g : Ghosts R} where
     pub links : LinksFit d
     pub roles : RolesAre d y
     pub first : (s : ℕ) → s < d.world.sites → BeginsFirst s (d.world.nodes s)
-    pub noted : (s : ℕ) (e : DiskSet R g) → s < d.world.sites → slice_get y.disk_sets.items s ≡ Some e → NotedAt (d.world.nodes s) e
+    pub noted : (s : ℕ) (e : DiskSet R g) → s < d.world.sites → slice_get y.disk_sets.items s ≡ Some e → NotedOver (d.world.nodes s) e
     pub doubts : (s : ℕ) (a : After) → d.after s ≡ Some a → IsSameSite (d.world.nodes s) a.node
     pub failing : (s : ℕ) (e : DiskSet R g) → s < d.world.sites → slice_get y.disk_sets.items s ≡ Some e → FailsAs (d.world.nodes s) e
     pub fuses : (s : ℕ) (e : DiskSet R g) → s < d.world.sites → slice_get y.disk_sets.items s ≡ Some e → FusedAs (d.world.nodes s) e

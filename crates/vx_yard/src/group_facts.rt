@@ -1,6 +1,6 @@
 // What the tests of a line look at of a site whose disks are a group, as lines change it.
 ghost use Rattle.std.specs.Prelude.{◌≡◌, []};
-ghost use Rattle.vx_yard.specs.GroupFacts.{deported_facts, group_up_facts, with_volumes};
+ghost use Rattle.vx_yard.specs.GroupFacts.{deported_facts, group_up_facts, with_table};
 
 use std::alloc::Global;
 use vx_model::SiteState;
@@ -25,7 +25,7 @@ pub fn come_up_group(facts: &mut SiteFacts, volumes: VolumeTable)
 
 /// The group of the site has these volumes.
 pub fn set_volumes(facts: &mut SiteFacts, volumes: VolumeTable)
-    ensures { facts.new ≡ with_volumes volumes facts.old }
+    ensures { facts.new ≡ with_table volumes facts.old }
 {
     facts.volumes = volumes;
 }

@@ -7,7 +7,7 @@ use Rattle.vx_events.proofs.Places.{some_same}
 use Rattle.vx_events.specs.RvgViews.{kinds_by, kinds_of}
 use Rattle.vx_order.specs.declared.facts.SiteFacts.{SiteFacts}
 use Rattle.vx_yard.proofs.Lists.{get_at}
-use Rattle.vx_yard.specs.GroupFacts.{with_volumes}
+use Rattle.vx_yard.specs.GroupFacts.{with_table}
 use Rattle.vx_group_lines.proofs.GroupShown.{config_at}
 use Rattle.vx_group_lines.proofs.noting.note_volumes.Goals as goal
 
@@ -28,5 +28,5 @@ returns-clause-facts g c = λ f x at has.
     let here = get_at facts s c.index_mut.result.now c.requires.facts c.index_mut.ensures.value in
     ap (λ (k : SiteFacts). slice_set facts s k)
     (c.set_volumes.ensures
-    ∙ ap (λ vs. with_volumes vs c.index_mut.result.now) (c.table_of-volumes.ensures ∙ ap (λ (o : Option Config). kinds_of o) (c.config.ensures ∙ is))
-    ∙ ap (λ (k : SiteFacts). with_volumes (kinds_by x.rvg x.volumes) k) (some_same (sym here ∙ at)))
+    ∙ ap (λ vs. with_table vs c.index_mut.result.now) (c.table_of-volumes.ensures ∙ ap (λ (o : Option Config). kinds_of o) (c.config.ensures ∙ is))
+    ∙ ap (λ (k : SiteFacts). with_table (kinds_by x.rvg x.volumes) k) (some_same (sym here ∙ at)))
