@@ -18,7 +18,7 @@ pub of-requires : goal.of-requires
 of-requires g c = site_stays Nowhere c.parts-site.result.1 c.parts-site.result.0 c.look_kept.new.site c.look_kept.ensures.volumes c.parts-site.ensures.stays
 
 pub of-requires-in-Err : goal.of-requires-in-Err
-of-requires-in-Err g c = of-requires g c
+of-requires-in-Err g c = site_stays Nowhere c.parts-site.result.1 c.parts-site.result.0 c.look_kept.new.site c.look_kept.ensures.volumes c.parts-site.ensures.stays
 
 pub returns-in-Ok-clause-stands : goal.returns-in-Ok-clause-stands
 returns-in-Ok-clause-stands g c = λ beside n note stands state running noted none.
