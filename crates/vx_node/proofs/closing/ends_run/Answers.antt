@@ -1,7 +1,6 @@
 -- A run ends at a line that is open, and that no test refuses.
 use Rattle.std.proofs.Common.{◌≡◌, ◌∙◌, false, sym, true}
-use Rattle.std.specs.Prelude.{None, Option, Some}
-use Rattle.vx_model.specs.declared.no.No.{No}
+use Rattle.std.specs.Prelude.{None}
 use Rattle.vx_yard.specs.Working.{refused_in}
 use Rattle.vx_link_lines.proofs.AnswerFor.{tested}
 use Rattle.vx_node.proofs.closing.ends_run.Goals as goal
