@@ -8,6 +8,7 @@ mod group_starts;
 mod grouping;
 mod keeping;
 mod labels;
+mod places;
 mod pumping;
 mod reading;
 mod receivers;
@@ -20,6 +21,7 @@ mod zeroing;
 
 pub use disk_set::DiskSet;
 pub use group_set::{CutWrite, GroupSet, KeptWrite};
+pub use places::put_back;
 pub use reading::blocks_of;
 pub use receivers::Reached;
 pub use units::can_be_raw;

@@ -38,6 +38,7 @@ use Rattle.vx_yard.specs.Standing.{StandsFor}
 use Rattle.vx_yard.specs.Stands.{RoseAll}
 use Rattle.vx_yard.specs.Yards.{IsTold, count_of}
 use Rattle.vx_site_lines.specs.declared.rooms.RiseRoom.{RiseRoom}
+use Rattle.vx_site_lines.specs.declared.rooms.ShowRoom.{ShowRoom}
 use Rattle.vx_yard.specs.declared.yard.Yard.{Yard}
 
 abbrev pub is_quiet : SPhase → Bool
@@ -101,12 +102,16 @@ pub record IsRisen (s sites : ℕ) (n : Node) (state : State) (used : List ℕ) 
   pub may : can_rise s sites state ≡ true
   pub needs : AreNeeds n state.links used
 
+-- room for the links of a site, in which nothing is yet
+pub record IsEmptyShowRoom (room : ShowRoom) : Type 0 where
+  pub links : room.links ≡ []
+  pub views : room.views ≡ []
+
 -- memory that a recovery takes before: room for a raw set on disks of so many blocks, in which nothing is yet
 pub record IsEmptyRiseRoom (blocks : ℕ) (room : RiseRoom) : Type 0 where
   pub start : IsRoomOf blocks (ring_of blocks) room.start
   pub waiting : room.waiting ≡ []
-  pub links : room.links ≡ []
-  pub views : room.views ≡ []
+  pub shows : IsEmptyShowRoom room.shows
 
 module _ {R : Type 0} {g : Ghosts R} where
   -- of each site for which its disk set stands, the number of its last write, and its session

@@ -8,6 +8,7 @@ mod disk;
 mod fuse;
 mod make;
 mod noting;
+mod raised;
 mod read;
 mod recover;
 mod rooms;

@@ -18,23 +18,24 @@ ghost use Rattle.vx_events.specs.StepsOver.{is_for_group};
 ghost use Rattle.vx_events.specs.LinksFit.{LinksFit};
 ghost use Rattle.vx_events.specs.Lists.{Choice};
 ghost use Rattle.vx_yard.specs.OfSites.{AsAsked, OfSite};
-ghost use Rattle.vx_site_lines.specs.Rises.{IsEmptyRiseRoom, LastAt, LeadsFrom, RisesFrom, RisesTo, SessionAt, hello_by, own_disks, risen_facts};
-ghost use Rattle.vx_yard.specs.Standing.{LeadsIs, StandsFor};
+ghost use Rattle.vx_site_lines.specs.Raised.{MayBeRaw};
+ghost use Rattle.vx_site_lines.specs.Rises.{IsEmptyRiseRoom, IsEmptyShowRoom, LastAt, LeadsFrom, RisesFrom, RisesTo, SessionAt, hello_by, own_disks, risen_facts};
+ghost use Rattle.vx_yard.specs.Standing.{Leads, LeadsIs, StandsFor};
 ghost use Rattle.vx_yard.specs.Working.{IsFree};
 ghost use Rattle.vx_yard.specs.Yards.{IsYardKept, IsTold, in_files};
 
-use crate::rooms::{RiseRoom, Risen, greet, link_views, what_rose};
+use crate::raised::{SetRose, find_disks, raise_disks};
+use crate::rooms::{RiseRoom, Risen, ShowRoom, greet, link_views};
 use crate::status::view_at;
 use std::alloc::Global;
-use std::mem;
 use vx_disk::Rack;
-use vx_diskset::{DiskSet, can_be_raw};
+use vx_diskset::can_be_raw;
 use vx_events::Said;
 use vx_linked::restart_links;
 use vx_model::limits::{LEAST_BLOCKS, MOST_NUMBER};
 use vx_model::{Name, No, OutOfMemory, SiteState, State, ring_blocks};
 use vx_net::Net;
-use vx_order::LinkRoom;
+use vx_order::{LinkRoom, VolumeTable};
 use vx_report::{LinkViewRoom, SiteView};
 use vx_script::ScriptLine;
 use vx_yard::falling::go_down;
@@ -110,22 +111,20 @@ fn stand_up<R: Rack>(
     site: usize,
     ring: u64,
     risen: Risen,
-    links: LinkRoom,
-    views: LinkViewRoom,
+    shows: ShowRoom,
 ) -> Said
     requires facts { site < length yard.old.facts.items }
     requires disk_set { site < length yard.old.disk_sets.items }
     requires few { site < MOST_SITES }
     requires flight { yard.old.flight.count < MOST_NUMBER }
     requires state { CanSpellState risen.state }
-    requires links { links ≡ [] }
-    requires views { views ≡ [] }
+    requires empty { IsEmptyShowRoom shows }
     ensures rises { RisesTo site ring risen.state risen.used result yard.old yard.new }
     ensures dir { yard.new.dir ≡ yard.old.dir }
 {
-    let last = note_risen(yard, site, ring, &risen, links);
+    let last = note_risen(yard, site, ring, &risen, shows.links);
     let _session = follow(yard, site, &risen.state, last);
-    Said::Recovered(last, show_risen(yard, alloc, site, views))
+    Said::Recovered(last, show_risen(yard, alloc, site, shows.views))
 }
 
 // Starts the group of a site that is down, on disks of so many blocks, and says how it stands. Disks that tell nothing go down again where
@@ -143,8 +142,7 @@ fn rise<R: Rack>(
     requires disk_set { site < length yard.old.disk_sets.items }
     requires flight { yard.old.flight.count < MOST_NUMBER }
     requires room { room.waiting ≡ [] }
-    requires links { room.links ≡ [] }
-    requires views { room.views ≡ [] }
+    requires empty { IsEmptyShowRoom room.shows }
     ensures rises { (d h : Doubted) (c : Choice) (taken : Bool) (name : List ℕ) → site_number d.world name ≡ site → RisesFrom d site c taken h → LinksFit d
         → StandsFor (own_disks taken site d.world h) yard.old → site < h.world.sites → ((own_disks taken site d.world h).world.nodes site).state ≡ DownState → is_over_group ((own_disks taken site d.world h).world.nodes site) ≡ false
         → blocks ≡ ((own_disks taken site d.world h).world.nodes site).blocks → IsRoomOf blocks (ring_of blocks) room.start
@@ -155,23 +153,56 @@ fn rise<R: Rack>(
 {
     let sites = yard.facts.len() as u32;
     let ring = ring_blocks(blocks);
-    let disk_set = mem::replace(&mut yard.disk_sets[site], DiskSet::Gone);
-    let (disk_set, came) = disk_set.recover_any(room.start, room.waiting);
-    match came {
-        Ok(()) => match what_rose(&disk_set, site as u32, sites) {
-            Some(risen) => {
-                yard.disk_sets[site] = disk_set;
-                stand_up(yard, alloc, site, ring, risen, room.links, room.views)
-            }
-            None => {
-                yard.disk_sets[site] = disk_set.crash(u64::MAX);
-                Said::Refused(No::NoConfig)
-            }
-        },
-        Err(no) => {
-            yard.disk_sets[site] = disk_set;
-            Said::Refused(no)
+    match raise_disks(
+        &mut yard.disk_sets[site],
+        room.start,
+        room.waiting,
+        site as u32,
+        sites,
+    ) {
+        SetRose::Up(risen) => stand_up(yard, alloc, site, ring, risen, room.shows),
+        SetRose::Unfit => Said::Refused(No::NoConfig),
+        SetRose::Refused(no) => Said::Refused(no),
+    }
+}
+
+// Starts what an earlier run left on the disks of a bare site, whose volumes as a raw set are these, and says how it stands.
+fn rise_found<R: Rack>(
+    yard: &mut Yard<R>,
+    alloc: Global,
+    site: usize,
+    blocks: u64,
+    volumes: VolumeTable,
+    room: RiseRoom,
+) -> Said
+    requires least { LEAST_BLOCKS ≤ blocks }
+    requires facts { site < length yard.old.facts.items }
+    requires many { length yard.old.facts.items ≤ MOST_SITES }
+    requires disk_set { site < length yard.old.disk_sets.items }
+    requires flight { yard.old.flight.count < MOST_NUMBER }
+    requires raw { (f : Facts) → slice_get yard.old.facts.items site ≡ Some f → MayBeRaw blocks volumes room.start f }
+    requires room { room.waiting ≡ [] }
+    requires empty { IsEmptyShowRoom room.shows }
+    ensures rises { (d : Doubted) (name : List ℕ) → site_number d.world name ≡ site → StandsFor d yard.old → site < d.world.sites → (d.world.nodes site).state ≡ BareState → Leads d (Recover name) result yard.old yard.new }
+    ensures failing { OfSite SameFailing site yard.old yard.new }
+    ensures told { IsTold yard.new → IsTold yard.old }
+    ensures files { in_files yard.new ≡ in_files yard.old }
+{
+    let sites = yard.facts.len() as u32;
+    let ring = ring_blocks(blocks);
+    match find_disks(
+        &mut yard.disk_sets[site],
+        room.start,
+        room.waiting,
+        site as u32,
+        sites,
+    ) {
+        SetRose::Up(risen) => {
+            facts::make_raw(&mut yard.facts[site], site as u32, volumes);
+            stand_up(yard, alloc, site, ring, risen, room.shows)
         }
+        SetRose::Unfit => Said::Refused(No::NoConfig),
+        SetRose::Refused(no) => Said::Refused(no),
     }
 }
 
@@ -201,34 +232,7 @@ fn rise_bare<R: Rack>(
         return Ok(Said::Refused(No::NoConfig));
     }
     let volumes = facts::raw_table(alloc, disks - 2, blocks)?;
-    let sites = yard.facts.len() as u32;
-    let disk_set = mem::replace(&mut yard.disk_sets[site], DiskSet::Gone);
-    let (disk_set, came) = disk_set.recover_bare_any(room.start, room.waiting);
-    match came {
-        Ok(()) => match what_rose(&disk_set, site as u32, sites) {
-            Some(risen) => {
-                yard.disk_sets[site] = disk_set;
-                facts::make_raw(&mut yard.facts[site], site as u32, volumes);
-                Ok(stand_up(
-                    yard,
-                    alloc,
-                    site,
-                    ring_blocks(blocks),
-                    risen,
-                    room.links,
-                    room.views,
-                ))
-            }
-            None => {
-                yard.disk_sets[site] = disk_set.withdraw();
-                Ok(Said::Refused(No::NoConfig))
-            }
-        },
-        Err(no) => {
-            yard.disk_sets[site] = disk_set;
-            Ok(Said::Refused(no))
-        }
-    }
+    Ok(rise_found(yard, alloc, site, blocks, volumes, room))
 }
 
 // Whether the disks of a site are refused as a raw set.

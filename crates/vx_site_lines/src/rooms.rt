@@ -10,7 +10,7 @@ ghost use Rattle.vx_srlfmt.specs.Headers.{CanSpellState};
 ghost use Rattle.vx_diskset.specs.Holds.{KeptBeside, state_with};
 ghost use Rattle.vx_diskset.specs.Stands.{IsToldAt, SiteStands};
 ghost use Rattle.vx_events.specs.GroupLines.{is_over_group};
-ghost use Rattle.vx_site_lines.specs.Rises.{AreNeeds, IsEmptyRiseRoom, IsNeed, IsRisen, can_rise, hello_by, is_by_log, is_none as is_none_is, is_quiet as is_quiet_is};
+ghost use Rattle.vx_site_lines.specs.Rises.{AreNeeds, IsEmptyRiseRoom, IsEmptyShowRoom, IsNeed, IsRisen, can_rise, hello_by, is_by_log, is_none as is_none_is, is_quiet as is_quiet_is};
 ghost use Rattle.vx_site_lines.specs.Seen.{links_seen};
 
 use crate::status::link_view;
@@ -150,13 +150,29 @@ pub fn greet(flight: &mut Flight, site: u32, state: &State, session: u64, last: 
     }
 }
 
+/// What a site that comes up needs of memory for its links.
+#[derive(Drop)]
+pub struct ShowRoom {
+    pub links: LinkRoom,
+    pub views: LinkViewRoom,
+}
+
+impl ShowRoom {
+    pub fn new(alloc: Global) -> Result<ShowRoom, OutOfMemory>
+        ensures { IfOk result (λ room. IsEmptyShowRoom room) }
+    {
+        let links = LinkRoom::new(alloc)?;
+        let views = LinkViewRoom::new(alloc)?;
+        Ok(ShowRoom { links, views })
+    }
+}
+
 /// What a recovery needs of memory, taken before the site crashes.
 #[derive(Drop)]
 pub struct RiseRoom {
     pub start: StartRoom,
     pub waiting: Waiting,
-    pub links: LinkRoom,
-    pub views: LinkViewRoom,
+    pub shows: ShowRoom,
 }
 
 impl RiseRoom {
@@ -166,11 +182,13 @@ impl RiseRoom {
         ensures { IfOk result (λ room. IsEmptyRiseRoom blocks room) }
     {
         let maps = LINK_PLACES as u64 * u64::from(MOST_DISKS - 2) * map_blocks(blocks);
+        let start = StartRoom::new(alloc, blocks, maps)?;
+        let waiting = Waiting::new(alloc)?;
+        let shows = ShowRoom::new(alloc)?;
         Ok(RiseRoom {
-            start: StartRoom::new(alloc, blocks, maps)?,
-            waiting: Waiting::new(alloc)?,
-            links: LinkRoom::new(alloc)?,
-            views: LinkViewRoom::new(alloc)?,
+            start,
+            waiting,
+            shows,
         })
     }
 }

@@ -11,6 +11,7 @@ pub mod HeadNeeds
 pub mod MapsHold
 pub mod HoldsGroups
 pub mod HoldsRoom
+pub mod InPlaces
 pub mod IntoRacks
 pub mod Kept
 pub mod Leading

@@ -1,9 +1,13 @@
 // A site that goes down.
-ghost use Rattle.std.specs.Prelude.{◌≡◌, ◌<◌, length};
+ghost use Rattle.std.specs.Prelude.{◌≡◌, ◌<◌, None, length};
 ghost use Rattle.vx_history.specs.Doubts.{Doubted};
+ghost use Rattle.vx_history.specs.World.{Node};
 ghost use Rattle.vx_model.specs.declared.site.SiteState.TheVariants.{Up as UpState};
 ghost use Rattle.vx_yard.specs.OfSites.{OfSite};
-ghost use Rattle.vx_diskset.specs.Asked.{CrashesBy, SameFailing};
+ghost use Rattle.vx_diskset.specs.Asked.{CrashesBy, MayCrash, SameFailing};
+ghost use Rattle.vx_diskset.specs.DiskSets.{CrashedAt, CrashedTo, Later};
+ghost use Rattle.vx_diskset.specs.Holds.{KeptBeside};
+ghost use Rattle.vx_diskset.specs.Stands.{SiteStands};
 ghost use Rattle.vx_yard.specs.Standing.{Falls, StandsFor};
 ghost use Rattle.vx_yard.specs.Yards.{IsTold, in_files};
 
@@ -12,7 +16,19 @@ use crate::{Yard, facts};
 use std::alloc::Global;
 use std::mem;
 use vx_disk::Rack;
-use vx_diskset::DiskSet;
+use vx_diskset::{DiskSet, put_back};
+
+/// Crashes the disks of a site that is up, in their place.
+pub fn crash_in<R: Rack>(place: &mut DiskSet<R>, pick: u64)
+    ensures crashed { (beside : KeptBeside) (n : Node) → SiteStands beside n place.old → n.state ≡ UpState → CrashedAt beside n place.new }
+    ensures durable { (beside : KeptBeside) (n : Node) → SiteStands beside n place.old → n.state ≡ UpState → n.halted ≡ None → CrashedTo beside n n.safe place.new }
+    ensures asked { (beside : KeptBeside) (n : Node) → SiteStands beside n place.old → n.state ≡ UpState → CrashesBy pick place.old place.new }
+    ensures stopped { MayCrash pick place.old place.new }
+    ensures later { Later place.old place.new }
+{
+    let disk_set = mem::replace(place, DiskSet::Gone);
+    put_back(place, disk_set.crash(pick));
+}
 
 /// Crashes the disks of a site that is up, which lets go what it had in assembly.
 pub fn go_down<R: Rack>(yard: &mut Yard<R>, alloc: Global, site: usize, pick: u64)
@@ -27,8 +43,7 @@ pub fn go_down<R: Rack>(yard: &mut Yard<R>, alloc: Global, site: usize, pick: u6
     ensures told { IsTold yard.new → IsTold yard.old }
     ensures files { in_files yard.new ≡ in_files yard.old }
 {
-    let disk_set = mem::replace(&mut yard.disk_sets[site], DiskSet::Gone);
-    yard.disk_sets[site] = disk_set.crash(pick);
+    crash_in(&mut yard.disk_sets[site], pick);
     let_go(&mut yard.assemblies, site);
     facts::go_down(alloc, &mut yard.facts[site]);
 }
