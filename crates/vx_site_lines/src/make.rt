@@ -1,6 +1,13 @@
 // The lines that make a site, and a raw set of its disks.
 ghost use Rattle.std.specs.Prelude.{◌≡◌, ◌≤◌};
+ghost use Rattle.vx_diskset.specs.Asked.{SameFailing};
+ghost use Rattle.vx_diskset.specs.DiskSets.{Later, MadeIs};
+ghost use Rattle.vx_diskset.specs.Holds.{KeptBeside};
+ghost use Rattle.vx_diskset.specs.Layouts.{CanBeRaw};
+ghost use Rattle.vx_diskset.specs.Stands.{SiteStands};
 ghost use Rattle.vx_history.specs.Doubts.{Doubted};
+ghost use Rattle.vx_history.specs.World.{Node};
+ghost use Rattle.vx_model.specs.declared.site.SiteState.TheVariants.{Bare as BareState};
 ghost use Rattle.vx_script.specs.declared.line.ScriptLine.TheVariants.{Site, Raw};
 ghost use Rattle.vx_yard.specs.OfSites.{AsAsked};
 ghost use Rattle.vx_yard.specs.Standing.{LeadsIs, StandsFor};
@@ -10,10 +17,10 @@ ghost use Rattle.vx_yard.specs.Yards.{IsYardKept, IsTold, in_files};
 use std::alloc::Global;
 use std::mem;
 use vx_disk::Rack;
-use vx_diskset::DiskSet;
+use vx_diskset::{DiskSet, put_back};
 use vx_events::Said;
 use vx_model::limits::{LEAST_BLOCKS, LEAST_RAW_DISKS, MOST_DISKS, MOST_SITES};
-use vx_model::{Name, OutOfMemory};
+use vx_model::{Name, OutOfMemory, Stop};
 use vx_yard::folder::folder;
 use vx_yard::refusing::stopped;
 use vx_yard::{Yard, facts};
@@ -58,6 +65,18 @@ pub fn make_site<R: Rack>(
     }
 }
 
+// Makes the disks of a bare site a raw set, in their place.
+fn lay_raw<R: Rack>(place: &mut DiskSet<R>, alloc: Global, site: u32) -> Result<(), Stop>
+    ensures made { (beside : KeptBeside) (n : Node) → SiteStands beside n place.old → n.state ≡ BareState → CanBeRaw n.disks n.blocks → MadeIs site n place.old place.new result }
+    ensures failing { SameFailing place.old place.new }
+    ensures later { Later place.old place.new }
+{
+    let disk_set = mem::replace(place, DiskSet::Gone);
+    let (disk_set, made) = disk_set.make_raw(alloc, site);
+    put_back(place, disk_set);
+    made
+}
+
 /// Makes a bare site a raw set.
 pub fn make_raw<R: Rack>(
     yard: &mut Yard<R>,
@@ -78,9 +97,7 @@ pub fn make_raw<R: Rack>(
         unreachable!();
     }
     let volumes = facts::raw_table(alloc, disks - 2, blocks)?;
-    let disk_set = mem::replace(&mut yard.disk_sets[site], DiskSet::Gone);
-    let (disk_set, made) = disk_set.make_raw(alloc, site as u32);
-    yard.disk_sets[site] = disk_set;
+    let made = lay_raw(&mut yard.disk_sets[site], alloc, site as u32);
     match made {
         Ok(()) => {
             facts::make_raw(&mut yard.facts[site], site as u32, volumes);

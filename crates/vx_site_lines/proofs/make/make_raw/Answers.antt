@@ -6,10 +6,9 @@ use Rattle.vx_order.specs.declared.facts.SiteFacts.{SiteFacts}
 use Rattle.vx_events.specs.Facts.{seat_of, volume_fact}
 use Rattle.vx_yard.specs.Yards.{in_files}
 use Rattle.vx_diskset.specs.Asked.{SameFailing}
-use Rattle.vx_diskset.specs.declared.disk_set.DiskSet.TheVariants.{Gone}
 use Rattle.vx_diskset.proofs.KeepsFailing.{failing_same}
-use Rattle.vx_yard.proofs.Lists.{get_at, set_twice}
-use Rattle.vx_yard.proofs.ChangeSite.{raw_told}
+use Rattle.vx_yard.proofs.Lists.{get_at}
+use Rattle.vx_yard.proofs.ChangeSite.{told_before}
 use Rattle.vx_events.proofs.Refused.{raw_may}
 use Rattle.vx_events.proofs.Places.{some_same}
 use Rattle.vx_yard.proofs.Seats.{named_some}
@@ -44,15 +43,13 @@ pub returns-in-Ok-clause-told : goal.returns-in-Ok-clause-told
 returns-in-Ok-clause-told g c =
     let disk_sets = c.args.yard.now.disk_sets.items in
     let at = get_at disk_sets c.site_of-site.result c.index_mut.result.now c.site_of-site.ensures.disk_set c.index_mut.ensures.value in
-    raw_told disk_sets _ c.site_of-site.result c.replace-disk_set.result c.make_raw-disk_set.result.0 (at ∙ ap (λ e. Some e) (sym c.replace-disk_set.ensures.value)) c.make_raw-disk_set.ensures.later
-    (ap (λ e. slice_set (slice_set disk_sets c.site_of-site.result e) c.site_of-site.result c.make_raw-disk_set.result.0) c.replace-disk_set.ensures.after)
+    told_before disk_sets c.site_of-site.result c.index_mut.result.now c.lay_raw-made.new.place at c.lay_raw-made.ensures.later
 
 pub returns-in-Err-clause-told : goal.returns-in-Err-clause-told
 returns-in-Err-clause-told g c =
     let disk_sets = c.args.yard.now.disk_sets.items in
     let at = get_at disk_sets c.site_of-site.result c.index_mut.result.now c.site_of-site.ensures.disk_set c.index_mut.ensures.value in
-    raw_told disk_sets _ c.site_of-site.result c.replace-disk_set.result c.make_raw-disk_set.result.0 (at ∙ ap (λ e. Some e) (sym c.replace-disk_set.ensures.value)) c.make_raw-disk_set.ensures.later
-    (ap (λ e. slice_set (slice_set disk_sets c.site_of-site.result e) c.site_of-site.result c.make_raw-disk_set.result.0) c.replace-disk_set.ensures.after)
+    told_before disk_sets c.site_of-site.result c.index_mut.result.now c.lay_raw-made.new.place at c.lay_raw-made.ensures.later
 
 pub returns-in-Ok-clause-leads : goal.returns-in-Ok-clause-leads
 returns-in-Ok-clause-leads g c = λ d stands.
@@ -65,17 +62,17 @@ returns-in-Ok-clause-leads g c = λ d stands.
     let two = get_at facts s c.index-2.result.now within c.index-2.ensures in
     let three = get_at facts s c.index_mut-in-Ok.result.now within c.index_mut-in-Ok.ensures.value in
     let at = get_at disk_sets s c.index_mut.result.now c.site_of-site.ensures.disk_set c.index_mut.ensures.value in
-    raw_leads d c.args.yard.now _ c.args.name.now s c.index_mut-in-Ok.result.now c.in_ok-volumes.volumes c.replace-disk_set.result c.make_raw-disk_set.result.0 c.make_raw-disk_set.result.1 c.in-Ok.field-0 stands c.requires.free is three
+    raw_leads d c.args.yard.now _ c.args.name.now s c.index_mut-in-Ok.result.now c.in_ok-volumes.volumes c.index_mut.result.now c.lay_raw-made.new.place c.lay_raw-made.result c.in-Ok.field-0 stands c.requires.free is three
     (c.in_ok-volumes.ensures
     ∙ ap (λ (f : SiteFacts). map volume_fact (raw_volumes 1 (f.disks - 2) c.index-2.result.now.blocks)) (some_same (sym one ∙ three))
     ∙ ap (λ (f : SiteFacts). map volume_fact (raw_volumes 1 (c.index_mut-in-Ok.result.now.disks - 2) f.blocks)) (some_same (sym two ∙ three)))
     (record {
-      there = at ∙ ap (λ e. Some e) (sym c.replace-disk_set.ensures.value);
-      later = c.make_raw-disk_set.ensures.later;
-      disk_sets = ap (λ e. slice_set (slice_set disk_sets s e) s c.make_raw-disk_set.result.0) c.replace-disk_set.ensures.after ∙ set_twice disk_sets s Gone c.make_raw-disk_set.result.0;
+      there = at;
+      later = c.lay_raw-made.ensures.later;
+      disk_sets = refl;
       racks = refl;
     })
-    c.make_raw-disk_set.ensures.failing c.in-Ok.is c.make_raw-disk_set.ensures.made
+    c.lay_raw-made.ensures.failing c.in-Ok.is c.lay_raw-made.ensures.made
     (ap (λ (f : SiteFacts). slice_set facts s f) c.make_raw.ensures)
     (record { flight = refl; assemblies = refl; feeders = refl })
 
@@ -86,15 +83,15 @@ returns-in-Err-clause-leads g c = λ d stands.
     let s = c.site_of-site.result in
     let is : seat_of c.args.yard.now.facts.items c.args.name.now ≡ Some c.site_of-site.result = c.site_of-site.ensures.seat in
     let at = get_at disk_sets s c.index_mut.result.now c.site_of-site.ensures.disk_set c.index_mut.ensures.value in
-    raw_stops c.in-Err.stop c.stopped.result d c.args.yard.now _ c.args.name.now s c.index.result.now c.replace-disk_set.result c.make_raw-disk_set.result.0 c.make_raw-disk_set.result.1 c.stopped.ensures stands c.requires.free is
+    raw_stops c.in-Err.stop c.stopped.result d c.args.yard.now _ c.args.name.now s c.index.result.now c.index_mut.result.now c.lay_raw-made.new.place c.lay_raw-made.result c.stopped.ensures stands c.requires.free is
     (get_at facts s c.index.result.now (c.site_of-site.ensures.fact) c.index.ensures)
     (record {
-      there = at ∙ ap (λ e. Some e) (sym c.replace-disk_set.ensures.value);
-      later = c.make_raw-disk_set.ensures.later;
-      disk_sets = ap (λ e. slice_set (slice_set disk_sets s e) s c.make_raw-disk_set.result.0) c.replace-disk_set.ensures.after ∙ set_twice disk_sets s Gone c.make_raw-disk_set.result.0;
+      there = at;
+      later = c.lay_raw-made.ensures.later;
+      disk_sets = refl;
       racks = refl;
     })
-    c.make_raw-disk_set.ensures.failing c.in-Err.is c.make_raw-disk_set.ensures.made
+    c.lay_raw-made.ensures.failing c.in-Err.is c.lay_raw-made.ensures.made
     refl (record { flight = refl; assemblies = refl; feeders = refl })
 
 pub returns-in_err-volumes-clause-leads : goal.returns-in_err-volumes-clause-leads
@@ -106,20 +103,14 @@ returns-in-Ok-clause-asked g c = λ d stands.
     let disk_sets = c.args.yard.now.disk_sets.items in
     let s = c.site_of-site.result in
     let at = get_at disk_sets s c.index_mut.result.now c.site_of-site.ensures.disk_set c.index_mut.ensures.value in
-    asks_at SameFailing d c.args.yard.now _ c.args.name.now s c.replace-disk_set.result c.make_raw-disk_set.result.0 stands c.site_of-site.ensures.seat
-    (at ∙ ap (λ e. Some e) (sym c.replace-disk_set.ensures.value))
-    (ap (λ e. slice_set (slice_set disk_sets s e) s c.make_raw-disk_set.result.0) c.replace-disk_set.ensures.after ∙ set_twice disk_sets s Gone c.make_raw-disk_set.result.0)
-    c.make_raw-disk_set.ensures.failing
+    asks_at SameFailing d c.args.yard.now _ c.args.name.now s c.index_mut.result.now c.lay_raw-made.new.place stands c.site_of-site.ensures.seat at refl c.lay_raw-made.ensures.failing
 
 pub returns-in-Err-clause-asked : goal.returns-in-Err-clause-asked
 returns-in-Err-clause-asked g c = λ d stands.
     let disk_sets = c.args.yard.now.disk_sets.items in
     let s = c.site_of-site.result in
     let at = get_at disk_sets s c.index_mut.result.now c.site_of-site.ensures.disk_set c.index_mut.ensures.value in
-    asks_at SameFailing d c.args.yard.now _ c.args.name.now s c.replace-disk_set.result c.make_raw-disk_set.result.0 stands c.site_of-site.ensures.seat
-    (at ∙ ap (λ e. Some e) (sym c.replace-disk_set.ensures.value))
-    (ap (λ e. slice_set (slice_set disk_sets s e) s c.make_raw-disk_set.result.0) c.replace-disk_set.ensures.after ∙ set_twice disk_sets s Gone c.make_raw-disk_set.result.0)
-    c.make_raw-disk_set.ensures.failing
+    asks_at SameFailing d c.args.yard.now _ c.args.name.now s c.index_mut.result.now c.lay_raw-made.new.place stands c.site_of-site.ensures.seat at refl c.lay_raw-made.ensures.failing
 
 pub returns-in_err-volumes-clause-asked : goal.returns-in_err-volumes-clause-asked
 returns-in_err-volumes-clause-asked g c = λ d stands.

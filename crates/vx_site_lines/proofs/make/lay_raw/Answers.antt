@@ -1,0 +1,23 @@
+-- `lay_raw`: each clause is that of the call on the disk set that was taken out.
+use Rattle.std.proofs.Common.{◌≡◌}
+use Rattle.vx_history.specs.World.{Node}
+use Rattle.vx_model.specs.declared.site.SiteState.TheVariants.{Bare as IsBare}
+use Rattle.vx_diskset.specs.Asked.{SameFailing}
+use Rattle.vx_diskset.specs.DiskSets.{Later, MadeIs}
+use Rattle.vx_diskset.specs.Holds.{KeptBeside}
+use Rattle.vx_diskset.specs.Layouts.{CanBeRaw}
+use Rattle.vx_diskset.specs.Stands.{SiteStands}
+use Rattle.vx_yard.proofs.InPlaces.{in_place}
+use Rattle.vx_site_lines.proofs.make.lay_raw.Goals as goal
+
+pub returns-clause-made : goal.returns-clause-made
+returns-clause-made g c =
+    in_place (λ o e. (beside : KeptBeside) (n : Node) → SiteStands beside n o → n.state ≡ IsBare → CanBeRaw n.disks n.blocks → MadeIs c.args.site n o e c.make_raw-disk_set.result.1) c.args.place.now c.replace-disk_set.result c.make_raw-disk_set.result.0 c.put_back.new.place c.replace-disk_set.ensures.value c.put_back.ensures c.make_raw-disk_set.ensures.made
+
+pub returns-clause-failing : goal.returns-clause-failing
+returns-clause-failing g c =
+    in_place (λ o e. SameFailing o e) c.args.place.now c.replace-disk_set.result c.make_raw-disk_set.result.0 c.put_back.new.place c.replace-disk_set.ensures.value c.put_back.ensures c.make_raw-disk_set.ensures.failing
+
+pub returns-clause-later : goal.returns-clause-later
+returns-clause-later g c =
+    in_place (λ o e. Later o e) c.args.place.now c.replace-disk_set.result c.make_raw-disk_set.result.0 c.put_back.new.place c.replace-disk_set.ensures.value c.put_back.ensures c.make_raw-disk_set.ensures.later
