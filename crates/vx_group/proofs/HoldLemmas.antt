@@ -89,6 +89,13 @@ module _ (c : Config) (v p : ℕ) (sound : is_sound c ≡ true) (is_on : IsTrue 
 pub wide_none : (core : GroupCore) → core.held ≡ None → wide core ≡ core.inner
 wide_none core none = ap (λ (o : Option Held). with_config (config_by o core.inner.config) core.inner) none
 
+-- the group that holds no plex back is the same as its parts say
+abbrev core_of : Inner → Option Held → GroupCore
+core_of i held = record { inner = i; held = held }
+
+pub opened_same : (c d : GroupCore) → c.held ≡ None → d.inner ≡ wide c → d.held ≡ None → d ≡ c
+opened_same c d none inner held = ap (λ (i : Inner). core_of i d.held) (inner ∙ wide_none c none) ∙ ap (λ (o : Option Held). core_of c.inner o) (held ∙ sym none)
+
 pub none_wide : (i : Inner) → wide (record { inner = i; held = None }) ≡ i
 none_wide i = refl
 
@@ -310,6 +317,11 @@ module _ (v p : ℕ) (c d : GroupCore) (other : HasOther c.inner.config v p) (ba
       by : HeldBack v p c d → d ≡ c
       by (inl same) = same.0
       by (inr it) = absurd (let no_one : false ≡ true = sym off ∙ it.1 in cc)
+
+-- one that is off already is not held back
+pub back_free : (v p : ℕ) (c d : GroupCore) → c.held ≡ None → active c.inner.config v p ≡ false → HeldBack v p c d → d.held ≡ None
+back_free v p c d none off (inl same) = ap (λ (k : GroupCore). k.held) same.0 ∙ none
+back_free v p c d none off (inr it) = absurd (let no_one : false ≡ true = sym off ∙ it.1 in cc)
 
 -- ---- the set of one plex
 

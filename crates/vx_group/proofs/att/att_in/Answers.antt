@@ -1,5 +1,7 @@
--- `att_in`: clauses attaches, ends, stands, regains, held and count; what `attach_held` asks.
-use Rattle.std.proofs.Common.{length, refl, ap, sym, ◌∙◌, arith}
+-- `att_in`: its clauses; what `attach_held` asks.
+use Rattle.std.proofs.Common.{◌≡◌, ℕ, true, false, None, Some, Err, length, refl, ap, sym, subst, ◌∙◌, arith}
+use Rattle.vx_disk.specs.Causes.{DeviceCause}
+use Rattle.vx_model.specs.declared.no.No.{No}
 use Rattle.std.specs.Option.{option_copied}
 use Rattle.vx_kept.proofs.StateLemmas.{same_shape}
 use Rattle.vx_group.proofs.HoldLemmas.{back_Stands, back_gone, back_others, back_parts, back_shape, back_wide, from_none, none_Stands, wide_none}
@@ -9,7 +11,10 @@ use Rattle.vx_group.proofs.OpeningLemmas.{later_may, may_less, may_room, may_vol
 use Rattle.vx_group.proofs.Standing.{some_active, sound_of}
 use Rattle.vx_group.proofs.ThroughLemmas.{held_other, holds_first, released_active, released_attaches, through_attaches, through_regains}
 use Rattle.vx_group.proofs.FoundThrough.{ahead_finds}
+use Rattle.vx_group.proofs.CallLemmas.{blames_later}
+use Rattle.vx_group.proofs.FinishLemmas.{blamed_cause}
 use Rattle.vx_group.proofs.FindingLemmas.{none_finds}
+use Rattle.vx_group.proofs.RegainLemmas.{same_narrows}
 use Rattle.vx_group.proofs.att.att_in.Goals as goal
 use Rattle.vx_group.proofs.TrustStillLemmas.{back_logs, same_logs, then_logs}
 use Rattle.vx_group.proofs.LoseLemmas.{none_parts}
@@ -132,3 +137,188 @@ returns-in-Ok-attach_held-clause-logs g c = then_logs c.args.core.now.inner.conf
 pub returns-in-Err-attach_held-clause-logs : goal.returns-in-Err-attach_held-clause-logs
 returns-in-Err-attach_held-clause-logs g c =
     then_logs c.args.core.now.inner.config c.attach_held.new.core.config c.hold_back.new.core.inner.config (then_logs c.args.core.now.inner.config c.release.new.core.inner.config c.attach_held.new.core.config c.release.ensures.logs c.attach_held.ensures.logs) (back_logs c.args.vol c.args.plex (record { inner = c.attach_held.new.core; held = c.release.new.core.held }) c.hold_back.new.core c.hold_back.ensures)
+
+pub returns-in-Some-clause-refused : goal.returns-in-Some-clause-refused
+returns-in-Some-clause-refused g c = λ reason is. (let same : Some c.in-Some.no ≡ Some reason = sym c.in-Some.is ∙ c.refuse.ensures ∙ is in cc, refl, refl)
+
+pub returns-then-is_active-clause-refused : goal.returns-then-is_active-clause-refused
+returns-then-is_active-clause-refused g c = λ reason is. absurd (let clash : None ≡ Some reason = sym (sym c.refuse.ensures ∙ c.in_default.is) ∙ is in cc)
+
+pub returns-then-is_down-clause-refused : goal.returns-then-is_down-clause-refused
+returns-then-is_down-clause-refused g c = λ reason is. absurd (let clash : None ≡ Some reason = sym (sym c.refuse.ensures ∙ c.in_default.is) ∙ is in cc)
+
+pub returns-in-Err-clause-refused : goal.returns-in-Err-clause-refused
+returns-in-Err-clause-refused g c = λ reason is. absurd (let clash : None ≡ Some reason = sym (sym c.refuse.ensures ∙ c.in_default.is) ∙ is in cc)
+
+pub returns-in-Ok-attach_held-clause-refused : goal.returns-in-Ok-attach_held-clause-refused
+returns-in-Ok-attach_held-clause-refused g c = λ reason is. absurd (let clash : None ≡ Some reason = sym (sym c.refuse.ensures ∙ c.in_default.is) ∙ is in cc)
+
+pub returns-in-Err-attach_held-clause-refused : goal.returns-in-Err-attach_held-clause-refused
+returns-in-Err-attach_held-clause-refused g c = λ reason is. absurd (let clash : None ≡ Some reason = sym (sym c.refuse.ensures ∙ c.in_default.is) ∙ is in cc)
+
+pub returns-in-Some-clause-already : goal.returns-in-Some-clause-already
+returns-in-Some-clause-already g c = λ none on. absurd (let clash : None ≡ Some c.in-Some.no = sym none ∙ sym c.refuse.ensures ∙ c.in-Some.is in cc)
+
+pub returns-then-is_active-clause-already : goal.returns-then-is_active-clause-already
+returns-then-is_active-clause-already g c = λ none on. (refl, refl, refl)
+
+pub returns-then-is_down-clause-already : goal.returns-then-is_down-clause-already
+returns-then-is_down-clause-already g c = λ none on. absurd (let clash : false ≡ true = sym c.if-is_active.false ∙ c.is_active.ensures ∙ on in cc)
+
+pub returns-in-Err-clause-already : goal.returns-in-Err-clause-already
+returns-in-Err-clause-already g c = λ none on. absurd (let clash : false ≡ true = sym c.if-is_active.false ∙ c.is_active.ensures ∙ on in cc)
+
+pub returns-in-Ok-attach_held-clause-already : goal.returns-in-Ok-attach_held-clause-already
+returns-in-Ok-attach_held-clause-already g c = λ none on. absurd (let clash : false ≡ true = sym c.if-is_active.false ∙ c.is_active.ensures ∙ on in cc)
+
+pub returns-in-Err-attach_held-clause-already : goal.returns-in-Err-attach_held-clause-already
+returns-in-Err-attach_held-clause-already g c = λ none on. absurd (let clash : false ≡ true = sym c.if-is_active.false ∙ c.is_active.ensures ∙ on in cc)
+
+pub returns-in-Some-clause-count : goal.returns-in-Some-clause-count
+returns-in-Some-clause-count g c = λ off. tt
+
+pub returns-then-is_down-clause-count : goal.returns-then-is_down-clause-count
+returns-then-is_down-clause-count g c = λ off. tt
+
+pub returns-in-Err-clause-count : goal.returns-in-Err-clause-count
+returns-in-Err-clause-count g c = λ off. tt
+
+pub returns-in-Err-attach_held-clause-count : goal.returns-in-Err-attach_held-clause-count
+returns-in-Err-attach_held-clause-count g c = λ off. tt
+
+pub returns-then-is_active-clause-count : goal.returns-then-is_active-clause-count
+returns-then-is_active-clause-count g c = λ off. absurd (let clash : false ≡ true = sym off ∙ sym c.is_active.ensures ∙ c.if-is_active.true in cc)
+
+pub returns-in-Some-clause-held : goal.returns-in-Some-clause-held
+returns-in-Some-clause-held g c = λ off. tt
+
+pub returns-then-is_down-clause-held : goal.returns-then-is_down-clause-held
+returns-then-is_down-clause-held g c = λ off. tt
+
+pub returns-in-Err-clause-held : goal.returns-in-Err-clause-held
+returns-in-Err-clause-held g c = λ off. tt
+
+pub returns-in-Err-attach_held-clause-held : goal.returns-in-Err-attach_held-clause-held
+returns-in-Err-attach_held-clause-held g c = λ off. tt
+
+pub returns-then-is_active-clause-held : goal.returns-then-is_active-clause-held
+returns-then-is_active-clause-held g c = λ off. absurd (let clash : false ≡ true = sym off ∙ sym c.is_active.ensures ∙ c.if-is_active.true in cc)
+
+pub returns-in-Some-clause-alone : goal.returns-in-Some-clause-alone
+returns-in-Some-clause-alone g c = λ off. tt
+
+pub returns-then-is_down-clause-alone : goal.returns-then-is_down-clause-alone
+returns-then-is_down-clause-alone g c = λ off. tt
+
+pub returns-in-Err-clause-alone : goal.returns-in-Err-clause-alone
+returns-in-Err-clause-alone g c = λ off. tt
+
+pub returns-in-Err-attach_held-clause-alone : goal.returns-in-Err-attach_held-clause-alone
+returns-in-Err-attach_held-clause-alone g c = λ off. tt
+
+pub returns-then-is_active-clause-alone : goal.returns-then-is_active-clause-alone
+returns-then-is_active-clause-alone g c = λ off. absurd (let clash : false ≡ true = sym off ∙ sym c.is_active.ensures ∙ c.if-is_active.true in cc)
+
+pub returns-in-Some-clause-trust : goal.returns-in-Some-clause-trust
+returns-in-Some-clause-trust g c = tt
+
+pub returns-in-Some-clause-free : goal.returns-in-Some-clause-free
+returns-in-Some-clause-free g c = tt
+
+pub returns-then-is_down-clause-trust : goal.returns-then-is_down-clause-trust
+returns-then-is_down-clause-trust g c = tt
+
+pub returns-then-is_down-clause-free : goal.returns-then-is_down-clause-free
+returns-then-is_down-clause-free g c = tt
+
+pub returns-in-Err-clause-trust : goal.returns-in-Err-clause-trust
+returns-in-Err-clause-trust g c = tt
+
+pub returns-in-Err-clause-free : goal.returns-in-Err-clause-free
+returns-in-Err-clause-free g c = tt
+
+pub returns-in-Err-attach_held-clause-trust : goal.returns-in-Err-attach_held-clause-trust
+returns-in-Err-attach_held-clause-trust g c = tt
+
+pub returns-in-Err-attach_held-clause-free : goal.returns-in-Err-attach_held-clause-free
+returns-in-Err-attach_held-clause-free g c = tt
+
+pub returns-then-is_active-clause-trust : goal.returns-then-is_active-clause-trust
+returns-then-is_active-clause-trust g c = λ is. is
+
+pub returns-then-is_active-clause-free : goal.returns-then-is_active-clause-free
+returns-then-is_active-clause-free g c = λ none. none
+
+pub returns-in-Ok-attach_held-clause-trust : goal.returns-in-Ok-attach_held-clause-trust
+returns-in-Ok-attach_held-clause-trust g c = λ is. c.in-Ok-attach_held.ensures.trust (c.in-Ok.ensures.trust is)
+
+pub returns-in-Some-clause-stands : goal.returns-in-Some-clause-stands
+returns-in-Some-clause-stands g c = c.requires.stands
+
+pub returns-in-Some-clause-attaches : goal.returns-in-Some-clause-attaches
+returns-in-Some-clause-attaches g c =
+    released_attaches c.args.vol c.args.plex (option_copied c.args.fmr) c.args.core.now c.args.core.now (g.S.Shelf.meaning c.args.shelf.now) (g.S.Shelf.meaning c.args.shelf.now) c.requires.stands (same_narrows (wide c.args.core.now) (wide c.args.core.now) (g.S.Shelf.meaning c.args.shelf.now) refl refl refl) refl (g.met.S.Shelf.lawful c.args.shelf.now)
+    (none_parts c.args.core.now.inner.config)
+
+pub returns-in-Some-clause-regains : goal.returns-in-Some-clause-regains
+returns-in-Some-clause-regains g c = record { blamed = λ u was now. absurd (let clash : false ≡ true = sym was ∙ now in cc); others = λ u was off. was }
+
+pub returns-then-is_active-clause-stands : goal.returns-then-is_active-clause-stands
+returns-then-is_active-clause-stands g c = c.requires.stands
+
+pub returns-then-is_active-clause-attaches : goal.returns-then-is_active-clause-attaches
+returns-then-is_active-clause-attaches g c =
+    released_attaches c.args.vol c.args.plex (option_copied c.args.fmr) c.args.core.now c.args.core.now (g.S.Shelf.meaning c.args.shelf.now) (g.S.Shelf.meaning c.args.shelf.now) c.requires.stands (same_narrows (wide c.args.core.now) (wide c.args.core.now) (g.S.Shelf.meaning c.args.shelf.now) refl refl refl) refl (g.met.S.Shelf.lawful c.args.shelf.now)
+    (none_parts c.args.core.now.inner.config)
+
+pub returns-then-is_active-clause-regains : goal.returns-then-is_active-clause-regains
+returns-then-is_active-clause-regains g c = record { blamed = λ u was now. absurd (let clash : false ≡ true = sym was ∙ now in cc); others = λ u was off. was }
+
+pub returns-then-is_down-clause-stands : goal.returns-then-is_down-clause-stands
+returns-then-is_down-clause-stands g c = c.requires.stands
+
+pub returns-then-is_down-clause-attaches : goal.returns-then-is_down-clause-attaches
+returns-then-is_down-clause-attaches g c =
+    released_attaches c.args.vol c.args.plex (option_copied c.args.fmr) c.args.core.now c.args.core.now (g.S.Shelf.meaning c.args.shelf.now) (g.S.Shelf.meaning c.args.shelf.now) c.requires.stands (same_narrows (wide c.args.core.now) (wide c.args.core.now) (g.S.Shelf.meaning c.args.shelf.now) refl refl refl) refl (g.met.S.Shelf.lawful c.args.shelf.now)
+    (none_parts c.args.core.now.inner.config)
+
+pub returns-then-is_down-clause-regains : goal.returns-then-is_down-clause-regains
+returns-then-is_down-clause-regains g c = record { blamed = λ u was now. absurd (let clash : false ≡ true = sym was ∙ now in cc); others = λ u was off. was }
+
+pub returns-in-Err-clause-stands : goal.returns-in-Err-clause-stands
+returns-in-Err-clause-stands g c = c.release.ensures.stands
+
+pub returns-in-Err-clause-regains : goal.returns-in-Err-clause-regains
+returns-in-Err-clause-regains g c = record { blamed = c.release.ensures.failing.blamed; others = λ u was off. c.release.ensures.failing.stays u was }
+
+pub returns-in-Some-clause-ends : goal.returns-in-Some-clause-ends
+returns-in-Some-clause-ends g c = λ off. off
+
+pub returns-then-is_down-clause-ends : goal.returns-then-is_down-clause-ends
+returns-then-is_down-clause-ends g c = λ off. off
+
+pub returns-then-is_active-clause-ends : goal.returns-then-is_active-clause-ends
+returns-then-is_active-clause-ends g c = λ off. absurd (let clash : false ≡ true = sym off ∙ sym c.is_active.ensures ∙ c.if-is_active.true in cc)
+
+pub returns-in-Some-clause-cause : goal.returns-in-Some-clause-cause
+returns-in-Some-clause-cause g c = λ none. absurd (let clash : None ≡ Some c.in-Some.no = sym none ∙ sym c.refuse.ensures ∙ c.in-Some.is in cc)
+
+pub returns-then-is_active-clause-cause : goal.returns-then-is_active-clause-cause
+returns-then-is_active-clause-cause g c = λ none. tt
+
+pub returns-in-Ok-attach_held-clause-cause : goal.returns-in-Ok-attach_held-clause-cause
+returns-in-Ok-attach_held-clause-cause g c = λ none. tt
+
+pub returns-then-is_down-clause-cause : goal.returns-then-is_down-clause-cause
+returns-then-is_down-clause-cause g c = λ none. sym c.is_down.ensures ∙ c.if-is_down.true
+
+pub returns-in-Err-clause-cause : goal.returns-in-Err-clause-cause
+returns-in-Err-clause-cause g c = λ none. subst (λ (why : No). DeviceCause (g.S.Shelf.meaning c.args.shelf.now) (g.S.Shelf.meaning c.release.new.shelf) why) (sym c.refusal.ensures) (blamed_cause (Unit {0}) (g.S.Shelf.meaning c.args.shelf.now) (g.S.Shelf.meaning c.release.new.shelf) c.in-Err.error c.in-Err.ensures.cause)
+
+pub returns-in-Err-attach_held-clause-cause : goal.returns-in-Err-attach_held-clause-cause
+returns-in-Err-attach_held-clause-cause g c = λ none.
+    subst (λ (why : No). DeviceCause (g.S.Shelf.meaning c.args.shelf.now) (g.S.Shelf.meaning c.attach_held.new.shelf) why) (sym c.refusal-in-Err-attach_held.ensures)
+    (blamed_cause ℕ (g.S.Shelf.meaning c.args.shelf.now) (g.S.Shelf.meaning c.attach_held.new.shelf) c.in-Err-attach_held.error (blames_later {T = ℕ} (Err c.in-Err-attach_held.error) (g.S.Shelf.meaning c.args.shelf.now) (g.S.Shelf.meaning c.release.new.shelf) (g.S.Shelf.meaning c.attach_held.new.shelf) c.release.ensures.narrows.acts.disk_faults c.in-Err-attach_held.ensures.cause))
+
+pub returns-in-Ok-attach_held-clause-ends : goal.returns-in-Ok-attach_held-clause-ends
+returns-in-Ok-attach_held-clause-ends g c = λ off. c.in-Ok-attach_held.ensures.ends
