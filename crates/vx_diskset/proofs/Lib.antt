@@ -16,6 +16,7 @@ pub mod GroupFinding
 pub mod GroupRising
 pub mod GroupStands
 pub mod HeadCalls
+pub mod InPlaces
 pub mod KeepGroup
 pub mod KeepsFailing
 pub mod LabelLemmas

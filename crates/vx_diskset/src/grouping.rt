@@ -23,7 +23,7 @@ use std::alloc::Global;
 use std::mem;
 use vx_config::Config;
 use vx_disk::Rack;
-use vx_grouped::is_off;
+use vx_grouped::{GroupSite, is_off};
 use vx_layout::Shape;
 use vx_model::limits::BLOCK;
 use vx_model::{Blocks, Name, No, Stop};
@@ -60,6 +60,18 @@ fn write_set<R: Rack>(
     }
 }
 
+// Deports a group where it is kept.
+fn deport_site<R: Rack>(site: &mut GroupSite<R>) -> Result<(), Stop>
+    ensures deported { (n : Node) (note : GroupNode) → UpNoted n note site.old → SiteDeported n note site.old site.new result }
+    ensures maps { (n : Node) (note : GroupNode) → UpNoted n note site.old → DeportMapped site.old site.new result }
+    ensures since { CalledSince (site_disks site.old) (site_disks site.new) }
+    ensures told { TellsLess (site_below site.old) (site_below site.new) }
+{
+    let (left, answer) = mem::replace(site, GroupSite::Gone).deport();
+    *site = left;
+    answer
+}
+
 impl<R: Rack> DiskSet<R> {
     /// The configuration of the group of a site that is up.
     pub fn config(&self) -> Option<&Config>
@@ -81,19 +93,9 @@ impl<R: Rack> DiskSet<R> {
         ensures later { Later self.old self.new }
         ensures since { CalledOn self.old self.new }
     {
-        match mem::replace(self, DiskSet::Gone) {
-            DiskSet::OfGroup(group) => {
-                let (site, answer) = group.site.deport();
-                *self = DiskSet::OfGroup(GroupSet {
-                    site,
-                    cut: group.cut,
-                });
-                answer
-            }
-            other => {
-                *self = other;
-                Err(Stop::No(No::Role))
-            }
+        match self {
+            DiskSet::OfGroup(group) => deport_site(&mut group.site),
+            _ => Err(Stop::No(No::Role)),
         }
     }
 

@@ -20,7 +20,7 @@ ghost use Rattle.vx_diskset.specs.Needs.{HasRoom, NoneNeeds};
 ghost use Rattle.vx_diskset.specs.Rooms.{AppliedAs, IsMore, NeverLimit, RoomIs, TakesOne, logged_count};
 ghost use Rattle.vx_diskset.specs.Stands.{IsUpAt, KeepsRole, StandsAlone, SiteStands};
 
-use crate::DiskSet;
+use crate::{DiskSet, put_back};
 use std::mem;
 use vx_disk::Rack;
 use vx_grouped::is_off;
@@ -153,7 +153,7 @@ impl<R: Rack> DiskSet<R> {
         ensures later { Later self.old self.new }
     {
         let disk_set = mem::replace(self, DiskSet::Gone);
-        *self = disk_set.crash(u64::MAX);
+        put_back(self, disk_set.crash(u64::MAX));
     }
 
     /// Writes whole blocks to a data volume of a site without links. What the log holds may be given up for it.

@@ -11,7 +11,6 @@ pub mod HeadNeeds
 pub mod MapsHold
 pub mod HoldsGroups
 pub mod HoldsRoom
-pub mod InPlaces
 pub mod IntoRacks
 pub mod Kept
 pub mod Leading

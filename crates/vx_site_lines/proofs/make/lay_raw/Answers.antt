@@ -7,7 +7,7 @@ use Rattle.vx_diskset.specs.DiskSets.{Later, MadeIs}
 use Rattle.vx_diskset.specs.Holds.{KeptBeside}
 use Rattle.vx_diskset.specs.Layouts.{CanBeRaw}
 use Rattle.vx_diskset.specs.Stands.{SiteStands}
-use Rattle.vx_yard.proofs.InPlaces.{in_place}
+use Rattle.vx_diskset.proofs.InPlaces.{in_place}
 use Rattle.vx_site_lines.proofs.make.lay_raw.Goals as goal
 
 pub returns-clause-made : goal.returns-clause-made

@@ -1,7 +1,7 @@
 -- `take_back`: each clause is that of the call on the disk set that was taken out.
 use Rattle.vx_diskset.specs.Asked.{SameFailing}
 use Rattle.vx_diskset.specs.DiskSets.{Later}
-use Rattle.vx_yard.proofs.InPlaces.{in_place}
+use Rattle.vx_diskset.proofs.InPlaces.{in_place}
 use Rattle.vx_site_lines.specs.Raised.{GoesBare}
 use Rattle.vx_site_lines.proofs.raised.take_back.Goals as goal
 

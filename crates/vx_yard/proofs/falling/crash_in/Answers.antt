@@ -7,7 +7,7 @@ use Rattle.vx_diskset.specs.Asked.{CrashesBy, MayCrash}
 use Rattle.vx_diskset.specs.DiskSets.{CrashedAt, CrashedTo, Later}
 use Rattle.vx_diskset.specs.Holds.{KeptBeside}
 use Rattle.vx_diskset.specs.Stands.{SiteStands}
-use Rattle.vx_yard.proofs.InPlaces.{in_place}
+use Rattle.vx_diskset.proofs.InPlaces.{in_place}
 use Rattle.vx_yard.proofs.falling.crash_in.Goals as goal
 
 pub returns-clause-crashed : goal.returns-clause-crashed
