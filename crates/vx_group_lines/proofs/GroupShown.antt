@@ -25,6 +25,7 @@ use Rattle.vx_diskset.specs.declared.disk_set.DiskSet.{DiskSet}
 use Rattle.vx_diskset.specs.declared.disk_set.DiskSet.TheVariants.{Bare, Spoiled, Up as RaisedSet, Receives, Down as DownSet, OfGroup, Gone as GoneSet}
 use Rattle.vx_order.specs.declared.facts.SiteFacts.{SiteFacts}
 use Rattle.vx_script.specs.declared.line.ScriptLine.TheVariants.{Status}
+use Rattle.vx_report.specs.declared.view.LinkView.{LinkView}
 use Rattle.vx_report.specs.declared.view.SiteView.{SiteView}
 use Rattle.vx_report.specs.declared.view.VolumeView.{VolumeView}
 use Rattle.vx_events.proofs.Places.{some_same}
@@ -40,7 +41,7 @@ use Rattle.vx_yard.specs.Standing.{LeadsOver, StandsFor}
 use Rattle.vx_yard.specs.Yards.{count_of}
 use Rattle.vx_yard.specs.declared.yard.Yard.{Yard}
 use Rattle.vx_group_lines.specs.Noting.{HasConfig, HasNoConfig}
-use Rattle.vx_group_lines.specs.Views.{FitsViews, view_with}
+use Rattle.vx_group_lines.specs.Views.{FitsViews, IsSmall, view_with}
 use Rattle.vx_group_lines.proofs.GroupAt.{GroupAt, group_at, up_noted}
 use Rattle.vx_group_lines.proofs.GroupLeads.{leads_by}
 use Rattle.vx_group_lines.proofs.GroupMarks.{group_noted_at, noting_same}
@@ -73,6 +74,19 @@ view_noted n note c is up =
     ap (λ (o : Option Config). view_of n n.state (config_disks o) (map volume_view (volumes_of o))) (sym is)
     ∙ ap (λ (t : SiteState). view_of n n.state (shown_up t (noted_disks note)) (shown_up t (noted_volumes note))) (sym up)
 
+abbrev view_parts : List ℕ → SiteState → List Bool → List VolumeView → List LinkView → SiteView
+view_parts name state disks volumes links = record { name = name; state = state; disks = disks; volumes = volumes; rvg = None; links = links }
+
+-- a view that is put together
+pub parts_view : (f a b : SiteFacts) (o p : Option Config) (disks : List Bool) (volumes : List VolumeView) (links : List LinkView) → a ≡ f → b ≡ f → o ≡ p → disks ≡ config_disks o → volumes ≡ map volume_view (volumes_of o) → links ≡ []
+    → view_parts a.name b.state disks volumes links ≡ view_with f p
+parts_view f a b o p disks volumes links first second same disks_are volumes_are none =
+    ap (λ (k : SiteFacts). view_parts k.name b.state disks volumes links) first
+    ∙ ap (λ (k : SiteFacts). view_parts f.name k.state disks volumes links) second
+    ∙ ap (λ (xs : List Bool). view_parts f.name f.state xs volumes links) (disks_are ∙ ap (λ (x : Option Config). config_disks x) same)
+    ∙ ap (λ (xs : List VolumeView). view_parts f.name f.state (config_disks p) xs links) (volumes_are ∙ ap (λ (x : Option Config). map volume_view (volumes_of x)) same)
+    ∙ ap (λ (xs : List LinkView). view_parts f.name f.state (config_disks p) (map volume_view (volumes_of p)) xs) none
+
 module _ {R : Type 0} {g : Ghosts R} where
   small_site : (s : GroupSite R g) (c : Config) → site_config s ≡ Some c → FitsViews c
   small_site (Up laid) c is = subst (λ (x : Config). FitsViews x) (some_same is) (fits_views laid.core (shade_meaning g.meaning laid.shelf) laid.stands.group)
@@ -99,6 +113,11 @@ module _ {R : Type 0} {g : Ghosts R} where
   config_at (DownSet rack) o is = absurd is
   config_at (OfGroup s) o is = is
   config_at GoneSet o is = absurd is
+
+  -- it fits what a status shows
+  pub small_in : (e : DiskSet R g) (o : Option Config) → o ≡ config_in e → IsSmall o
+  small_in e None is = tt
+  small_in e (Some c) is = small_set e c (sym is)
 
   -- one that is up has the configuration that is noted
   pub view_up : (n : Node) (note : GroupNode) (s : GroupSite R g) (c : Config) → UpNoted n note s → site_config s ≡ Some c → view_with (fact_of_group n note) (Some c) ≡ grouped_view n note
