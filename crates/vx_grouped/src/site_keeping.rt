@@ -50,7 +50,26 @@ fn kept_from<B: Begun, R: Rack>(
     (LoggedGroup::together(rack, rest), answer)
 }
 
-// The same over the disks of a site, of which contents are told or not.
+// The same over disks of which contents are told or not.
+fn kept_shaded<R: Rack>(
+    group: LoggedGroup<Shade<R>>,
+    vol: u32,
+    block: u64,
+    bytes: &[u8],
+) -> (
+    LoggedGroup<Shade<R>>,
+    Result<[bool; MOST_CALL_BLOCKS as usize], No>,
+)
+    requires fits { Fits (inner_meaning (wide group.core) (shade_meaning (λ s. R.meaning s) group.shelf)) vol block (length bytes.now) }
+    requires few { length bytes.now ≤ MOST_CALL_BYTES }
+    ensures works { PlainKeeps vol block bytes.now group.core (shade_meaning (λ s. R.meaning s) group.shelf) result.0.core (shade_meaning (λ s. R.meaning s) result.0.shelf) result.1 }
+    ensures maps { map_parts result.0.core.inner.config result.0.logs.items result.0.alike result.0.stopped ≡ map_parts group.core.inner.config group.logs.items group.alike group.stopped }
+    ensures since { CalledSince (shade_meaning (λ s. R.meaning s) group.shelf) (shade_meaning (λ s. R.meaning s) result.0.shelf) }
+{
+    kept_from::<Brand, Shade<R>>(group, vol, block, bytes)
+}
+
+// The same over the disks of a site, with an account of what the rack inside tells.
 fn kept_traced<C: Begun, R: Rack>(
     laid: Laid<R>,
     vol: u32,
@@ -65,12 +84,7 @@ fn kept_traced<C: Begun, R: Rack>(
     ensures since { CalledSince (shade_meaning (λ s. R.meaning s) laid.shelf) (shade_meaning (λ s. R.meaning s) result.0.shelf) }
     ensures told { TellsLess C.first (R.meaning (rack_of result.0.shelf)) }
 {
-    let (group, answer) = kept_from::<Brand, Shade<Traced<R, C>>>(
-        trace::<C, R>(laid),
-        vol,
-        block,
-        bytes,
-    );
+    let (group, answer) = kept_shaded::<Traced<R, C>>(trace::<C, R>(laid), vol, block, bytes);
     (untrace(group), answer)
 }
 

@@ -54,7 +54,24 @@ fn deport_from<B: Begun, R: Rack>(
     }
 }
 
-// The same over the disks of a site, of which contents are told or not.
+// The same over disks of which contents are told or not.
+fn deport_shaded<R: Rack>(
+    group: LoggedGroup<Shade<R>>,
+) -> Result<(Shade<R>, Option<Rested>), (LoggedGroup<Shade<R>>, Stop)>
+    requires up { IsTrue (shade_meaning (λ s. R.meaning s) group.shelf).down → ⊥ }
+    ensures leaves { (n : Node) (note : GroupNode) → IsGroupAt n note group.core (shade_meaning (λ s. R.meaning s) group.shelf) → DeportLeaves n note group.core (λ s. shade_meaning (λ s. R.meaning s) s.0) (λ g. g.core) (λ g. shade_meaning (λ s. R.meaning s) g.shelf) result }
+    ensures up { IfOk result (λ s. IsTrue (shade_meaning (λ s. R.meaning s) s.0).down → ⊥) }
+    ensures can { DeportCan group.core (λ s. shade_meaning (λ s. R.meaning s) s.0) result }
+    ensures tells { DeportTells (λ s. shade_meaning (λ s. R.meaning s) s) result }
+    ensures maps { LeavesMaps (map_parts group.core.inner.config group.logs.items group.alike group.stopped) (shade_meaning (λ s. R.meaning s) group.shelf) (λ s. shade_meaning (λ s. R.meaning s) s) (λ g. map_parts g.core.inner.config g.logs.items g.alike g.stopped) (λ g. shade_meaning (λ s. R.meaning s) g.shelf) result }
+    ensures moves { DeportMoves group.core (shade_meaning (λ s. R.meaning s) group.shelf) (λ s. shade_meaning (λ s. R.meaning s) s.0) (λ g. g.core) (λ g. shade_meaning (λ s. R.meaning s) g.shelf) result }
+    ensures refusals { DeportRefuses group.core (shade_meaning (λ s. R.meaning s) group.shelf) (λ g. shade_meaning (λ s. R.meaning s) g.shelf) result }
+    ensures since { DeportSince (shade_meaning (λ s. R.meaning s) group.shelf) (λ s. shade_meaning (λ s. R.meaning s) s.0) (λ g. shade_meaning (λ s. R.meaning s) g.shelf) result }
+{
+    deport_from::<Brand, Shade<R>>(group)
+}
+
+// The same over the disks of a site, with an account of what the rack inside tells.
 fn deport_traced<C: Begun, R: Rack>(
     laid: Laid<R>,
 ) -> Result<(Shade<R>, Option<Rested>), (Laid<R>, Stop)>
@@ -70,7 +87,7 @@ fn deport_traced<C: Begun, R: Rack>(
     ensures since { DeportSince (shade_meaning (λ s. R.meaning s) laid.shelf) (λ s. shade_meaning (λ s. R.meaning s) s.0) (λ g. shade_meaning (λ s. R.meaning s) g.shelf) result }
     ensures told { DeportShows C.first (λ s. R.meaning (rack_of s.0)) (λ g. R.meaning (rack_of g.shelf)) result }
 {
-    match deport_from::<Brand, Shade<Traced<R, C>>>(trace::<C, R>(laid)) {
+    match deport_shaded::<Traced<R, C>>(trace::<C, R>(laid)) {
         Ok((rack, rested)) => Ok((untraced(rack), rested)),
         Err((group, stop)) => Err((untrace(group), stop)),
     }

@@ -51,7 +51,24 @@ fn make_from<B: Begun, R: Rack>(
     (LoggedGroup::together(rack, rest), answer)
 }
 
-// The same over the disks of a site, of which contents are told or not.
+// The same over disks of which contents are told or not.
+fn make_shaded<R: Rack>(
+    alloc: Global,
+    group: LoggedGroup<Shade<R>>,
+    name: &Name,
+    want: &Shape,
+) -> (LoggedGroup<Shade<R>>, Result<u32, Stop>)
+    requires up { IsTrue (shade_meaning (λ s. R.meaning s) group.shelf).down → ⊥ }
+    requires prefer { IfSome want.now.prefer (λ p. p < want.now.mirrors) }
+    ensures works { MakesVolume name.now want.now group.core (shade_meaning (λ s. R.meaning s) group.shelf) result.0.core (shade_meaning (λ s. R.meaning s) result.0.shelf) result.1 }
+    ensures maps { IsRack (shade_meaning (λ s. R.meaning s) group.shelf) → IsRack (shade_meaning (λ s. R.meaning s) result.0.shelf) → AddsMaps (map_parts group.core.inner.config group.logs.items group.alike group.stopped) (shade_meaning (λ s. R.meaning s) group.shelf) (map_parts result.0.core.inner.config result.0.logs.items result.0.alike result.0.stopped) (shade_meaning (λ s. R.meaning s) result.0.shelf) result.1 }
+    ensures still { IsUnmoved result.1 ((result.0.core ≡ group.core) × (result.0.shelf ≡ group.shelf)) }
+    ensures since { CalledSince (shade_meaning (λ s. R.meaning s) group.shelf) (shade_meaning (λ s. R.meaning s) result.0.shelf) }
+{
+    make_from::<Brand, Shade<R>>(alloc, group, name, want)
+}
+
+// The same over the disks of a site, with an account of what the rack inside tells.
 fn make_traced<C: Begun, R: Rack>(
     alloc: Global,
     laid: Laid<R>,
@@ -67,12 +84,7 @@ fn make_traced<C: Begun, R: Rack>(
     ensures since { CalledSince (shade_meaning (λ s. R.meaning s) laid.shelf) (shade_meaning (λ s. R.meaning s) result.0.shelf) }
     ensures told { TellsLess C.first (R.meaning (rack_of result.0.shelf)) }
 {
-    let (group, answer) = make_from::<Brand, Shade<Traced<R, C>>>(
-        alloc,
-        trace::<C, R>(laid),
-        name,
-        want,
-    );
+    let (group, answer) = make_shaded::<Traced<R, C>>(alloc, trace::<C, R>(laid), name, want);
     (untrace(group), answer)
 }
 

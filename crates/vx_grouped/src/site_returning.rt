@@ -1,5 +1,7 @@
 // A site's group that comes up again, behind a crash or a deport.
 ghost use Rattle.std.specs.Prelude.{◌≡◌, ℕ, IfErr, IfOk, IsFalse, IsTrue, Some, false, true};
+ghost use Rattle.vx_disk.specs.Causes.{OnDisks};
+ghost use Rattle.vx_disk.specs.Disks.{Crashed, Untouched};
 ghost use Rattle.vx_disk.specs.Racks.{Alike, Stopped};
 ghost use Rattle.vx_history.specs.Groups.{GroupNode};
 ghost use Rattle.vx_history.specs.World.{Node};
@@ -65,7 +67,25 @@ fn import_from<B: Begun, R: Rack>(
     }
 }
 
-// The same over the disks of a site, of which contents are told or not.
+// The same over disks of which contents are told or not.
+fn import_shaded<R: Rack>(
+    alloc: Global,
+    rack: Shade<R>,
+    rested: &Rested,
+) -> Result<LoggedGroup<Shade<R>>, (Shade<R>, Stop)>
+    requires can { CanImport (shade_meaning (λ s. R.meaning s) rack) }
+    requires tells { LogsTell rested.now (shade_meaning (λ s. R.meaning s) rack) }
+    ensures leaves { (n : Node) (note : GroupNode) (last : ConfigValue) → AwayLies n note last (shade_meaning (λ s. R.meaning s) rack) → ImportLeaves n note last (shade_meaning (λ s. R.meaning s) rack) (λ s. shade_meaning (λ s. R.meaning s) s) (λ g. g.core) (λ g. g.shelf) result }
+    ensures stops { IfErr result (λ e. ImportStops (shade_meaning (λ s. R.meaning s) rack) (shade_meaning (λ s. R.meaning s) e.0) e.1) }
+    ensures again { IfErr result (λ e. CanImportBehind (shade_meaning (λ s. R.meaning s) e.0)) }
+    ensures maps { ComesMaps rested.now (shade_meaning (λ s. R.meaning s) rack) (λ g. map_parts g.core.inner.config g.logs.items g.alike g.stopped) (λ g. shade_meaning (λ s. R.meaning s) g.shelf) result }
+    ensures up { IfOk result (λ g. IsTrue (shade_meaning (λ s. R.meaning s) g.shelf).down → ⊥) }
+    ensures since { CreateSince (shade_meaning (λ s. R.meaning s) rack) (λ s. shade_meaning (λ s. R.meaning s) s) (λ g. g.shelf) result }
+{
+    import_from::<Brand, Shade<R>>(alloc, rack, rested)
+}
+
+// The same over the disks of a site, with an account of what the rack inside tells.
 fn import_traced<C: Begun, R: Rack>(
     alloc: Global,
     rack: Shade<R>,
@@ -82,7 +102,7 @@ fn import_traced<C: Begun, R: Rack>(
     ensures since { CreateSince (shade_meaning (λ s. R.meaning s) rack) (λ s. shade_meaning (λ s. R.meaning s) s) (λ g. g.shelf) result }
     ensures told { FoundTells C.first (λ s. R.meaning (rack_of s)) (λ g. R.meaning (rack_of g.shelf)) result }
 {
-    let came = import_from::<Brand, Shade<Traced<R, C>>>(alloc, traced::<C, R>(rack), rested);
+    let came = import_shaded::<Traced<R, C>>(alloc, traced::<C, R>(rack), rested);
     match came {
         Ok(group) => Ok(untrace(group)),
         Err((rack, stop)) => Err((untraced(rack), stop)),
@@ -118,6 +138,27 @@ fn is_early(stop: &Stop) -> bool
     )
 }
 
+// Crashes disks of which contents are told or not.
+fn fall_shaded<R: Rack>(rack: &mut Shade<R>, pick: u64)
+    ensures stopped { Stopped (shade_meaning (λ s. R.meaning s) rack.old) (shade_meaning (λ s. R.meaning s) rack.new) }
+    ensures disks { OnDisks (shade_meaning (λ s. R.meaning s) rack.old).disks (shade_meaning (λ s. R.meaning s) rack.new).disks (Crashed (shade_meaning (λ s. R.meaning s) rack.old).size pick) }
+    ensures can { CanImportBehind (shade_meaning (λ s. R.meaning s) rack.old) → CanImport (shade_meaning (λ s. R.meaning s) rack.new) }
+{
+    fall(rack, pick);
+}
+
+// Ends their down state.
+fn revive_shaded<R: Rack>(rack: &mut Shade<R>)
+    requires down { IsTrue (shade_meaning (λ s. R.meaning s) rack.old).down }
+    ensures alike { Alike (shade_meaning (λ s. R.meaning s) rack.old) (shade_meaning (λ s. R.meaning s) rack.new) }
+    ensures up { IsFalse (shade_meaning (λ s. R.meaning s) rack.new).down }
+    ensures armed { (shade_meaning (λ s. R.meaning s) rack.new).armed ≡ (shade_meaning (λ s. R.meaning s) rack.old).armed }
+    ensures disks { OnDisks (shade_meaning (λ s. R.meaning s) rack.old).disks (shade_meaning (λ s. R.meaning s) rack.new).disks Untouched }
+    ensures can { CanImport (shade_meaning (λ s. R.meaning s) rack.old) → CanImport (shade_meaning (λ s. R.meaning s) rack.new) }
+{
+    revive(rack);
+}
+
 // Disks that fell in an import, with an account of what the rack inside tells.
 fn fallen_traced<C: Begun, R: Rack>(rack: Shade<R>, early: bool) -> Shade<R>
     requires { TellsLess C.first (R.meaning (rack_of rack)) }
@@ -130,7 +171,7 @@ fn fallen_traced<C: Begun, R: Rack>(rack: Shade<R>, early: bool) -> Shade<R>
     ensures told { TellsLess C.first (R.meaning (rack_of result)) }
 {
     let mut inside = traced::<C, R>(rack);
-    fall(&mut inside, u64::MAX);
+    fall_shaded::<Traced<R, C>>(&mut inside, u64::MAX);
     let rack = untraced(inside);
     if early { rack } else { rack.darkened() }
 }
@@ -160,7 +201,7 @@ fn risen_traced<C: Begun, R: Rack>(rack: Shade<R>) -> Shade<R>
     ensures told { TellsLess C.first (R.meaning (rack_of result)) }
 {
     let mut inside = traced::<C, R>(rack);
-    revive(&mut inside);
+    revive_shaded::<Traced<R, C>>(&mut inside);
     untraced(inside)
 }
 

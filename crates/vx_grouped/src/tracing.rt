@@ -42,7 +42,8 @@ pub(crate) fn trace<C: Begun, R: Rack>(laid: Laid<R>) -> LoggedGroup<Shade<Trace
     ensures stopped { result.stopped ≡ laid.stopped }
     ensures shelf { laid.shelf ≡ shade_over (λ t. t.rack) result.shelf }
 {
-    let (shelf, rest) = laid.together().apart();
+    let group = laid.together();
+    let (shelf, rest) = group.apart();
     LoggedGroup::together(traced(shelf), rest)
 }
 
@@ -57,5 +58,6 @@ pub(crate) fn untrace<C: Begun, R: Rack>(group: LoggedGroup<Shade<Traced<R, C>>>
     ensures told { TellsLess C.first (R.meaning (rack_of result.shelf)) }
 {
     let (shelf, rest) = group.apart();
-    Laid::of(LoggedGroup::together(untraced(shelf), rest))
+    let inside = LoggedGroup::together(untraced(shelf), rest);
+    Laid::of(inside)
 }

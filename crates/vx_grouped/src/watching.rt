@@ -43,7 +43,22 @@ fn write_from<B: Begun, R: Rack>(
     (LoggedGroup::together(rack, rest), answer)
 }
 
-// The same over the disks of a site, of which contents are told or not.
+// The same over disks of which contents are told or not.
+fn write_shaded<R: Rack>(
+    group: LoggedGroup<Shade<R>>,
+    vol: u32,
+    block: u64,
+    bytes: &[u8],
+) -> (LoggedGroup<Shade<R>>, Result<(), No>)
+    requires fits { Fits (inner_meaning (wide group.core) (shade_meaning (λ s. R.meaning s) group.shelf)) vol block (length bytes.now) }
+    ensures works { PlainWrites vol block bytes.now group.core (shade_meaning (λ s. R.meaning s) group.shelf) result.0.core (shade_meaning (λ s. R.meaning s) result.0.shelf) result.1 }
+    ensures maps { WritesMaps (plain_write vol block bytes.now) (map_parts group.core.inner.config group.logs.items group.alike group.stopped) (shade_meaning (λ s. R.meaning s) group.shelf) (map_parts result.0.core.inner.config result.0.logs.items result.0.alike result.0.stopped) (shade_meaning (λ s. R.meaning s) result.0.shelf) result.1 }
+    ensures since { CalledSince (shade_meaning (λ s. R.meaning s) group.shelf) (shade_meaning (λ s. R.meaning s) result.0.shelf) }
+{
+    write_from::<Brand, Shade<R>>(group, vol, block, bytes)
+}
+
+// The same over the disks of a site, with an account of what the rack inside tells.
 fn write_traced<C: Begun, R: Rack>(
     laid: Laid<R>,
     vol: u32,
@@ -57,12 +72,7 @@ fn write_traced<C: Begun, R: Rack>(
     ensures since { CalledSince (shade_meaning (λ s. R.meaning s) laid.shelf) (shade_meaning (λ s. R.meaning s) result.0.shelf) }
     ensures told { TellsLess C.first (R.meaning (rack_of result.0.shelf)) }
 {
-    let (group, answer) = write_from::<Brand, Shade<Traced<R, C>>>(
-        trace::<C, R>(laid),
-        vol,
-        block,
-        bytes,
-    );
+    let (group, answer) = write_shaded::<Traced<R, C>>(trace::<C, R>(laid), vol, block, bytes);
     (untrace(group), answer)
 }
 
@@ -103,7 +113,22 @@ fn read_from<B: Begun, R: Rack>(
     (LoggedGroup::together(rack, rest), answer)
 }
 
-// The same over the disks of a site, of which contents are told or not.
+// The same over disks of which contents are told or not.
+fn read_shaded<R: Rack>(
+    group: LoggedGroup<Shade<R>>,
+    vol: u32,
+    block: u64,
+    into: &mut [u8],
+) -> (LoggedGroup<Shade<R>>, Result<(), No>)
+    requires fits { Fits (inner_meaning (wide group.core) (shade_meaning (λ s. R.meaning s) group.shelf)) vol block (length into.old) }
+    ensures works { PlainReads vol block into.new group.core (shade_meaning (λ s. R.meaning s) group.shelf) result.0.core (shade_meaning (λ s. R.meaning s) result.0.shelf) result.1 }
+    ensures maps { map_parts result.0.core.inner.config result.0.logs.items result.0.alike result.0.stopped ≡ map_parts group.core.inner.config group.logs.items group.alike group.stopped }
+    ensures since { CalledSince (shade_meaning (λ s. R.meaning s) group.shelf) (shade_meaning (λ s. R.meaning s) result.0.shelf) }
+{
+    read_from::<Brand, Shade<R>>(group, vol, block, into)
+}
+
+// The same over the disks of a site, with an account of what the rack inside tells.
 fn read_traced<C: Begun, R: Rack>(
     laid: Laid<R>,
     vol: u32,
@@ -117,12 +142,7 @@ fn read_traced<C: Begun, R: Rack>(
     ensures since { CalledSince (shade_meaning (λ s. R.meaning s) laid.shelf) (shade_meaning (λ s. R.meaning s) result.0.shelf) }
     ensures told { TellsLess C.first (R.meaning (rack_of result.0.shelf)) }
 {
-    let (group, answer) = read_from::<Brand, Shade<Traced<R, C>>>(
-        trace::<C, R>(laid),
-        vol,
-        block,
-        into,
-    );
+    let (group, answer) = read_shaded::<Traced<R, C>>(trace::<C, R>(laid), vol, block, into);
     (untrace(group), answer)
 }
 
@@ -162,7 +182,21 @@ fn det_from<B: Begun, R: Rack>(
     (LoggedGroup::together(rack, rest), answer)
 }
 
-// The same over the disks of a site, of which contents are told or not.
+// The same over disks of which contents are told or not.
+fn det_shaded<R: Rack>(
+    group: LoggedGroup<Shade<R>>,
+    vol: u32,
+    plex: u32,
+) -> (LoggedGroup<Shade<R>>, Result<(), Stop>)
+    requires up { IsTrue (shade_meaning (λ s. R.meaning s) group.shelf).down → ⊥ }
+    ensures works { PlexDets vol plex group.core (shade_meaning (λ s. R.meaning s) group.shelf) result.0.core (shade_meaning (λ s. R.meaning s) result.0.shelf) result.1 }
+    ensures maps { IsRack (shade_meaning (λ s. R.meaning s) group.shelf) → IsRack (shade_meaning (λ s. R.meaning s) result.0.shelf) → DetsMaps vol plex (map_parts group.core.inner.config group.logs.items group.alike group.stopped) (shade_meaning (λ s. R.meaning s) group.shelf) (map_parts result.0.core.inner.config result.0.logs.items result.0.alike result.0.stopped) (shade_meaning (λ s. R.meaning s) result.0.shelf) result.1 }
+    ensures since { CalledSince (shade_meaning (λ s. R.meaning s) group.shelf) (shade_meaning (λ s. R.meaning s) result.0.shelf) }
+{
+    det_from::<Brand, Shade<R>>(group, vol, plex)
+}
+
+// The same over the disks of a site, with an account of what the rack inside tells.
 fn det_traced<C: Begun, R: Rack>(laid: Laid<R>, vol: u32, plex: u32) -> (Laid<R>, Result<(), Stop>)
     requires up { IsTrue (shade_meaning (λ s. R.meaning s) laid.shelf).down → ⊥ }
     requires told { TellsLess C.first (R.meaning (rack_of laid.shelf)) }
@@ -171,7 +205,7 @@ fn det_traced<C: Begun, R: Rack>(laid: Laid<R>, vol: u32, plex: u32) -> (Laid<R>
     ensures since { CalledSince (shade_meaning (λ s. R.meaning s) laid.shelf) (shade_meaning (λ s. R.meaning s) result.0.shelf) }
     ensures told { TellsLess C.first (R.meaning (rack_of result.0.shelf)) }
 {
-    let (group, answer) = det_from::<Brand, Shade<Traced<R, C>>>(trace::<C, R>(laid), vol, plex);
+    let (group, answer) = det_shaded::<Traced<R, C>>(trace::<C, R>(laid), vol, plex);
     (untrace(group), answer)
 }
 
@@ -206,7 +240,21 @@ fn att_from<B: Begun, R: Rack>(
     (LoggedGroup::together(rack, rest), answer)
 }
 
-// The same over the disks of a site, of which contents are told or not.
+// The same over disks of which contents are told or not.
+fn att_shaded<R: Rack>(
+    group: LoggedGroup<Shade<R>>,
+    vol: u32,
+    plex: u32,
+) -> (LoggedGroup<Shade<R>>, Result<u64, Stop>)
+    requires up { IsTrue (shade_meaning (λ s. R.meaning s) group.shelf).down → ⊥ }
+    ensures works { PlexAtts vol plex group.core (shade_meaning (λ s. R.meaning s) group.shelf) result.0.core (shade_meaning (λ s. R.meaning s) result.0.shelf) result.1 }
+    ensures maps { IsRack (shade_meaning (λ s. R.meaning s) group.shelf) → IsRack (shade_meaning (λ s. R.meaning s) result.0.shelf) → AttsMaps vol plex (map_parts group.core.inner.config group.logs.items group.alike group.stopped) (shade_meaning (λ s. R.meaning s) group.shelf) (map_parts result.0.core.inner.config result.0.logs.items result.0.alike result.0.stopped) (shade_meaning (λ s. R.meaning s) result.0.shelf) result.1 }
+    ensures since { CalledSince (shade_meaning (λ s. R.meaning s) group.shelf) (shade_meaning (λ s. R.meaning s) result.0.shelf) }
+{
+    att_from::<Brand, Shade<R>>(group, vol, plex)
+}
+
+// The same over the disks of a site, with an account of what the rack inside tells.
 fn att_traced<C: Begun, R: Rack>(laid: Laid<R>, vol: u32, plex: u32) -> (Laid<R>, Result<u64, Stop>)
     requires up { IsTrue (shade_meaning (λ s. R.meaning s) laid.shelf).down → ⊥ }
     requires told { TellsLess C.first (R.meaning (rack_of laid.shelf)) }
@@ -215,7 +263,7 @@ fn att_traced<C: Begun, R: Rack>(laid: Laid<R>, vol: u32, plex: u32) -> (Laid<R>
     ensures since { CalledSince (shade_meaning (λ s. R.meaning s) laid.shelf) (shade_meaning (λ s. R.meaning s) result.0.shelf) }
     ensures told { TellsLess C.first (R.meaning (rack_of result.0.shelf)) }
 {
-    let (group, answer) = att_from::<Brand, Shade<Traced<R, C>>>(trace::<C, R>(laid), vol, plex);
+    let (group, answer) = att_shaded::<Traced<R, C>>(trace::<C, R>(laid), vol, plex);
     (untrace(group), answer)
 }
 

@@ -67,8 +67,8 @@ returns-in-Ok-clause-told g c = c.untraced.ensures.told
 pub returns-in-Err-clause-told : goal.returns-in-Err-clause-told
 returns-in-Err-clause-told g c = c.untrace.ensures.told
 
-pub deport_from-requires-clause-up : goal.deport_from-requires-clause-up
-deport_from-requires-clause-up g c = λ κs within. carried_on (λ m. IsTrue m.down → ⊥) c.args.laid.shelf c.trace.result.shelf c.trace.ensures.shelf c.requires.up
+pub deport_shaded-requires-clause-up : goal.deport_shaded-requires-clause-up
+deport_shaded-requires-clause-up g c = λ κs within. carried_on (λ m. IsTrue m.down → ⊥) c.args.laid.shelf c.trace.result.shelf c.trace.ensures.shelf c.requires.up
 
 pub returns-in-Ok-clause-tells : goal.returns-in-Ok-clause-tells
 returns-in-Ok-clause-tells g c = carried_off (λ m. RestTells c.in-Ok.rested m) c.untraced.result c.in-Ok.rack c.untraced.ensures.shade c.in-Ok.ensures.tells

@@ -12,30 +12,30 @@ use Rattle.vx_grouped.proofs.site_making.make_traced.Goals as goal
 
 pub returns-clause-works : goal.returns-clause-works
 returns-clause-works g c =
-    carried_in (λ x s y t. MakesVolume c.args.name.now c.args.want.now x s y t c.make_from-group.result.1)
-    c.args.laid.core c.trace.result.core c.untrace.result.core c.make_from-group.result.0.core c.args.laid.shelf c.trace.result.shelf c.untrace.result.shelf c.make_from-group.result.0.shelf
-    c.trace.ensures.core c.trace.ensures.shelf c.untrace.ensures.core c.untrace.ensures.shelf c.make_from-group.ensures.works
+    carried_in (λ x s y t. MakesVolume c.args.name.now c.args.want.now x s y t c.make_shaded-group.result.1)
+    c.args.laid.core c.trace.result.core c.untrace.result.core c.make_shaded-group.result.0.core c.args.laid.shelf c.trace.result.shelf c.untrace.result.shelf c.make_shaded-group.result.0.shelf
+    c.trace.ensures.core c.trace.ensures.shelf c.untrace.ensures.core c.untrace.ensures.shelf c.make_shaded-group.ensures.works
 
 pub returns-clause-since : goal.returns-clause-since
 returns-clause-since g c =
-    carried_both (λ s t. CalledSince s t) c.args.laid.shelf c.trace.result.shelf c.untrace.result.shelf c.make_from-group.result.0.shelf c.trace.ensures.shelf c.untrace.ensures.shelf c.make_from-group.ensures.since
+    carried_both (λ s t. CalledSince s t) c.args.laid.shelf c.trace.result.shelf c.untrace.result.shelf c.make_shaded-group.result.0.shelf c.trace.ensures.shelf c.untrace.ensures.shelf c.make_shaded-group.ensures.since
 
 pub returns-clause-still : goal.returns-clause-still
 returns-clause-still g c =
-    still_more c.make_from-group.result.1 ((c.make_from-group.result.0.core ≡ c.trace.result.core) × (c.make_from-group.result.0.shelf ≡ c.trace.result.shelf)) ((c.untrace.result.core ≡ c.args.laid.core) × (c.untrace.result.shelf ≡ c.args.laid.shelf))
-    (λ it. (c.untrace.ensures.core ∙ it.0 ∙ c.trace.ensures.core, c.untrace.ensures.shelf ∙ ap (λ s. off s) it.1 ∙ sym c.trace.ensures.shelf)) c.make_from-group.ensures.still
+    still_more c.make_shaded-group.result.1 ((c.make_shaded-group.result.0.core ≡ c.trace.result.core) × (c.make_shaded-group.result.0.shelf ≡ c.trace.result.shelf)) ((c.untrace.result.core ≡ c.args.laid.core) × (c.untrace.result.shelf ≡ c.args.laid.shelf))
+    (λ it. (c.untrace.ensures.core ∙ it.0 ∙ c.trace.ensures.core, c.untrace.ensures.shelf ∙ ap (λ s. off s) it.1 ∙ sym c.trace.ensures.shelf)) c.make_shaded-group.ensures.still
 
-pub make_from-group-requires-clause-up : goal.make_from-group-requires-clause-up
-make_from-group-requires-clause-up g c = λ κs within. carried_on (λ m. IsTrue m.down → ⊥) c.args.laid.shelf c.trace.result.shelf c.trace.ensures.shelf c.requires.up
+pub make_shaded-group-requires-clause-up : goal.make_shaded-group-requires-clause-up
+make_shaded-group-requires-clause-up g c = λ κs within. carried_on (λ m. IsTrue m.down → ⊥) c.args.laid.shelf c.trace.result.shelf c.trace.ensures.shelf c.requires.up
 
 pub returns-clause-maps : goal.returns-clause-maps
 returns-clause-maps g c =
-    parts_carried (λ x m y n. IsRack m → IsRack n → AddsMaps x m y n c.make_from-group.result.1)
-    (map_parts c.args.laid.core.inner.config c.args.laid.logs.items c.args.laid.alike c.args.laid.stopped) (map_parts c.trace.result.core.inner.config c.trace.result.logs.items c.trace.result.alike c.trace.result.stopped) (map_parts c.untrace.result.core.inner.config c.untrace.result.logs.items c.untrace.result.alike c.untrace.result.stopped) (map_parts c.make_from-group.result.0.core.inner.config c.make_from-group.result.0.logs.items c.make_from-group.result.0.alike c.make_from-group.result.0.stopped) (shade_meaning g.R.Shelf.meaning c.args.laid.shelf) (shade_meaning (λ t. g.R.Shelf.meaning t.rack) c.trace.result.shelf) (shade_meaning g.R.Shelf.meaning c.untrace.result.shelf) (shade_meaning (λ t. g.R.Shelf.meaning t.rack) c.make_from-group.result.0.shelf)
+    parts_carried (λ x m y n. IsRack m → IsRack n → AddsMaps x m y n c.make_shaded-group.result.1)
+    (map_parts c.args.laid.core.inner.config c.args.laid.logs.items c.args.laid.alike c.args.laid.stopped) (map_parts c.trace.result.core.inner.config c.trace.result.logs.items c.trace.result.alike c.trace.result.stopped) (map_parts c.untrace.result.core.inner.config c.untrace.result.logs.items c.untrace.result.alike c.untrace.result.stopped) (map_parts c.make_shaded-group.result.0.core.inner.config c.make_shaded-group.result.0.logs.items c.make_shaded-group.result.0.alike c.make_shaded-group.result.0.stopped) (shade_meaning g.R.Shelf.meaning c.args.laid.shelf) (shade_meaning (λ t. g.R.Shelf.meaning t.rack) c.trace.result.shelf) (shade_meaning g.R.Shelf.meaning c.untrace.result.shelf) (shade_meaning (λ t. g.R.Shelf.meaning t.rack) c.make_shaded-group.result.0.shelf)
     (parts_same c.args.laid.core.inner.config c.trace.result.core.inner.config c.args.laid.logs.items c.trace.result.logs.items c.args.laid.alike c.trace.result.alike c.args.laid.stopped c.trace.result.stopped
     (ap (λ x. x.inner.config) (c.trace.ensures.core)) (ap (λ x. x.items) (c.trace.ensures.logs)) (c.trace.ensures.alike) (c.trace.ensures.stopped))
     (off_means c.args.laid.shelf c.trace.result.shelf c.trace.ensures.shelf)
-    (parts_same c.make_from-group.result.0.core.inner.config c.untrace.result.core.inner.config c.make_from-group.result.0.logs.items c.untrace.result.logs.items c.make_from-group.result.0.alike c.untrace.result.alike c.make_from-group.result.0.stopped c.untrace.result.stopped
+    (parts_same c.make_shaded-group.result.0.core.inner.config c.untrace.result.core.inner.config c.make_shaded-group.result.0.logs.items c.untrace.result.logs.items c.make_shaded-group.result.0.alike c.untrace.result.alike c.make_shaded-group.result.0.stopped c.untrace.result.stopped
     (ap (λ x. x.inner.config) (c.untrace.ensures.core)) (ap (λ x. x.items) (c.untrace.ensures.logs)) (c.untrace.ensures.alike) (c.untrace.ensures.stopped))
-    (sym (off_means c.untrace.result.shelf c.make_from-group.result.0.shelf c.untrace.ensures.shelf))
-    c.make_from-group.ensures.maps
+    (sym (off_means c.untrace.result.shelf c.make_shaded-group.result.0.shelf c.untrace.ensures.shelf))
+    c.make_shaded-group.ensures.maps

@@ -1,9 +1,11 @@
 -- A plex of a site's group that is attached.
 use Rattle.std.proofs.Common.{◌∙◌, ℕ, subst, sym}
+use Rattle.std.specs.Prelude.{IfOk, OnOk}
 use Rattle.vx_disk.specs.Disks.{Crashed}
-use Rattle.vx_group.specs.Attaches.{att_refusal}
+use Rattle.vx_group.specs.Attaches.{IsAttached, att_refusal}
 use Rattle.vx_untold.specs.Shades.{shade_meaning, shade_rack}
-use Rattle.vx_watched.proofs.SinceLemmas.{since_stop}
+use Rattle.vx_watched.proofs.SinceLemmas.{since_none, since_stop}
+use Rattle.vx_grouped.specs.Copied.{CopiesRegions}
 use Rattle.vx_grouped.specs.Watches.{PlexAtts}
 use Rattle.vx_grouped.proofs.CalledLemmas.{down_by_stop}
 use Rattle.vx_grouped.proofs.SitePlexLemmas.{att_never_off, att_site_cut, att_site_done, att_site_up}
@@ -63,3 +65,89 @@ returns-else-is_down_stop-clause-maps g c = λ n note up.
     let works = (subst (λ r. PlexAtts c.args.vol c.args.plex c.args.laid.core (shade_meaning g.R.Shelf.meaning c.args.laid.shelf) c.att_watched-laid.result.0.core (shade_meaning g.R.Shelf.meaning c.att_watched-laid.result.0.shelf) r) c.in-Err.is c.att_watched-laid.ensures.works) in
     let maps = (subst (λ r. AttsMaps c.args.vol c.args.plex (laid_parts c.args.laid) (shade_meaning g.R.Shelf.meaning c.args.laid.shelf) (laid_parts c.att_watched-laid.result.0) (shade_meaning g.R.Shelf.meaning c.att_watched-laid.result.0.shelf) r) c.in-Err.is (c.att_watched-laid.ensures.maps (racks c.args.laid.shelf) (racks c.att_watched-laid.result.0.shelf))) in
     (up_maps MapsLike c.args.laid c.att_watched-laid.result.0 (call_still ℕ n note c.att_watched-laid.result.0.core (shade_meaning g.R.Shelf.meaning c.att_watched-laid.result.0.shelf) c.in-Err.stop (sym c.is_down_stop.ensures ∙ c.if-is_down_stop.false) (works.leaves n note up.at)) maps.0, quiet_map (PartsStay (laid_parts c.args.laid) (laid_parts c.att_watched-laid.result.0)) (StaysMapped (Up c.args.laid) (Up c.att_watched-laid.result.0)) c.in-Err.stop (stays_up c.args.laid c.att_watched-laid.result.0) maps.1)
+
+pub returns-in-Ok-clause-refused : goal.returns-in-Ok-clause-refused
+returns-in-Ok-clause-refused g c = λ n note why up is. sym c.in-Ok.is ∙ c.att_watched-laid.ensures.works.refused why is
+
+pub returns-in-Ok-clause-already : goal.returns-in-Ok-clause-already
+returns-in-Ok-clause-already g c = λ n note up none on. sym c.in-Ok.is ∙ c.att_watched-laid.ensures.works.already none on
+
+pub returns-else-is_down_stop-clause-refused : goal.returns-else-is_down_stop-clause-refused
+returns-else-is_down_stop-clause-refused g c = λ n note why up is. sym c.in-Err.is ∙ c.att_watched-laid.ensures.works.refused why is
+
+pub returns-else-is_down_stop-clause-already : goal.returns-else-is_down_stop-clause-already
+returns-else-is_down_stop-clause-already g c = λ n note up none on. sym c.in-Err.is ∙ c.att_watched-laid.ensures.works.already none on
+
+pub returns-then-is_down_stop-clause-refused : goal.returns-then-is_down_stop-clause-refused
+returns-then-is_down_stop-clause-refused g c = λ n note why up is. sym c.in-Err.is ∙ c.att_watched-laid.ensures.works.refused why is
+
+pub returns-then-is_down_stop-clause-already : goal.returns-then-is_down_stop-clause-already
+returns-then-is_down_stop-clause-already g c = λ n note up none on. sym c.in-Err.is ∙ c.att_watched-laid.ensures.works.already none on
+
+pub returns-in-Ok-clause-count : goal.returns-in-Ok-clause-count
+returns-in-Ok-clause-count g c = λ off. subst (λ r. IfOk r (CopiesRegions c.args.laid.core.inner.config c.args.vol)) c.in-Ok.is (c.att_watched-laid.ensures.works.count off)
+
+pub returns-in-Ok-clause-others : goal.returns-in-Ok-clause-others
+returns-in-Ok-clause-others g c = λ w p apart. c.att_watched-laid.ensures.works.others w p apart
+
+pub returns-in-Ok-clause-since : goal.returns-in-Ok-clause-since
+returns-in-Ok-clause-since g c = c.att_watched-laid.ensures.since
+
+pub returns-in-Ok-clause-told : goal.returns-in-Ok-clause-told
+returns-in-Ok-clause-told g c = c.att_watched-laid.ensures.told
+
+pub returns-else-is_down_stop-clause-since : goal.returns-else-is_down_stop-clause-since
+returns-else-is_down_stop-clause-since g c = c.att_watched-laid.ensures.since
+
+pub returns-else-is_down_stop-clause-told : goal.returns-else-is_down_stop-clause-told
+returns-else-is_down_stop-clause-told g c = c.att_watched-laid.ensures.told
+
+pub returns-else-is_down_stop-clause-count : goal.returns-else-is_down_stop-clause-count
+returns-else-is_down_stop-clause-count g c = λ off. tt
+
+pub returns-else-is_down_stop-clause-on : goal.returns-else-is_down_stop-clause-on
+returns-else-is_down_stop-clause-on g c = λ off. tt
+
+pub returns-else-is_down_stop-clause-others : goal.returns-else-is_down_stop-clause-others
+returns-else-is_down_stop-clause-others g c = tt
+
+pub returns-then-is_down_stop-clause-count : goal.returns-then-is_down_stop-clause-count
+returns-then-is_down_stop-clause-count g c = λ off. tt
+
+pub returns-then-is_down_stop-clause-on : goal.returns-then-is_down_stop-clause-on
+returns-then-is_down_stop-clause-on g c = λ off. tt
+
+pub returns-then-is_down_stop-clause-others : goal.returns-then-is_down_stop-clause-others
+returns-then-is_down_stop-clause-others g c = tt
+
+pub returns-then-is_down-clause-count : goal.returns-then-is_down-clause-count
+returns-then-is_down-clause-count g c = λ off. tt
+
+pub returns-then-is_down-clause-on : goal.returns-then-is_down-clause-on
+returns-then-is_down-clause-on g c = λ off. tt
+
+pub returns-then-is_down-clause-others : goal.returns-then-is_down-clause-others
+returns-then-is_down-clause-others g c = tt
+
+pub returns-then-is_down-clause-called : goal.returns-then-is_down-clause-called
+returns-then-is_down-clause-called g c = λ n note up. absurd (up.at.up (sym c.is_down.ensures ∙ c.if-is_down.true))
+
+pub returns-then-is_down-clause-maps : goal.returns-then-is_down-clause-maps
+returns-then-is_down-clause-maps g c = λ n note up. absurd (up.at.up (sym c.is_down.ensures ∙ c.if-is_down.true))
+
+pub returns-then-is_down-clause-refused : goal.returns-then-is_down-clause-refused
+returns-then-is_down-clause-refused g c = λ n note why up is. absurd (up.at.up (sym c.is_down.ensures ∙ c.if-is_down.true))
+
+pub returns-then-is_down-clause-already : goal.returns-then-is_down-clause-already
+returns-then-is_down-clause-already g c = λ n note up none on. absurd (up.at.up (sym c.is_down.ensures ∙ c.if-is_down.true))
+
+pub returns-then-is_down-clause-since : goal.returns-then-is_down-clause-since
+returns-then-is_down-clause-since g c = since_none (shade_meaning g.R.Shelf.meaning c.args.laid.shelf)
+
+pub returns-then-is_down-clause-told : goal.returns-then-is_down-clause-told
+returns-then-is_down-clause-told g c = λ told. told
+
+pub returns-in-Ok-clause-on : goal.returns-in-Ok-clause-on
+returns-in-Ok-clause-on g c = λ off.
+    let it : IsAttached c.args.vol c.args.plex c.att_watched-laid.result.0.core.inner.config (shade_meaning g.R.Shelf.meaning c.att_watched-laid.result.0.shelf) = subst (λ r. OnOk r (IsAttached c.args.vol c.args.plex c.att_watched-laid.result.0.core.inner.config (shade_meaning g.R.Shelf.meaning c.att_watched-laid.result.0.shelf))) c.in-Ok.is (c.att_watched-laid.ensures.works.attached off) in
+    it.is_on

@@ -1,9 +1,11 @@
 -- A plex of a site's group that is detached.
-use Rattle.std.proofs.Common.{◌∙◌, subst, sym}
+use Rattle.std.proofs.Common.{◌≡◌, ◌∙◌, false, subst, sym}
+use Rattle.std.specs.Prelude.{OnOk}
+use Rattle.vx_volume.specs.Plexes.{active}
 use Rattle.vx_disk.specs.Disks.{Crashed}
 use Rattle.vx_group.specs.Dets.{det_refusal}
 use Rattle.vx_untold.specs.Shades.{shade_meaning, shade_rack}
-use Rattle.vx_watched.proofs.SinceLemmas.{since_stop}
+use Rattle.vx_watched.proofs.SinceLemmas.{since_none, since_stop}
 use Rattle.vx_grouped.specs.Watches.{PlexDets}
 use Rattle.vx_grouped.proofs.CalledLemmas.{down_by_stop}
 use Rattle.vx_grouped.proofs.SitePlexLemmas.{det_never_off, det_site_cut, det_site_done, det_site_up}
@@ -62,3 +64,63 @@ returns-else-is_down_stop-clause-maps g c = λ n note up.
     let works = (subst (λ r. PlexDets c.args.vol c.args.plex c.args.laid.core (shade_meaning g.R.Shelf.meaning c.args.laid.shelf) c.det_watched-laid.result.0.core (shade_meaning g.R.Shelf.meaning c.det_watched-laid.result.0.shelf) r) c.in-Err.is c.det_watched-laid.ensures.works) in
     let maps = (subst (λ r. DetsMaps c.args.vol c.args.plex (laid_parts c.args.laid) (shade_meaning g.R.Shelf.meaning c.args.laid.shelf) (laid_parts c.det_watched-laid.result.0) (shade_meaning g.R.Shelf.meaning c.det_watched-laid.result.0.shelf) r) c.in-Err.is (c.det_watched-laid.ensures.maps (racks c.args.laid.shelf) (racks c.det_watched-laid.result.0.shelf))) in
     (up_maps (DetMapsFailed c.args.vol c.args.plex) c.args.laid c.det_watched-laid.result.0 (call_still (Unit {0}) n note c.det_watched-laid.result.0.core (shade_meaning g.R.Shelf.meaning c.det_watched-laid.result.0.shelf) c.in-Err.stop (sym c.is_down_stop.ensures ∙ c.if-is_down_stop.false) (works.leaves n note up.at)) maps.0, quiet_map (PartsStay (laid_parts c.args.laid) (laid_parts c.det_watched-laid.result.0)) (StaysMapped (Up c.args.laid) (Up c.det_watched-laid.result.0)) c.in-Err.stop (stays_up c.args.laid c.det_watched-laid.result.0) maps.1)
+
+pub returns-in-Ok-clause-refused : goal.returns-in-Ok-clause-refused
+returns-in-Ok-clause-refused g c = λ n note why up is. sym c.in-Ok.is ∙ c.det_watched-laid.ensures.works.refused why is
+
+pub returns-else-is_down_stop-clause-refused : goal.returns-else-is_down_stop-clause-refused
+returns-else-is_down_stop-clause-refused g c = λ n note why up is. sym c.in-Err.is ∙ c.det_watched-laid.ensures.works.refused why is
+
+pub returns-then-is_down_stop-clause-refused : goal.returns-then-is_down_stop-clause-refused
+returns-then-is_down_stop-clause-refused g c = λ n note why up is. sym c.in-Err.is ∙ c.det_watched-laid.ensures.works.refused why is
+
+pub returns-in-Ok-clause-off : goal.returns-in-Ok-clause-off
+returns-in-Ok-clause-off g c = subst (λ r. OnOk r (active c.det_watched-laid.result.0.core.inner.config c.args.vol c.args.plex ≡ false)) c.in-Ok.is c.det_watched-laid.ensures.works.off
+
+pub returns-in-Ok-clause-others : goal.returns-in-Ok-clause-others
+returns-in-Ok-clause-others g c = λ w p apart. c.det_watched-laid.ensures.works.others w p apart
+
+pub returns-in-Ok-clause-since : goal.returns-in-Ok-clause-since
+returns-in-Ok-clause-since g c = c.det_watched-laid.ensures.since
+
+pub returns-in-Ok-clause-told : goal.returns-in-Ok-clause-told
+returns-in-Ok-clause-told g c = c.det_watched-laid.ensures.told
+
+pub returns-else-is_down_stop-clause-since : goal.returns-else-is_down_stop-clause-since
+returns-else-is_down_stop-clause-since g c = c.det_watched-laid.ensures.since
+
+pub returns-else-is_down_stop-clause-told : goal.returns-else-is_down_stop-clause-told
+returns-else-is_down_stop-clause-told g c = c.det_watched-laid.ensures.told
+
+pub returns-else-is_down_stop-clause-off : goal.returns-else-is_down_stop-clause-off
+returns-else-is_down_stop-clause-off g c = tt
+
+pub returns-else-is_down_stop-clause-others : goal.returns-else-is_down_stop-clause-others
+returns-else-is_down_stop-clause-others g c = tt
+
+pub returns-then-is_down_stop-clause-off : goal.returns-then-is_down_stop-clause-off
+returns-then-is_down_stop-clause-off g c = tt
+
+pub returns-then-is_down_stop-clause-others : goal.returns-then-is_down_stop-clause-others
+returns-then-is_down_stop-clause-others g c = tt
+
+pub returns-then-is_down-clause-off : goal.returns-then-is_down-clause-off
+returns-then-is_down-clause-off g c = tt
+
+pub returns-then-is_down-clause-others : goal.returns-then-is_down-clause-others
+returns-then-is_down-clause-others g c = tt
+
+pub returns-then-is_down-clause-called : goal.returns-then-is_down-clause-called
+returns-then-is_down-clause-called g c = λ n note up. absurd (up.at.up (sym c.is_down.ensures ∙ c.if-is_down.true))
+
+pub returns-then-is_down-clause-maps : goal.returns-then-is_down-clause-maps
+returns-then-is_down-clause-maps g c = λ n note up. absurd (up.at.up (sym c.is_down.ensures ∙ c.if-is_down.true))
+
+pub returns-then-is_down-clause-refused : goal.returns-then-is_down-clause-refused
+returns-then-is_down-clause-refused g c = λ n note why up is. absurd (up.at.up (sym c.is_down.ensures ∙ c.if-is_down.true))
+
+pub returns-then-is_down-clause-since : goal.returns-then-is_down-clause-since
+returns-then-is_down-clause-since g c = since_none (shade_meaning g.R.Shelf.meaning c.args.laid.shelf)
+
+pub returns-then-is_down-clause-told : goal.returns-then-is_down-clause-told
+returns-then-is_down-clause-told g c = λ told. told

@@ -12,11 +12,11 @@ use Rattle.vx_grouped.specs.PlainMaps.{PartsBack, map_parts}
 use Rattle.vx_grouped.proofs.PlainMapLemmas.{parts_carried, parts_same}
 use Rattle.vx_grouped.proofs.site_returning.import_traced.Goals as goal
 
-pub import_from-came-requires-clause-can : goal.import_from-came-requires-clause-can
-import_from-came-requires-clause-can g c = λ κs within. carried_on (λ m. CanImport m) c.args.rack c.traced.result c.traced.ensures c.requires.can
+pub import_shaded-came-requires-clause-can : goal.import_shaded-came-requires-clause-can
+import_shaded-came-requires-clause-can g c = λ κs within. carried_on (λ m. CanImport m) c.args.rack c.traced.result c.traced.ensures c.requires.can
 
-pub import_from-came-requires-clause-tells : goal.import_from-came-requires-clause-tells
-import_from-came-requires-clause-tells g c = λ κs within. carried_on (λ m. LogsTell c.args.rested.now m) c.args.rack c.traced.result c.traced.ensures c.requires.tells
+pub import_shaded-came-requires-clause-tells : goal.import_shaded-came-requires-clause-tells
+import_shaded-came-requires-clause-tells g c = λ κs within. carried_on (λ m. LogsTell c.args.rested.now m) c.args.rack c.traced.result c.traced.ensures c.requires.tells
 
 pub returns-in-Ok-clause-leaves : goal.returns-in-Ok-clause-leaves
 returns-in-Ok-clause-leaves g c = λ n note last lies.

@@ -12,22 +12,22 @@ use Rattle.vx_grouped.proofs.watching.read_traced.Goals as goal
 
 pub returns-clause-works : goal.returns-clause-works
 returns-clause-works g c =
-    carried_in (λ x s y t. PlainReads c.args.vol c.args.block c.read_from-group.new.into x s y t c.read_from-group.result.1)
-    c.args.laid.core c.trace.result.core c.untrace.result.core c.read_from-group.result.0.core c.args.laid.shelf c.trace.result.shelf c.untrace.result.shelf c.read_from-group.result.0.shelf
-    c.trace.ensures.core c.trace.ensures.shelf c.untrace.ensures.core c.untrace.ensures.shelf c.read_from-group.ensures.works
+    carried_in (λ x s y t. PlainReads c.args.vol c.args.block c.read_shaded-group.new.into x s y t c.read_shaded-group.result.1)
+    c.args.laid.core c.trace.result.core c.untrace.result.core c.read_shaded-group.result.0.core c.args.laid.shelf c.trace.result.shelf c.untrace.result.shelf c.read_shaded-group.result.0.shelf
+    c.trace.ensures.core c.trace.ensures.shelf c.untrace.ensures.core c.untrace.ensures.shelf c.read_shaded-group.ensures.works
 
 pub returns-clause-since : goal.returns-clause-since
 returns-clause-since g c =
-    carried_both (λ s t. CalledSince s t) c.args.laid.shelf c.trace.result.shelf c.untrace.result.shelf c.read_from-group.result.0.shelf c.trace.ensures.shelf c.untrace.ensures.shelf c.read_from-group.ensures.since
+    carried_both (λ s t. CalledSince s t) c.args.laid.shelf c.trace.result.shelf c.untrace.result.shelf c.read_shaded-group.result.0.shelf c.trace.ensures.shelf c.untrace.ensures.shelf c.read_shaded-group.ensures.since
 
-pub read_from-group-requires-clause-fits : goal.read_from-group-requires-clause-fits
-read_from-group-requires-clause-fits g c = λ κs within.
+pub read_shaded-group-requires-clause-fits : goal.read_shaded-group-requires-clause-fits
+read_shaded-group-requires-clause-fits g c = λ κs within.
     carried_one (λ x m. Fits (inner_meaning (wide x) m) c.args.vol c.args.block (length c.args.into.now)) c.args.laid.core c.trace.result.core c.args.laid.shelf c.trace.result.shelf c.trace.ensures.core c.trace.ensures.shelf c.requires.fits
 
 pub returns-clause-maps : goal.returns-clause-maps
 returns-clause-maps g c =
-    (parts_same c.read_from-group.result.0.core.inner.config c.untrace.result.core.inner.config c.read_from-group.result.0.logs.items c.untrace.result.logs.items c.read_from-group.result.0.alike c.untrace.result.alike c.read_from-group.result.0.stopped c.untrace.result.stopped
+    (parts_same c.read_shaded-group.result.0.core.inner.config c.untrace.result.core.inner.config c.read_shaded-group.result.0.logs.items c.untrace.result.logs.items c.read_shaded-group.result.0.alike c.untrace.result.alike c.read_shaded-group.result.0.stopped c.untrace.result.stopped
     (ap (λ x. x.inner.config) (c.untrace.ensures.core)) (ap (λ x. x.items) (c.untrace.ensures.logs)) (c.untrace.ensures.alike) (c.untrace.ensures.stopped))
-    ∙ c.read_from-group.ensures.maps
+    ∙ c.read_shaded-group.ensures.maps
     ∙ (parts_same c.args.laid.core.inner.config c.trace.result.core.inner.config c.args.laid.logs.items c.trace.result.logs.items c.args.laid.alike c.trace.result.alike c.args.laid.stopped c.trace.result.stopped
     (ap (λ x. x.inner.config) (c.trace.ensures.core)) (ap (λ x. x.items) (c.trace.ensures.logs)) (c.trace.ensures.alike) (c.trace.ensures.stopped))

@@ -1,6 +1,0 @@
--- The disks with which the account begins.
-use Rattle.vx_untold.specs.Shades.{shade_meaning}
-use Rattle.vx_grouped.proofs.site_keeping.kept_traced.Given as goal
-
-abbrev pub ghosts-kept_from : goal.ghosts-kept_from
-ghosts-kept_from g a = record { first = shade_meaning (λ t. g.R.Shelf.meaning t.rack) a.group.shelf }

@@ -1,6 +1,0 @@
--- The disks with which the account begins.
-use Rattle.vx_untold.specs.Shades.{shade_meaning}
-use Rattle.vx_grouped.proofs.watching.read_traced.Given as goal
-
-abbrev pub ghosts-read_from : goal.ghosts-read_from
-ghosts-read_from g a = record { first = shade_meaning (λ t. g.R.Shelf.meaning t.rack) a.group.shelf }
