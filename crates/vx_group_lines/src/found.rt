@@ -11,12 +11,11 @@ ghost use Rattle.vx_yard.specs.Working.{IsFree};
 ghost use Rattle.vx_yard.specs.Yards.{IsYardKept, IsTold, in_files};
 
 use crate::noting::note_up;
+use crate::places::find_in;
 use crate::recover::RiseRoom;
 use crate::views::view_at;
 use std::alloc::Global;
-use std::mem;
 use vx_disk::Rack;
-use vx_diskset::DiskSet;
 use vx_events::Said;
 use vx_model::{Name, OutOfMemory, SiteState};
 use vx_yard::Yard;
@@ -57,9 +56,7 @@ pub fn recover_found<R: Rack>(
 {
     let room = RiseRoom::new(alloc)?;
     let site = yard.site_of(name);
-    let disk_set = mem::replace(&mut yard.disk_sets[site], DiskSet::Gone);
-    let (disk_set, found) = disk_set.recover_bare_group(alloc, site as u32);
-    yard.disk_sets[site] = disk_set;
+    let found = find_in(&mut yard.disk_sets[site], alloc, site as u32);
     match found {
         Ok(()) => {
             note_up(yard, site, room.volumes);

@@ -9,10 +9,9 @@ ghost use Rattle.vx_yard.specs.Working.{IsFree};
 ghost use Rattle.vx_yard.specs.Yards.{IsYardKept, IsTold, in_files};
 
 use crate::noting::{group_stopped, note_up};
+use crate::places::bring_in;
 use std::alloc::Global;
-use std::mem;
 use vx_disk::Rack;
-use vx_diskset::DiskSet;
 use vx_events::Said;
 use vx_model::{Name, OutOfMemory};
 use vx_order::VolumeRoom;
@@ -34,9 +33,7 @@ pub fn import_line<R: Rack>(
 {
     let room = VolumeRoom::new(alloc)?;
     let site = yard.site_of(name);
-    let disk_set = mem::replace(&mut yard.disk_sets[site], DiskSet::Gone);
-    let (disk_set, came) = disk_set.import_group(alloc);
-    yard.disk_sets[site] = disk_set;
+    let came = bring_in(&mut yard.disk_sets[site], alloc);
     match came {
         Ok(()) => {
             note_up(yard, site, room);

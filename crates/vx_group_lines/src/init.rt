@@ -8,10 +8,9 @@ ghost use Rattle.vx_yard.specs.Standing.{LeadsOverIs, StandsFor};
 ghost use Rattle.vx_yard.specs.Working.{IsFree};
 ghost use Rattle.vx_yard.specs.Yards.{IsYardKept, IsTold, in_files};
 
+use crate::places::init_in;
 use std::alloc::Global;
-use std::mem;
 use vx_disk::Rack;
-use vx_diskset::DiskSet;
 use vx_events::Said;
 use vx_model::{Name, OutOfMemory};
 use vx_yard::Yard;
@@ -36,9 +35,7 @@ pub fn init_line<R: Rack>(
     if yard.facts[site].disks == 0 {
         return Err(OutOfMemory);
     }
-    let disk_set = mem::replace(&mut yard.disk_sets[site], DiskSet::Gone);
-    let (disk_set, made) = disk_set.init_group(alloc, site as u32);
-    yard.disk_sets[site] = disk_set;
+    let made = init_in(&mut yard.disk_sets[site], alloc, site as u32);
     match made {
         Ok(()) => {
             make_group(alloc, &mut yard.facts[site]);

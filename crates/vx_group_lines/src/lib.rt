@@ -12,6 +12,7 @@ mod init;
 mod lines;
 mod marks;
 mod noting;
+mod places;
 mod plex;
 mod read;
 mod recover;

@@ -18,11 +18,11 @@ ghost use Rattle.vx_yard.specs.Working.{IsFree};
 ghost use Rattle.vx_yard.specs.Yards.{IsYardKept, IsTold, in_files};
 
 use crate::noting::{group_stopped, note_up};
+use crate::places::{look_in, raise_in};
 use crate::views::{ViewRoom, view_at};
 use std::alloc::Global;
-use std::mem;
 use vx_disk::Rack;
-use vx_diskset::{CutWrite, DiskSet, KeptWrite};
+use vx_diskset::{CutWrite, KeptWrite};
 use vx_events::Said;
 use vx_model::limits::BLOCK;
 use vx_model::{Name, OutOfMemory, SiteState, Stop};
@@ -109,9 +109,7 @@ fn stand_up<R: Rack>(
     ensures stood { StoodUp site cut yard.old yard.new result }
 {
     note_up(yard, site, room.volumes);
-    let disk_set = mem::replace(&mut yard.disk_sets[site], DiskSet::Gone);
-    let (disk_set, looked) = disk_set.look_at_cut(cut);
-    yard.disk_sets[site] = disk_set;
+    let looked = look_in(&mut yard.disk_sets[site], cut);
     match looked {
         Ok(kept) => {
             let kept = shown_if(&yard.facts[site], kept);
@@ -138,9 +136,7 @@ fn rise<R: Rack>(
     ensures told { IsTold yard.new → IsTold yard.old }
     ensures files { in_files yard.new ≡ in_files yard.old }
 {
-    let disk_set = mem::replace(&mut yard.disk_sets[site], DiskSet::Gone);
-    let (disk_set, came) = disk_set.raise_group(alloc);
-    yard.disk_sets[site] = disk_set;
+    let came = raise_in(&mut yard.disk_sets[site], alloc);
     match came {
         Ok(cut) => stand_up(yard, alloc, site, room, cut),
         Err(stop) => group_stopped(yard, alloc, site, stop),

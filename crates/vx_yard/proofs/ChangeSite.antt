@@ -7,13 +7,12 @@ use Rattle.std.proofs.lemmas.Option.{slice_get_within}
 use Rattle.vx_disk.specs.Counts.{Rose}
 use Rattle.vx_disk.specs.declared.shelf.Shelf.{Ghosts}
 use Rattle.vx_diskset.specs.declared.disk_set.DiskSet.{DiskSet}
-use Rattle.vx_diskset.specs.declared.disk_set.DiskSet.TheVariants.{Gone}
 use Rattle.vx_diskset.specs.DiskSets.{Later}
 use Rattle.vx_events.specs.Fails.{Fails}
 use Rattle.vx_events.proofs.Places.{some_same}
 use Rattle.vx_yard.specs.Stands.{AreTold, RoseAll, RoseBy, site_faults, fault_count, times}
 use Rattle.vx_diskset.specs.Stands.{IsToldAt, faults_at}
-use Rattle.vx_yard.proofs.Lists.{get-set_same, get-set_other, set_twice}
+use Rattle.vx_yard.proofs.Lists.{get-set_same, get-set_other}
 
 -- no call failed
 pub rose_none : (old new : ℕ → ℕ → ℕ) → ((s d : ℕ) → old s d ≤ new s d) → RoseAll [] old new
@@ -76,7 +75,3 @@ module _ {R : Type 0} {g : Ghosts R} where
           (λ is. subst IsToldAt (some_same (sym at ∙ ap (slice_get es) (sym is) ∙ at')) (later.told (told.each s new (get-set_same es s new (slice_get_within es s e at)))))
           (λ apart. told.each s' e' (get-set_other es s s' new apart ∙ at'))
           (cases_eq s' s)
-
-  -- the same of one that was taken out in between
-  pub raw_told : (es new : List (DiskSet R g)) (s : ℕ) (before after : DiskSet R g) → slice_get es s ≡ Some before → Later before after → new ≡ slice_set (slice_set es s Gone) s after → AreTold new → AreTold es
-  raw_told es new s before after at later twice told = told_before es s before after at later (subst (λ es. AreTold es) (twice ∙ set_twice es s Gone after) told)

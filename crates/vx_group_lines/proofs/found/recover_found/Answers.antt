@@ -1,20 +1,19 @@
 -- Each case of a recovery of a bare site whose disks have a label of a group.
 use Rattle.std.proofs.Common.{◌≡◌, ◌∙◌, ap, sym, subst, refl}
-use Rattle.std.specs.Prelude.{Some, is_some, map, slice_get, slice_set}
+use Rattle.std.specs.Prelude.{Some, is_some, map, slice_get}
 use Rattle.std.proofs.lemmas.Option.{slice_get_within}
 use Rattle.std.proofs.lemmas.Result.{err_from_is_err_and}
 use Rattle.vx_diskset.proofs.KeepsFailing.{failing_same}
 use Rattle.vx_diskset.specs.Asked.{SameFailing}
 use Rattle.vx_diskset.specs.GroupFinds.{FindsIs}
 use Rattle.vx_diskset.specs.Holds.{beside_of}
-use Rattle.vx_diskset.specs.declared.disk_set.DiskSet.TheVariants.{Gone}
 use Rattle.vx_events.proofs.Refused.{recover_may}
 use Rattle.vx_events.specs.Facts.{seat_of}
 use Rattle.vx_events.specs.GroupViews.{plain_fact}
 use Rattle.vx_events.specs.LinkedFacts.{linked_fact}
 use Rattle.vx_order.specs.declared.facts.SiteFacts.{SiteFacts}
 use Rattle.vx_yard.proofs.ChangeSite.{told_before}
-use Rattle.vx_yard.proofs.Lists.{get-set_same, get_at, set_twice}
+use Rattle.vx_yard.proofs.Lists.{get-set_same, get_at}
 use Rattle.vx_yard.proofs.NamedSite.{asks_at, place_at, unbegun_site}
 use Rattle.vx_yard.proofs.Seats.{named_some}
 use Rattle.vx_yard.specs.GroupFacts.{group_up_facts}
@@ -49,25 +48,24 @@ returns-in-Ok-clause-leads g c = λ d stands nothing.
     let s = c.site_of-site.result in
     let sets = y.disk_sets.items in
     let seat : seat_of y.facts.items c.args.name.now ≡ Some c.site_of-site.result = c.site_of-site.ensures.seat in
-    let before = c.replace-disk_set.result in
-    let after = c.recover_bare_group-disk_set.result.0 in
-    let there = get_at sets s c.index_mut.result.now c.site_of-site.ensures.disk_set c.index_mut.ensures.value ∙ ap (λ e. Some e) (sym c.replace-disk_set.ensures.value) in
-    let twice = ap (λ e. slice_set (slice_set sets s e) s after) c.replace-disk_set.ensures.after ∙ set_twice sets s Gone after in
+    let before = c.index_mut.result.now in
+    let after = c.find_in-found.new.place in
+    let there = get_at sets s c.index_mut.result.now c.site_of-site.ensures.disk_set c.index_mut.ensures.value in
     let place = place_at d y c.args.name.now s stands seat in
     let site = bare_site d y c.args.name.now s before stands c.requires.kept seat there (ap (λ k. (d.world.nodes k).state) (sym place.number) ∙ nothing.bare) in
     let untold = nothing.untold before (ap (λ k. slice_get sets k) place.number ∙ there) in
     let same = c.note_up.ensures.same in
-    let here = ap (λ es. slice_get es.items s) same.disk_sets ∙ ap (λ es. slice_get es s) twice ∙ get-set_same sets s after (slice_get_within sets s before there) in
+    let here = ap (λ es. slice_get es.items s) same.disk_sets ∙ get-set_same sets s after (slice_get_within sets s before there) in
     found_done d y c.note_up.new.yard c.args.name.now s before after stands site
-    (record { there = there; later = c.recover_bare_group-disk_set.ensures.later; disk_sets = ap (λ es. es.items) same.disk_sets ∙ twice; racks = same.racks })
-    c.recover_bare_group-disk_set.ensures.failing
+    (record { there = there; later = c.find_in-found.ensures.later; disk_sets = ap (λ es. es.items) same.disk_sets; racks = same.racks })
+    c.find_in-found.ensures.failing
     (record { flight = same.flight; assemblies = ap (λ xs. xs.items) c.note_up.ensures.assemblies; feeders = ap (λ xs. xs.items) same.feeders })
     untold _ c.view_at.result
-    (subst (λ r. FindsIs s (d.world.nodes s) before after r) c.in-Ok.is (c.recover_bare_group-disk_set.ensures.found (beside_of d s) (d.world.nodes s) site.stood site.bare untold))
+    (subst (λ r. FindsIs s (d.world.nodes s) before after r) c.in-Ok.is (c.find_in-found.ensures.found (beside_of d s) (d.world.nodes s) site.stood site.bare untold))
     (λ x has.
     let facts = c.note_up.ensures.facts (linked_fact d.world s) x site.fact (record {
       disk_set = after;
-      there = ap (λ es. slice_get es s) twice ∙ get-set_same sets s after (slice_get_within sets s before there);
+      there = get-set_same sets s after (slice_get_within sets s before there);
       is = has;
     }) in
     let f : SiteFacts = group_up_facts (map plain_fact x.volumes) (linked_fact d.world s) in
@@ -79,17 +77,16 @@ returns-in-Err-clause-leads g c = λ d stands nothing.
     let s = c.site_of-site.result in
     let sets = y.disk_sets.items in
     let seat : seat_of y.facts.items c.args.name.now ≡ Some c.site_of-site.result = c.site_of-site.ensures.seat in
-    let before = c.replace-disk_set.result in
-    let after = c.recover_bare_group-disk_set.result.0 in
-    let there = get_at sets s c.index_mut.result.now c.site_of-site.ensures.disk_set c.index_mut.ensures.value ∙ ap (λ e. Some e) (sym c.replace-disk_set.ensures.value) in
-    let twice = ap (λ e. slice_set (slice_set sets s e) s after) c.replace-disk_set.ensures.after ∙ set_twice sets s Gone after in
+    let before = c.index_mut.result.now in
+    let after = c.find_in-found.new.place in
+    let there = get_at sets s c.index_mut.result.now c.site_of-site.ensures.disk_set c.index_mut.ensures.value in
     let place = place_at d y c.args.name.now s stands seat in
     let site = bare_site d y c.args.name.now s before stands c.requires.kept seat there (ap (λ k. (d.world.nodes k).state) (sym place.number) ∙ nothing.bare) in
     let untold = nothing.untold before (ap (λ k. slice_get sets k) place.number ∙ there) in
     found_none d y _ c.args.name.now s before after stands site
-    (record { there = there; later = c.recover_bare_group-disk_set.ensures.later; disk_sets = twice; racks = refl })
-    c.recover_bare_group-disk_set.ensures.failing (record { flight = refl; assemblies = refl; feeders = refl }) untold c.in-Err.stop c.stopped.result c.stopped.ensures
-    (subst (λ r. FindsIs s (d.world.nodes s) before after r) c.in-Err.is (c.recover_bare_group-disk_set.ensures.found (beside_of d s) (d.world.nodes s) site.stood site.bare untold))
+    (record { there = there; later = c.find_in-found.ensures.later; disk_sets = refl; racks = refl })
+    c.find_in-found.ensures.failing (record { flight = refl; assemblies = refl; feeders = refl }) untold c.in-Err.stop c.stopped.result c.stopped.ensures
+    (subst (λ r. FindsIs s (d.world.nodes s) before after r) c.in-Err.is (c.find_in-found.ensures.found (beside_of d s) (d.world.nodes s) site.stood site.bare untold))
     refl
 
 pub returns-in-Ok-clause-failing : goal.returns-in-Ok-clause-failing
@@ -97,11 +94,10 @@ returns-in-Ok-clause-failing g c = λ d stands.
     let y = c.args.yard.now in
     let s = c.site_of-site.result in
     let sets = y.disk_sets.items in
-    let before = c.replace-disk_set.result in
-    let after = c.recover_bare_group-disk_set.result.0 in
-    let there = get_at sets s c.index_mut.result.now c.site_of-site.ensures.disk_set c.index_mut.ensures.value ∙ ap (λ e. Some e) (sym c.replace-disk_set.ensures.value) in
-    let twice = ap (λ e. slice_set (slice_set sets s e) s after) c.replace-disk_set.ensures.after ∙ set_twice sets s Gone after in
-    asks_at SameFailing d y c.note_up.new.yard c.args.name.now s before after stands c.site_of-site.ensures.seat there (ap (λ es. es.items) c.note_up.ensures.same.disk_sets ∙ twice) c.recover_bare_group-disk_set.ensures.failing
+    let before = c.index_mut.result.now in
+    let after = c.find_in-found.new.place in
+    let there = get_at sets s c.index_mut.result.now c.site_of-site.ensures.disk_set c.index_mut.ensures.value in
+    asks_at SameFailing d y c.note_up.new.yard c.args.name.now s before after stands c.site_of-site.ensures.seat there (ap (λ es. es.items) c.note_up.ensures.same.disk_sets) c.find_in-found.ensures.failing
 
 pub returns-in-Ok-clause-asked : goal.returns-in-Ok-clause-asked
 returns-in-Ok-clause-asked g c = λ d stands nothing. bare_asks d c.args.name.now c.args.yard.now c.note_up.new.yard nothing.bare (returns-in-Ok-clause-failing g c d stands)
@@ -111,11 +107,10 @@ returns-in-Err-clause-failing g c = λ d stands.
     let y = c.args.yard.now in
     let s = c.site_of-site.result in
     let sets = y.disk_sets.items in
-    let before = c.replace-disk_set.result in
-    let after = c.recover_bare_group-disk_set.result.0 in
-    let there = get_at sets s c.index_mut.result.now c.site_of-site.ensures.disk_set c.index_mut.ensures.value ∙ ap (λ e. Some e) (sym c.replace-disk_set.ensures.value) in
-    let twice = ap (λ e. slice_set (slice_set sets s e) s after) c.replace-disk_set.ensures.after ∙ set_twice sets s Gone after in
-    asks_at SameFailing d y _ c.args.name.now s before after stands c.site_of-site.ensures.seat there twice c.recover_bare_group-disk_set.ensures.failing
+    let before = c.index_mut.result.now in
+    let after = c.find_in-found.new.place in
+    let there = get_at sets s c.index_mut.result.now c.site_of-site.ensures.disk_set c.index_mut.ensures.value in
+    asks_at SameFailing d y _ c.args.name.now s before after stands c.site_of-site.ensures.seat there refl c.find_in-found.ensures.failing
 
 pub returns-in-Err-clause-asked : goal.returns-in-Err-clause-asked
 returns-in-Err-clause-asked g c = λ d stands nothing. bare_asks d c.args.name.now c.args.yard.now _ nothing.bare (returns-in-Err-clause-failing g c d stands)
@@ -125,22 +120,20 @@ returns-in-Ok-clause-told g c = λ told.
     let y = c.args.yard.now in
     let s = c.site_of-site.result in
     let sets = y.disk_sets.items in
-    let before = c.replace-disk_set.result in
-    let after = c.recover_bare_group-disk_set.result.0 in
-    let there = get_at sets s c.index_mut.result.now c.site_of-site.ensures.disk_set c.index_mut.ensures.value ∙ ap (λ e. Some e) (sym c.replace-disk_set.ensures.value) in
-    let twice = ap (λ e. slice_set (slice_set sets s e) s after) c.replace-disk_set.ensures.after ∙ set_twice sets s Gone after in
-    told_before sets s before after there c.recover_bare_group-disk_set.ensures.later (subst (λ es. AreTold es) (ap (λ es. es.items) c.note_up.ensures.same.disk_sets ∙ twice) told)
+    let before = c.index_mut.result.now in
+    let after = c.find_in-found.new.place in
+    let there = get_at sets s c.index_mut.result.now c.site_of-site.ensures.disk_set c.index_mut.ensures.value in
+    told_before sets s before after there c.find_in-found.ensures.later (subst (λ es. AreTold es) (ap (λ es. es.items) c.note_up.ensures.same.disk_sets) told)
 
 pub returns-in-Err-clause-told : goal.returns-in-Err-clause-told
 returns-in-Err-clause-told g c = λ told.
     let y = c.args.yard.now in
     let s = c.site_of-site.result in
     let sets = y.disk_sets.items in
-    let before = c.replace-disk_set.result in
-    let after = c.recover_bare_group-disk_set.result.0 in
-    let there = get_at sets s c.index_mut.result.now c.site_of-site.ensures.disk_set c.index_mut.ensures.value ∙ ap (λ e. Some e) (sym c.replace-disk_set.ensures.value) in
-    let twice = ap (λ e. slice_set (slice_set sets s e) s after) c.replace-disk_set.ensures.after ∙ set_twice sets s Gone after in
-    told_before sets s before after there c.recover_bare_group-disk_set.ensures.later (subst (λ es. AreTold es) twice told)
+    let before = c.index_mut.result.now in
+    let after = c.find_in-found.new.place in
+    let there = get_at sets s c.index_mut.result.now c.site_of-site.ensures.disk_set c.index_mut.ensures.value in
+    told_before sets s before after there c.find_in-found.ensures.later told
 
 pub returns-in-Ok-clause-files : goal.returns-in-Ok-clause-files
 returns-in-Ok-clause-files g c = ap (λ o. is_some o) c.note_up.ensures.same.dir

@@ -1,9 +1,8 @@
 -- `stand_up`: how a group that came up stands, and what is kept.
-use Rattle.std.proofs.Common.{◌≡◌, ◌∙◌, ◌<◌, length, ap, sym, subst, refl}
-use Rattle.std.specs.Prelude.{Some, slice_get, slice_set, Ok, Err}
+use Rattle.std.proofs.Common.{◌<◌, length, ap, sym, subst, refl}
+use Rattle.std.specs.Prelude.{Some, Ok, Err}
 use Rattle.vx_diskset.specs.Recovers.{LooksAt}
-use Rattle.vx_diskset.specs.declared.disk_set.DiskSet.TheVariants.{Gone}
-use Rattle.vx_yard.proofs.Lists.{get-set_same, get_at, set_twice}
+use Rattle.vx_yard.proofs.Lists.{get-set_same, get_at}
 use Rattle.vx_group_lines.proofs.GroupShown.{config_at, small_set}
 use Rattle.vx_group_lines.proofs.Recovering.{so_down, so_up, stood_by}
 use Rattle.vx_group_lines.proofs.recover.stand_up.Goals as goal
@@ -25,16 +24,14 @@ returns-in-Ok g c =
     let ds = mid.disk_sets.items in
     let low : s < length ds = subst (λ es. s < length es.items) (sym c.note_up.ensures.same.disk_sets) c.requires.disk_set in
     let at = get_at ds s c.index_mut.result.now low c.index_mut.ensures.value in
-    let before = c.replace-disk_set.result in
-    let after = c.look_at_cut-disk_set.result.0 in
-    let there : slice_get ds s ≡ Some before = at ∙ ap (λ x. Some x) (sym c.replace-disk_set.ensures.value) in
-    let put = ap (λ x. slice_set (slice_set ds s x) s after) c.replace-disk_set.ensures.after ∙ set_twice ds s Gone after in
+    let before = c.index_mut.result.now in
+    let after = c.look_in-looked.new.place in
     record {
       stood =
-          stood_by s c.args.cut y mid _ before after (Ok c.in-Ok.kept) _ c.note_up.ensures.same there put
-          (λ n note up. subst (λ r. LooksAt n note c.args.cut before after r) c.in-Ok.is (c.look_at_cut-disk_set.ensures.looks n note up)) (λ n note up. c.look_at_cut-disk_set.ensures.maps n note up) c.look_at_cut-disk_set.ensures.failing c.look_at_cut-disk_set.ensures.later refl refl refl refl
-          (so_up s y mid _ before after c.in-Ok.kept c.shown_if-kept.result c.view_at.result c.index.result.now c.note_up.ensures.same there refl refl c.note_up.ensures.assemblies
-          (ap (λ es. slice_get es s) put ∙ get-set_same ds s after low) (get_at mid.facts.items s c.index.result.now (subst (λ k. s < k) (sym c.note_up.ensures.many) c.requires.facts) c.index.ensures) c.shown_if-kept.ensures c.note_up.ensures.facts c.view_at.ensures.up);
+          stood_by s c.args.cut y mid _ before after (Ok c.in-Ok.kept) _ c.note_up.ensures.same at refl
+          (λ n note up. subst (λ r. LooksAt n note c.args.cut before after r) c.in-Ok.is (c.look_in-looked.ensures.looks n note up)) (λ n note up. c.look_in-looked.ensures.maps n note up) c.look_in-looked.ensures.failing c.look_in-looked.ensures.later refl refl refl refl
+          (so_up s y mid _ before after c.in-Ok.kept c.shown_if-kept.result c.view_at.result c.index.result.now c.note_up.ensures.same at refl refl c.note_up.ensures.assemblies
+          (get-set_same ds s after low) (get_at mid.facts.items s c.index.result.now (subst (λ k. s < k) (sym c.note_up.ensures.many) c.requires.facts) c.index.ensures) c.shown_if-kept.ensures c.note_up.ensures.facts c.view_at.ensures.up);
     }
 
 pub returns-in-Err : goal.returns-in-Err
@@ -45,14 +42,12 @@ returns-in-Err g c =
     let ds = mid.disk_sets.items in
     let low : s < length ds = subst (λ es. s < length es.items) (sym c.note_up.ensures.same.disk_sets) c.requires.disk_set in
     let at = get_at ds s c.index_mut.result.now low c.index_mut.ensures.value in
-    let before = c.replace-disk_set.result in
-    let after = c.look_at_cut-disk_set.result.0 in
-    let there : slice_get ds s ≡ Some before = at ∙ ap (λ x. Some x) (sym c.replace-disk_set.ensures.value) in
-    let put = ap (λ x. slice_set (slice_set ds s x) s after) c.replace-disk_set.ensures.after ∙ set_twice ds s Gone after in
+    let before = c.index_mut.result.now in
+    let after = c.look_in-looked.new.place in
     let same = c.fall_again.ensures.same in
     record {
       stood =
-          stood_by s c.args.cut y mid c.fall_again.new.yard before after (Err c.in-Err.stop) c.fall_again.result c.note_up.ensures.same there (ap (λ es. es.items) same.disk_sets ∙ put)
-          (λ n note up. subst (λ r. LooksAt n note c.args.cut before after r) c.in-Err.is (c.look_at_cut-disk_set.ensures.looks n note up)) (λ n note up. c.look_at_cut-disk_set.ensures.maps n note up) c.look_at_cut-disk_set.ensures.failing c.look_at_cut-disk_set.ensures.later same.racks same.flight same.feeders same.dir
-          (so_down s y mid mid c.fall_again.new.yard before after c.in-Err.stop c.fall_again.result c.note_up.ensures.same there refl refl c.note_up.ensures.assemblies c.note_up.ensures.facts c.fall_again.ensures.facts c.fall_again.ensures.assemblies c.fall_again.ensures.said);
+          stood_by s c.args.cut y mid c.fall_again.new.yard before after (Err c.in-Err.stop) c.fall_again.result c.note_up.ensures.same at (ap (λ es. es.items) same.disk_sets)
+          (λ n note up. subst (λ r. LooksAt n note c.args.cut before after r) c.in-Err.is (c.look_in-looked.ensures.looks n note up)) (λ n note up. c.look_in-looked.ensures.maps n note up) c.look_in-looked.ensures.failing c.look_in-looked.ensures.later same.racks same.flight same.feeders same.dir
+          (so_down s y mid mid c.fall_again.new.yard before after c.in-Err.stop c.fall_again.result c.note_up.ensures.same at refl refl c.note_up.ensures.assemblies c.note_up.ensures.facts c.fall_again.ensures.facts c.fall_again.ensures.assemblies c.fall_again.ensures.said);
     }

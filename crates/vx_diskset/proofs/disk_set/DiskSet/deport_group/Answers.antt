@@ -2,7 +2,7 @@
 use Rattle.std.proofs.Common.{ap, refl, subst, sym}
 use Rattle.vx_grouped.specs.GroupSites.{UpNoted}
 use Rattle.vx_grouped.specs.SiteEnds.{SiteDeported}
-use Rattle.vx_diskset.specs.Asked.{FuseGoesOn, SameFailing}
+use Rattle.vx_diskset.specs.Asked.{FuseGoesOn}
 use Rattle.vx_diskset.proofs.KeepsFailing.{failing_same}
 use Rattle.vx_diskset.specs.GroupCalls.{CalledOn, cut_in}
 use Rattle.vx_diskset.specs.declared.disk_set.DiskSet.TheVariants.{OfGroup}

@@ -1,0 +1,33 @@
+-- `init_in`: each clause is that of the call on the disk set that was taken out.
+use Rattle.std.proofs.Common.{◌≡◌, ◌<◌, ◌≤◌}
+use Rattle.std.specs.Prelude.{IfErr}
+use Rattle.vx_history.specs.World.{Node}
+use Rattle.vx_model.specs.declared.limits.TheConstants.{LEAST_GROUP_BLOCKS}
+use Rattle.vx_model.specs.declared.site.SiteState.TheVariants.{Bare as IsBare}
+use Rattle.vx_diskset.specs.Asked.{SameFailing}
+use Rattle.vx_diskset.specs.DiskSets.{Later}
+use Rattle.vx_diskset.specs.GroupCalls.{InitIs}
+use Rattle.vx_diskset.specs.Holds.{KeptBeside}
+use Rattle.vx_diskset.specs.Stands.{SiteStands}
+use Rattle.vx_diskset.proofs.InPlaces.{in_place}
+use Rattle.vx_group_lines.proofs.places.init_in.Goals as goal
+
+pub returns-clause-begun : goal.returns-clause-begun
+returns-clause-begun g c =
+    in_place (λ o e. (beside : KeptBeside) (n : Node) → SiteStands beside n o → n.state ≡ IsBare → 0 < n.disks → LEAST_GROUP_BLOCKS ≤ n.blocks → InitIs c.args.site n o e c.init_group-disk_set.result.1)
+    c.args.place.now c.replace-disk_set.result c.init_group-disk_set.result.0 c.put_back.new.place c.replace-disk_set.ensures.value c.put_back.ensures c.init_group-disk_set.ensures.begun
+
+pub returns-clause-stays : goal.returns-clause-stays
+returns-clause-stays g c =
+    in_place (λ o e. (beside : KeptBeside) (n : Node) → SiteStands beside n o → n.state ≡ IsBare → 0 < n.disks → LEAST_GROUP_BLOCKS ≤ n.blocks → IfErr c.init_group-disk_set.result.1 (λ stop. SiteStands beside n e))
+    c.args.place.now c.replace-disk_set.result c.init_group-disk_set.result.0 c.put_back.new.place c.replace-disk_set.ensures.value c.put_back.ensures c.init_group-disk_set.ensures.stays
+
+pub returns-clause-failing : goal.returns-clause-failing
+returns-clause-failing g c =
+    in_place (λ o e. SameFailing o e)
+    c.args.place.now c.replace-disk_set.result c.init_group-disk_set.result.0 c.put_back.new.place c.replace-disk_set.ensures.value c.put_back.ensures c.init_group-disk_set.ensures.failing
+
+pub returns-clause-later : goal.returns-clause-later
+returns-clause-later g c =
+    in_place (λ o e. Later o e)
+    c.args.place.now c.replace-disk_set.result c.init_group-disk_set.result.0 c.put_back.new.place c.replace-disk_set.ensures.value c.put_back.ensures c.init_group-disk_set.ensures.later
