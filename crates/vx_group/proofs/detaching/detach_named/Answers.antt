@@ -1,5 +1,5 @@
--- `detach_named`: clauses stands, narrows, off, cause, sure, others, parts and 10 more; what `commit_stale` asks.
-use Rattle.std.proofs.Common.{inl, inr, false, true, length, ap, ◌∙◌, refl, sym, subst, Err, arith}
+-- `detach_named`: its clauses; what `commit_stale` asks.
+use Rattle.std.proofs.Common.{◌≡◌, inl, inr, false, true, length, ap, ◌∙◌, refl, sym, subst, Err, arith}
 use Rattle.vx_disk.specs.declared.shelf.ShelfError.{ShelfError}
 use Rattle.vx_kept.specs.States.{staled}
 use Rattle.vx_kept.proofs.StateLemmas.{is_staled}
@@ -191,3 +191,54 @@ returns-else-is_down-2-clause-logs g c = volumes_logs c.args.core.now.config c.c
 
 pub returns-else-is_down-clause-room : goal.returns-else-is_down-clause-room
 returns-else-is_down-clause-room g c = let later = c.in-Ok.ensures.ends.later in let top = c.commit_stale.ensures.can.serial in let was = (is_staled c.args.vol c.args.failed.set 8 c.args.core.now.config).serial in omega (arith, later, top, was)
+
+pub returns-then-is_down-clause-cause : goal.returns-then-is_down-clause-cause
+returns-then-is_down-clause-cause g c = sym c.is_down.ensures ∙ c.if-is_down.true
+
+pub returns-then-is_down-clause-sure : goal.returns-then-is_down-clause-sure
+returns-then-is_down-clause-sure g c = λ less. sym c.is_down.ensures ∙ c.if-is_down.true
+
+pub returns-then-is_down-clause-good : goal.returns-then-is_down-clause-good
+returns-then-is_down-clause-good g c = λ un. absurd (let clash : false ≡ true = sym c.requires.settled ∙ un in cc)
+
+pub returns-then-is_down-clause-missed : goal.returns-then-is_down-clause-missed
+returns-then-is_down-clause-missed g c = inr (sym c.is_down.ensures ∙ c.if-is_down.true)
+
+pub returns-else-is_down-clause-settled : goal.returns-else-is_down-clause-settled
+returns-else-is_down-clause-settled g c = c.requires.settled
+
+pub returns-else-is_down-clause-good : goal.returns-else-is_down-clause-good
+returns-else-is_down-clause-good g c = λ un. absurd (let clash : false ≡ true = sym c.requires.settled ∙ un in cc)
+
+pub returns-else-is_down-clause-cause : goal.returns-else-is_down-clause-cause
+returns-else-is_down-clause-cause g c = not_down c.is_down.result (g.S.Shelf.meaning c.commit_stale.new.shelf).down c.is_down.ensures c.if-is_down.false
+
+pub returns-else-is_down-clause-sure : goal.returns-else-is_down-clause-sure
+returns-else-is_down-clause-sure g c = λ less. not_down c.is_down.result (g.S.Shelf.meaning c.commit_stale.new.shelf).down c.is_down.ensures c.if-is_down.false
+
+pub returns-else-is_down-clause-named : goal.returns-else-is_down-clause-named
+returns-else-is_down-clause-named g c = c.in-Ok.ensures.named
+
+pub returns-then-is_down-2-clause-cause : goal.returns-then-is_down-2-clause-cause
+returns-then-is_down-2-clause-cause g c = sym c.is_down-in-Err.ensures ∙ c.if-is_down-2.true
+
+pub returns-then-is_down-2-clause-sure : goal.returns-then-is_down-2-clause-sure
+returns-then-is_down-2-clause-sure g c = λ less. sym c.is_down-in-Err.ensures ∙ c.if-is_down-2.true
+
+pub returns-then-is_down-2-clause-good : goal.returns-then-is_down-2-clause-good
+returns-then-is_down-2-clause-good g c = λ un. refl
+
+pub returns-then-is_down-2-clause-missed : goal.returns-then-is_down-2-clause-missed
+returns-then-is_down-2-clause-missed g c = inl refl
+
+pub returns-then-is_down-2-clause-agreed : goal.returns-then-is_down-2-clause-agreed
+returns-then-is_down-2-clause-agreed g c = λ is. is
+
+pub returns-else-is_down-2-clause-good : goal.returns-else-is_down-2-clause-good
+returns-else-is_down-2-clause-good g c = λ un. refl
+
+pub returns-else-is_down-2-clause-missed : goal.returns-else-is_down-2-clause-missed
+returns-else-is_down-2-clause-missed g c = inl refl
+
+pub returns-else-is_down-2-clause-agreed : goal.returns-else-is_down-2-clause-agreed
+returns-else-is_down-2-clause-agreed g c = λ is. is
