@@ -1,8 +1,9 @@
--- `take_back`: clauses attaches, off and failing; what `detach` asks; that each place lies within.
+-- `take_back`: its clauses; what `settle_headers` and `detach` ask; that each place lies within.
 use Rattle.std.proofs.Common.{◌∙◌, inl, inr, refl, sym}
 use Rattle.vx_volume.proofs.PlaceLemmas.{active_few}
 use Rattle.vx_kept.proofs.Chosen.{active_volumes}
 use Rattle.vx_group.proofs.AttachLemmas.{narrows_attaches, other_left, then_attaches}
+use Rattle.vx_group.proofs.CallLemmas.{not_down}
 use Rattle.vx_group.proofs.DetLemmas.{bit_here, bit_only, left_volumes, on_volumes, one_on}
 use Rattle.vx_group.proofs.SourcesLemmas.{no_attaches}
 use Rattle.vx_group.proofs.FailingLemmas.{no_failing, then_failing}
@@ -106,3 +107,39 @@ returns-in-Ok-detach-clause-missed g c = λ was. inr c.in-Ok-detach.ensures.comm
 
 pub returns-in-Err-detach-clause-missed : goal.returns-in-Err-detach-clause-missed
 returns-in-Err-detach-clause-missed g c = λ was. inl c.in-Err-detach.ensures.missed
+
+pub settle_headers-requires-clause-stands : goal.settle_headers-requires-clause-stands
+settle_headers-requires-clause-stands g c = c.requires.stands
+
+pub settle_headers-requires-clause-up : goal.settle_headers-requires-clause-up
+settle_headers-requires-clause-up g c = not_down c.is_down.result (g.S.Shelf.meaning c.args.shelf.now).down c.is_down.ensures c.if-is_down.false
+
+pub detach-requires-clause-stands : goal.detach-requires-clause-stands
+detach-requires-clause-stands g c = c.settle_headers.ensures.stands
+
+pub detach-requires-clause-settled : goal.detach-requires-clause-settled
+detach-requires-clause-settled g c = c.in-Ok.ensures.settled
+
+pub returns-then-is_down-clause-stands : goal.returns-then-is_down-clause-stands
+returns-then-is_down-clause-stands g c = c.requires.stands
+
+pub returns-then-is_down-clause-off : goal.returns-then-is_down-clause-off
+returns-then-is_down-clause-off g c = inr (inr (sym c.is_down.ensures ∙ c.if-is_down.true))
+
+pub returns-in-Err-clause-stands : goal.returns-in-Err-clause-stands
+returns-in-Err-clause-stands g c = c.settle_headers.ensures.stands
+
+pub returns-in-Err-clause-off : goal.returns-in-Err-clause-off
+returns-in-Err-clause-off g c = inr (inl c.in-Err.ensures.missed)
+
+pub returns-in-Err-clause-failing : goal.returns-in-Err-clause-failing
+returns-in-Err-clause-failing g c = c.settle_headers.ensures.failing
+
+pub returns-in-Ok-detach-clause-stands : goal.returns-in-Ok-detach-clause-stands
+returns-in-Ok-detach-clause-stands g c = c.detach.ensures.stands
+
+pub returns-in-Err-detach-clause-stands : goal.returns-in-Err-detach-clause-stands
+returns-in-Err-detach-clause-stands g c = c.detach.ensures.stands
+
+pub returns-in-Err-detach-clause-off : goal.returns-in-Err-detach-clause-off
+returns-in-Err-detach-clause-off g c = inr c.in-Err-detach.ensures.missed
