@@ -1,5 +1,5 @@
 -- `det_alone`: its clauses; what `detach_plex` asks.
-use Rattle.std.proofs.Common.{inr, refl, subst, sym, tt, ◌∙◌}
+use Rattle.std.proofs.Common.{inr, refl, subst, sym, ◌∙◌}
 use Rattle.vx_disk.specs.Causes.{DeviceCause}
 use Rattle.vx_disk.specs.Shelf.{Nothing}
 use Rattle.vx_disk.proofs.Runs.{same_Goes}

@@ -46,3 +46,24 @@ pub returns-clause-keeps : goal.returns-clause-keeps
 returns-clause-keeps g c =
     stay_keeps c.args.core.now c.att_in.new.core c.args.logs.now.items c.args.logs.now.items (g.S.Shelf.meaning c.args.shelf.now) (g.S.Shelf.meaning c.att_in.new.shelf)
     (stays_same c.args.core.now.inner.config c.att_in.new.core.inner.config c.args.logs.now.items (g.S.Shelf.meaning c.args.shelf.now) (g.S.Shelf.meaning c.att_in.new.shelf) (shape_places c.args.core.now.inner.config c.att_in.new.core.inner.config c.att_in.ensures.attaches.shape) c.att_in.ensures.regains.blamed c.att_in.ensures.logs)
+
+pub returns-clause-refused : goal.returns-clause-refused
+returns-clause-refused g c = c.att_in.ensures.refused
+
+pub returns-clause-already : goal.returns-clause-already
+returns-clause-already g c = c.att_in.ensures.already
+
+pub returns-clause-ends : goal.returns-clause-ends
+returns-clause-ends g c = c.att_in.ensures.ends
+
+pub returns-clause-regains : goal.returns-clause-regains
+returns-clause-regains g c = c.att_in.ensures.regains
+
+pub returns-clause-held : goal.returns-clause-held
+returns-clause-held g c = c.att_in.ensures.held
+
+pub returns-clause-trust : goal.returns-clause-trust
+returns-clause-trust g c = c.att_in.ensures.trust
+
+pub returns-clause-cause : goal.returns-clause-cause
+returns-clause-cause g c = c.att_in.ensures.cause
