@@ -1,11 +1,12 @@
 -- `flush_group`: clauses goes, loses, cause, stands, ok, gave_up, clear and acts.
+use Rattle.vx_disk.proofs.Runs.{same_Goes}
 use Rattle.std.proofs.Common.{◌∙◌, ℕ, List, refl, ap, subst, arith, ◌≤◌, sym}
 use Rattle.vx_disk.specs.Shelf.{Flushed, Meaning, Nothing}
 use Rattle.vx_group.specs.Blames.{CountsRise}
 use Rattle.vx_group.specs.Holding.{wide}
-use Rattle.vx_group.specs.Stands.{volume_faults}
+use Rattle.vx_group.specs.Stands.{volume_faults, inner_meaning}
 use Rattle.vx_group.proofs.CallLemmas.{cause_by, counts_less, narrows_Goes, not_down, nothing_Flushed}
-use Rattle.vx_group.proofs.LoseLemmas.{loses_none}
+use Rattle.vx_group.proofs.LoseLemmas.{loses_none, loses_same}
 use Rattle.vx_group.proofs.RegainLemmas.{all_holds}
 use Rattle.vx_group.proofs.ThroughLemmas.{again_none, new_Stands, new_wide, released_goes, through_cause, through_gives, through_goes, through_loses, through_ok, by_volumes}
 use Rattle.vx_group.proofs.TrustLemmas.{ok_from}
@@ -135,3 +136,51 @@ pub returns-clause-ready : goal.returns-clause-ready
 returns-clause-ready g c =
     ok_from c.flush_in-result.result (λ ready. subst (λ (i : Inner). MissesNone i) (sym
     (new_wide c.args.core.now c.release.new.core (record { inner = c.flush_in-result.new.core; held = c.open_held-held.new.core.held }) c.close_held.new.core c.open_held-held.new.core.inner (g.S.Shelf.meaning c.args.shelf.now) (g.S.Shelf.meaning c.release.new.shelf) (g.S.Shelf.meaning c.flush_in-result.new.shelf) c.requires.stands c.release.ensures.stands c.release.ensures.narrows c.release.ensures.volumes c.open_held-held.result c.open_held-held.ensures.held c.open_held-held.ensures.inner c.open_held-held.ensures.none c.close_held.ensures)) ready) c.flush_in-result.ensures.ready
+
+pub returns-then-is_down-clause-stands : goal.returns-then-is_down-clause-stands
+returns-then-is_down-clause-stands g c = c.requires.stands
+
+pub returns-then-is_down-clause-goes : goal.returns-then-is_down-clause-goes
+returns-then-is_down-clause-goes g c = same_Goes Nothing (inner_meaning (wide c.args.core.now) (g.S.Shelf.meaning c.args.shelf.now))
+
+pub returns-then-is_down-clause-ok : goal.returns-then-is_down-clause-ok
+returns-then-is_down-clause-ok g c = tt
+
+pub returns-then-is_down-clause-ready : goal.returns-then-is_down-clause-ready
+returns-then-is_down-clause-ready g c = tt
+
+pub returns-then-is_down-clause-gave_up : goal.returns-then-is_down-clause-gave_up
+returns-then-is_down-clause-gave_up g c = tt
+
+pub returns-then-is_down-clause-loses : goal.returns-then-is_down-clause-loses
+returns-then-is_down-clause-loses g c = loses_same c.args.core.now.inner.config (g.S.Shelf.meaning c.args.shelf.now) (g.S.Shelf.meaning c.args.shelf.now)
+
+pub returns-then-is_down-clause-clear : goal.returns-then-is_down-clause-clear
+returns-then-is_down-clause-clear g c = λ what. tt
+
+pub returns-then-is_down-clause-trust : goal.returns-then-is_down-clause-trust
+returns-then-is_down-clause-trust g c = tt
+
+pub returns-then-is_down-clause-agreed : goal.returns-then-is_down-clause-agreed
+returns-then-is_down-clause-agreed g c = c.requires.stands.stands.trusts.both
+
+pub returns-then-is_down-clause-marks : goal.returns-then-is_down-clause-marks
+returns-then-is_down-clause-marks g c = refl
+
+pub returns-then-is_down-clause-cause : goal.returns-then-is_down-clause-cause
+returns-then-is_down-clause-cause g c = sym c.is_down.ensures ∙ c.if-is_down.true
+
+pub returns-in-Err-clause-ok : goal.returns-in-Err-clause-ok
+returns-in-Err-clause-ok g c = tt
+
+pub returns-in-Err-clause-ready : goal.returns-in-Err-clause-ready
+returns-in-Err-clause-ready g c = tt
+
+pub returns-in-Err-clause-trust : goal.returns-in-Err-clause-trust
+returns-in-Err-clause-trust g c = tt
+
+pub returns-in-Err-clause-clear : goal.returns-in-Err-clause-clear
+returns-in-Err-clause-clear g c = λ less. tt
+
+pub returns-in-Err-clause-agreed : goal.returns-in-Err-clause-agreed
+returns-in-Err-clause-agreed g c = c.in-Err.ensures.agreed

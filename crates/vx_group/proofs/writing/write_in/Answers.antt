@@ -1,5 +1,5 @@
 -- `write_in`: clauses goes, cause, ok, marks, gave_up, loses, trust and 3 more.
-use Rattle.std.proofs.Common.{refl, ◌/◌, ◌∙◌, ℕ, Bool, List, length, ap, subst, Err, arith}
+use Rattle.std.proofs.Common.{refl, ◌/◌, ◌∙◌, ℕ, Bool, List, length, ap, subst, Err, arith, sym}
 use Rattle.vx_disk.specs.Shelf.{Written}
 use Rattle.vx_disk.proofs.Runs.{none_written, nothing_then}
 use Rattle.vx_group.specs.Blames.{CountsRise, MarksUnsure}
@@ -142,3 +142,48 @@ returns-in-Ok-write_plexes-clause-ready g c = c.in-Ok-write_plexes.ensures.ready
 
 pub returns-in-Err-write_plexes-clause-ready : goal.returns-in-Err-write_plexes-clause-ready
 returns-in-Err-write_plexes-clause-ready g c = tt
+
+pub returns-then-is_down-clause-stands : goal.returns-then-is_down-clause-stands
+returns-then-is_down-clause-stands g c = c.requires.stands
+
+pub returns-then-is_down-clause-ok : goal.returns-then-is_down-clause-ok
+returns-then-is_down-clause-ok g c = tt
+
+pub returns-then-is_down-clause-gave_up : goal.returns-then-is_down-clause-gave_up
+returns-then-is_down-clause-gave_up g c = tt
+
+pub returns-then-is_down-clause-trust : goal.returns-then-is_down-clause-trust
+returns-then-is_down-clause-trust g c = tt
+
+pub returns-then-is_down-clause-cause : goal.returns-then-is_down-clause-cause
+returns-then-is_down-clause-cause g c = sym c.is_down.ensures ∙ c.if-is_down.true
+
+pub returns-then-is_down-clause-unit_faults : goal.returns-then-is_down-clause-unit_faults
+returns-then-is_down-clause-unit_faults g c = λ u. omega arith
+
+pub returns-then-is_down-clause-marks : goal.returns-then-is_down-clause-marks
+returns-then-is_down-clause-marks g c = refl
+
+pub returns-in-Err-clause-ok : goal.returns-in-Err-clause-ok
+returns-in-Err-clause-ok g c = tt
+
+pub returns-in-Err-clause-trust : goal.returns-in-Err-clause-trust
+returns-in-Err-clause-trust g c = tt
+
+pub returns-in-Err-write_plexes-clause-ok : goal.returns-in-Err-write_plexes-clause-ok
+returns-in-Err-write_plexes-clause-ok g c = tt
+
+pub returns-in-Err-write_plexes-clause-trust : goal.returns-in-Err-write_plexes-clause-trust
+returns-in-Err-write_plexes-clause-trust g c = tt
+
+pub returns-in-Err-clause-agreed : goal.returns-in-Err-clause-agreed
+returns-in-Err-clause-agreed g c = c.in-Err.ensures.agreed
+
+pub returns-in-Ok-write_plexes-clause-stands : goal.returns-in-Ok-write_plexes-clause-stands
+returns-in-Ok-write_plexes-clause-stands g c = c.write_plexes.ensures.stands
+
+pub returns-in-Ok-write_plexes-clause-gave_up : goal.returns-in-Ok-write_plexes-clause-gave_up
+returns-in-Ok-write_plexes-clause-gave_up g c = tt
+
+pub returns-in-Ok-write_plexes-clause-agreed : goal.returns-in-Ok-write_plexes-clause-agreed
+returns-in-Ok-write_plexes-clause-agreed g c = tt
