@@ -242,3 +242,81 @@ returns-else-is_down-2-clause-missed g c = inl refl
 
 pub returns-else-is_down-2-clause-agreed : goal.returns-else-is_down-2-clause-agreed
 returns-else-is_down-2-clause-agreed g c = λ is. is
+
+pub returns-then-is_down-clause-off : goal.returns-then-is_down-clause-off
+returns-then-is_down-clause-off g c = tt
+
+pub returns-then-is_down-clause-settled : goal.returns-then-is_down-clause-settled
+returns-then-is_down-clause-settled g c = tt
+
+pub returns-then-is_down-clause-few : goal.returns-then-is_down-clause-few
+returns-then-is_down-clause-few g c = tt
+
+pub returns-then-is_down-clause-room : goal.returns-then-is_down-clause-room
+returns-then-is_down-clause-room g c = tt
+
+pub returns-then-is_down-clause-trust : goal.returns-then-is_down-clause-trust
+returns-then-is_down-clause-trust g c = tt
+
+pub returns-then-is_down-clause-whole : goal.returns-then-is_down-clause-whole
+returns-then-is_down-clause-whole g c = tt
+
+pub returns-then-is_down-clause-committed : goal.returns-then-is_down-clause-committed
+returns-then-is_down-clause-committed g c = tt
+
+pub returns-then-is_down-clause-named : goal.returns-then-is_down-clause-named
+returns-then-is_down-clause-named g c = tt
+
+pub returns-then-is_down-2-clause-off : goal.returns-then-is_down-2-clause-off
+returns-then-is_down-2-clause-off g c = tt
+
+pub returns-then-is_down-2-clause-settled : goal.returns-then-is_down-2-clause-settled
+returns-then-is_down-2-clause-settled g c = tt
+
+pub returns-then-is_down-2-clause-few : goal.returns-then-is_down-2-clause-few
+returns-then-is_down-2-clause-few g c = tt
+
+pub returns-then-is_down-2-clause-room : goal.returns-then-is_down-2-clause-room
+returns-then-is_down-2-clause-room g c = tt
+
+pub returns-then-is_down-2-clause-trust : goal.returns-then-is_down-2-clause-trust
+returns-then-is_down-2-clause-trust g c = tt
+
+pub returns-then-is_down-2-clause-whole : goal.returns-then-is_down-2-clause-whole
+returns-then-is_down-2-clause-whole g c = tt
+
+pub returns-then-is_down-2-clause-committed : goal.returns-then-is_down-2-clause-committed
+returns-then-is_down-2-clause-committed g c = tt
+
+pub returns-then-is_down-2-clause-named : goal.returns-then-is_down-2-clause-named
+returns-then-is_down-2-clause-named g c = tt
+
+pub returns-else-is_down-2-clause-off : goal.returns-else-is_down-2-clause-off
+returns-else-is_down-2-clause-off g c = tt
+
+pub returns-else-is_down-2-clause-settled : goal.returns-else-is_down-2-clause-settled
+returns-else-is_down-2-clause-settled g c = tt
+
+pub returns-else-is_down-2-clause-few : goal.returns-else-is_down-2-clause-few
+returns-else-is_down-2-clause-few g c = tt
+
+pub returns-else-is_down-2-clause-room : goal.returns-else-is_down-2-clause-room
+returns-else-is_down-2-clause-room g c = tt
+
+pub returns-else-is_down-2-clause-trust : goal.returns-else-is_down-2-clause-trust
+returns-else-is_down-2-clause-trust g c = tt
+
+pub returns-else-is_down-2-clause-whole : goal.returns-else-is_down-2-clause-whole
+returns-else-is_down-2-clause-whole g c = tt
+
+pub returns-else-is_down-2-clause-committed : goal.returns-else-is_down-2-clause-committed
+returns-else-is_down-2-clause-committed g c = tt
+
+pub returns-else-is_down-2-clause-named : goal.returns-else-is_down-2-clause-named
+returns-else-is_down-2-clause-named g c = tt
+
+pub returns-else-is_down-clause-missed : goal.returns-else-is_down-clause-missed
+returns-else-is_down-clause-missed g c = tt
+
+pub returns-else-is_down-clause-agreed : goal.returns-else-is_down-clause-agreed
+returns-else-is_down-clause-agreed g c = tt

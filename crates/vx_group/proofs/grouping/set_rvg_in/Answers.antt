@@ -90,3 +90,30 @@ returns-clause-disks g c = subst (λ (k : GroupCore). MoreFailed (g.S.Shelf.mean
 
 pub returns-clause-ends : goal.returns-clause-ends
 returns-clause-ends g c = subst (λ (k : GroupCore). RvgEnds c.args.units.now k.inner.config c.name_rvg.new.core.inner.config (g.S.Shelf.meaning c.name_rvg.new.shelf) c.name_rvg.result) (same_core c.args.core.now c.may_name.new.config c.may_name.ensures.same) c.name_rvg.ensures.ends
+
+pub returns-then-core-clause-stands : goal.returns-then-core-clause-stands
+returns-then-core-clause-stands g c = c.requires.stands
+
+pub returns-then-core-clause-volumes : goal.returns-then-core-clause-volumes
+returns-then-core-clause-volumes g c = refl
+
+pub returns-then-core-clause-site : goal.returns-then-core-clause-site
+returns-then-core-clause-site g c = refl
+
+pub returns-then-core-clause-trust : goal.returns-then-core-clause-trust
+returns-then-core-clause-trust g c = tt
+
+pub returns-then-core-clause-whole : goal.returns-then-core-clause-whole
+returns-then-core-clause-whole g c = tt
+
+pub returns-then-core-clause-agreed : goal.returns-then-core-clause-agreed
+returns-then-core-clause-agreed g c = c.requires.stands.stands.trusts.both
+
+pub returns-then-not-may_name-clause-trust : goal.returns-then-not-may_name-clause-trust
+returns-then-not-may_name-clause-trust g c = tt
+
+pub returns-then-not-may_name-clause-whole : goal.returns-then-not-may_name-clause-whole
+returns-then-not-may_name-clause-whole g c = tt
+
+pub returns-clause-stands : goal.returns-clause-stands
+returns-clause-stands g c = c.name_rvg.ensures.stands

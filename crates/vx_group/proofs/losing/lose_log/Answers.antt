@@ -84,3 +84,48 @@ returns-clause-logs g c =
 
 pub returns-clause-few : goal.returns-clause-few
 returns-clause-few g c = few_nine c.lose_settled.result c.args.core.now.config.serial c.settle_headers.new.core.config.serial c.lose_settled.new.core.config.serial (length c.settle_headers.new.core.config.disks) c.lose_settled.ensures.few c.settle_headers.ensures.serial c.as_slice-disks.ensures.few
+
+pub returns-clause-stands : goal.returns-clause-stands
+returns-clause-stands g c = c.lose_settled.ensures.stands
+
+pub returns-clause-lost : goal.returns-clause-lost
+returns-clause-lost g c = c.lose_settled.ensures.lost
+
+pub returns-clause-settled : goal.returns-clause-settled
+returns-clause-settled g c = c.lose_settled.ensures.settled
+
+pub returns-clause-missed : goal.returns-clause-missed
+returns-clause-missed g c = c.lose_settled.ensures.missed
+
+pub returns-clause-committed : goal.returns-clause-committed
+returns-clause-committed g c = c.lose_settled.ensures.committed
+
+pub returns-in-Err-clause-stands : goal.returns-in-Err-clause-stands
+returns-in-Err-clause-stands g c = c.settle_headers.ensures.stands
+
+pub returns-in-Err-clause-narrows : goal.returns-in-Err-clause-narrows
+returns-in-Err-clause-narrows g c = c.settle_headers.ensures.narrows
+
+pub returns-in-Err-clause-lost : goal.returns-in-Err-clause-lost
+returns-in-Err-clause-lost g c = tt
+
+pub returns-in-Err-clause-settled : goal.returns-in-Err-clause-settled
+returns-in-Err-clause-settled g c = tt
+
+pub returns-in-Err-clause-few : goal.returns-in-Err-clause-few
+returns-in-Err-clause-few g c = tt
+
+pub returns-in-Err-clause-failing : goal.returns-in-Err-clause-failing
+returns-in-Err-clause-failing g c = c.settle_headers.ensures.failing
+
+pub returns-in-Err-clause-trust : goal.returns-in-Err-clause-trust
+returns-in-Err-clause-trust g c = tt
+
+pub returns-in-Err-clause-committed : goal.returns-in-Err-clause-committed
+returns-in-Err-clause-committed g c = tt
+
+pub returns-in-Err-clause-finds : goal.returns-in-Err-clause-finds
+returns-in-Err-clause-finds g c = c.settle_headers.ensures.finds
+
+pub returns-in-Err-clause-cause : goal.returns-in-Err-clause-cause
+returns-in-Err-clause-cause g c = c.in-Err.ensures.cause
