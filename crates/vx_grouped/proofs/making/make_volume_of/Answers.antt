@@ -90,3 +90,39 @@ returns-else-is_down-clause-maps g c = λ was now. (
       stay_left c.args.group.now.core.inner.config c.make_volume.new.self.core.inner.config c.args.group.now.logs.items c.make_volume.new.self.logs.items c.args.group.now.alike c.make_volume.new.self.alike c.args.group.now.stopped c.make_volume.new.self.stopped
       c.make_volume.ensures.left c.make_volume.ensures.flags c.make_volume.ensures.stopped (ap (λ x. x.inner.config) same.0)) c.in-Err.ensures.unmoved,
 )
+
+pub returns-in-Ok-clause-trust : goal.returns-in-Ok-clause-trust
+returns-in-Ok-clause-trust g c = c.in-Ok.ensures.trust
+
+pub returns-in-Ok-clause-agreed : goal.returns-in-Ok-clause-agreed
+returns-in-Ok-clause-agreed g c = tt
+
+pub returns-in-Ok-clause-parts : goal.returns-in-Ok-clause-parts
+returns-in-Ok-clause-parts g c = c.make_volume.ensures.parts
+
+pub returns-in-Ok-clause-disks : goal.returns-in-Ok-clause-disks
+returns-in-Ok-clause-disks g c = c.make_volume.ensures.disks
+
+pub returns-else-is_down-clause-trust : goal.returns-else-is_down-clause-trust
+returns-else-is_down-clause-trust g c = tt
+
+pub returns-else-is_down-clause-agreed : goal.returns-else-is_down-clause-agreed
+returns-else-is_down-clause-agreed g c = c.in-Err.ensures.agreed
+
+pub returns-else-is_down-clause-parts : goal.returns-else-is_down-clause-parts
+returns-else-is_down-clause-parts g c = c.make_volume.ensures.parts
+
+pub returns-else-is_down-clause-disks : goal.returns-else-is_down-clause-disks
+returns-else-is_down-clause-disks g c = c.make_volume.ensures.disks
+
+pub returns-then-is_down-clause-trust : goal.returns-then-is_down-clause-trust
+returns-then-is_down-clause-trust g c = tt
+
+pub returns-then-is_down-clause-agreed : goal.returns-then-is_down-clause-agreed
+returns-then-is_down-clause-agreed g c = c.in-Err.ensures.agreed
+
+pub returns-then-is_down-clause-parts : goal.returns-then-is_down-clause-parts
+returns-then-is_down-clause-parts g c = c.make_volume.ensures.parts
+
+pub returns-then-is_down-clause-disks : goal.returns-then-is_down-clause-disks
+returns-then-is_down-clause-disks g c = c.make_volume.ensures.disks

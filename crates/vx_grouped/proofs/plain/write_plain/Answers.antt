@@ -100,3 +100,21 @@ returns-in-Err-flush_run-clause-maps g c =
     c.flush_run.ensures.goes.falls c.flush_run.ensures.loses.parts.later c.write.ensures.full c.write.ensures.keeps c.flush_run.ensures.keeps c.write.ensures.comes c.flush_run.ensures.comes
     c.flush_run.ensures.gone c.write.ensures.rests c.in-Ok.ensures.free c.flush_run.ensures.rests c.flush_run.ensures.flags c.in-Ok.ensures.alike
     c.in-Ok.ensures.moves (λ going. c.in-Err-flush_run.ensures.moves going (let some = c.requires.fits.some in let whole = c.requires.fits.whole in omega (arith, some, whole)))
+
+pub returns-in-Err-clause-loses : goal.returns-in-Err-clause-loses
+returns-in-Err-clause-loses g c = c.write.ensures.loses
+
+pub returns-in-Err-clause-trust : goal.returns-in-Err-clause-trust
+returns-in-Err-clause-trust g c = tt
+
+pub returns-in-Err-clause-agreed : goal.returns-in-Err-clause-agreed
+returns-in-Err-clause-agreed g c = c.in-Err.ensures.agreed
+
+pub returns-in-Err-flush_run-clause-trust : goal.returns-in-Err-flush_run-clause-trust
+returns-in-Err-flush_run-clause-trust g c = tt
+
+pub returns-in-Ok-flush_run-clause-agreed : goal.returns-in-Ok-flush_run-clause-agreed
+returns-in-Ok-flush_run-clause-agreed g c = tt
+
+pub returns-in-Ok-flush_run-clause-cause : goal.returns-in-Ok-flush_run-clause-cause
+returns-in-Ok-flush_run-clause-cause g c = tt
