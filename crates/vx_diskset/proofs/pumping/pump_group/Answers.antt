@@ -1,5 +1,7 @@
 -- A pump of a link, over the group of its site.
-use Rattle.std.proofs.Common.{◌∙◌, arith, sym, subst}
+use Rattle.vx_diskset.specs.declared.disk_set.DiskSet.TheVariants.{Up}
+use Rattle.vx_diskset.proofs.KeepsFailing.{alone_same}
+use Rattle.std.proofs.Common.{◌∙◌, arith, sym, subst, refl}
 use Rattle.vx_rvg.specs.Views.{Core}
 use Rattle.vx_diskset.specs.Stands.{IsUpAt}
 use Rattle.vx_diskset.proofs.MakeGroup.{fuse_untouched}
@@ -35,3 +37,45 @@ returns-clause-stands g c = λ beside n up.
     subst (λ (k : Core). IsUpAt beside n k new) (sym c.pump.ensures.core)
     (reads_up n c.args.rvg.now.core old new (sym up.halted ∙ sym c.in_default.ensures) up (lawful c.args.rvg.now.shelf) (lawful c.pump.new.rvg.shelf) c.args.rvg.now.sound.log_unit c.pump.ensures.goes c.pump.ensures.down
     (fuse_untouched n.fuse old new c.pump.ensures.disks (is_rack c.args.rvg.now.shelf) (is_rack c.pump.new.rvg.shelf) up.fuse))
+
+pub returns-in-Some-clause-link : goal.returns-in-Some-clause-link
+returns-in-Some-clause-link g c = refl
+
+pub returns-in-Some-clause-unsent : goal.returns-in-Some-clause-unsent
+returns-in-Some-clause-unsent g c = refl
+
+pub returns-in-Some-clause-rule : goal.returns-in-Some-clause-rule
+returns-in-Some-clause-rule g c = tt
+
+pub returns-in-Some-clause-more : goal.returns-in-Some-clause-more
+returns-in-Some-clause-more g c = λ beside n up. tt
+
+pub returns-in-Some-clause-stands : goal.returns-in-Some-clause-stands
+returns-in-Some-clause-stands g c = λ beside n up. up
+
+pub returns-in-Some-clause-still : goal.returns-in-Some-clause-still
+returns-in-Some-clause-still g c = alone_same (Up c.args.rvg.now)
+
+pub returns-in-Some-clause-later : goal.returns-in-Some-clause-later
+returns-in-Some-clause-later g c = record { counts = λ d. omega arith; told = λ told. told }
+
+pub returns-then-low-link-clause-link : goal.returns-then-low-link-clause-link
+returns-then-low-link-clause-link g c = refl
+
+pub returns-then-low-link-clause-unsent : goal.returns-then-low-link-clause-unsent
+returns-then-low-link-clause-unsent g c = refl
+
+pub returns-then-low-link-clause-rule : goal.returns-then-low-link-clause-rule
+returns-then-low-link-clause-rule g c = tt
+
+pub returns-then-low-link-clause-more : goal.returns-then-low-link-clause-more
+returns-then-low-link-clause-more g c = λ beside n up. tt
+
+pub returns-then-low-link-clause-stands : goal.returns-then-low-link-clause-stands
+returns-then-low-link-clause-stands g c = λ beside n up. up
+
+pub returns-then-low-link-clause-still : goal.returns-then-low-link-clause-still
+returns-then-low-link-clause-still g c = alone_same (Up c.args.rvg.now)
+
+pub returns-then-low-link-clause-later : goal.returns-then-low-link-clause-later
+returns-then-low-link-clause-later g c = record { counts = λ d. omega arith; told = λ told. told }

@@ -1,5 +1,5 @@
 -- Room in the log, case by case.
-use Rattle.std.proofs.Common.{◌≤◌, ◌∙◌, ℕ, ap, arith}
+use Rattle.std.proofs.Common.{◌≤◌, ◌∙◌, ℕ, ap, arith, refl}
 use Rattle.vx_model.specs.declared.limits.TheConstants.{MOST_CALL_BLOCKS}
 use Rattle.std.specs.Prelude.{Err, Ok, min}
 use Rattle.std.proofs.lemmas.Result.{err_from_is_err_and}
@@ -130,3 +130,30 @@ pub returns-in_err-reclaim_group-clause-blames : goal.returns-in_err-reclaim_gro
 returns-in_err-reclaim_group-clause-blames g c =
     let p = err_from_is_err_and c.from_residual-in_err-reclaim_group.result c.from_residual-in_err-reclaim_group.ensures.1 in
     rw (p.1, p.2) (blamed_since c.args.rvg.now.core.units c.apply_group.new.rvg.core.units c.in_err-reclaim_group.field-0.0 c.apply_group.ensures.units c.in_err-reclaim_group.ensures.blames)
+
+pub returns-in_err-apply_group-clause-units : goal.returns-in_err-apply_group-clause-units
+returns-in_err-apply_group-clause-units g c = c.apply_group.ensures.units
+
+pub returns-in_err-reclaim_group-clause-units : goal.returns-in_err-reclaim_group-clause-units
+returns-in_err-reclaim_group-clause-units g c = c.reclaim_group.ensures.units ∙ c.apply_group.ensures.units
+
+pub returns-then-free-count-2-clause-units : goal.returns-then-free-count-2-clause-units
+returns-then-free-count-2-clause-units g c = c.reclaim_group.ensures.units ∙ c.apply_group.ensures.units
+
+pub returns-else-free-count-2-clause-units : goal.returns-else-free-count-2-clause-units
+returns-else-free-count-2-clause-units g c = c.reclaim_group.ensures.units ∙ c.apply_group.ensures.units
+
+pub returns-then-free-count-clause-units : goal.returns-then-free-count-clause-units
+returns-then-free-count-clause-units g c = refl
+
+pub returns-then-free-count-clause-blames : goal.returns-then-free-count-clause-blames
+returns-then-free-count-clause-blames g c = tt
+
+pub returns-then-free-count-2-clause-blames : goal.returns-then-free-count-2-clause-blames
+returns-then-free-count-2-clause-blames g c = tt
+
+pub returns-then-free-count-clause-later : goal.returns-then-free-count-clause-later
+returns-then-free-count-clause-later g c = record { counts = λ d. omega arith; told = λ told. told }
+
+pub returns-in_err-apply_group-clause-later : goal.returns-in_err-apply_group-clause-later
+returns-in_err-apply_group-clause-later g c = c.apply_group.ensures.later
