@@ -280,7 +280,7 @@ pub returns-clause-gives_up : goal.returns-clause-gives_up
 returns-clause-gives_up g c = faults_before c.args.vol c.args.core.now.inner.config c.mark_group.new.core.inner.config (g.S.Shelf.meaning c.args.shelf.now) (g.S.Shelf.meaning c.mark_group.new.shelf) (c.mark_group.ensures.loses.loses.lies c.args.vol) (c.mark_group.ensures.still c.args.vol) c.mark_group.ensures.loses.rises c.write_group-2.new.core.inner (g.S.Shelf.meaning c.write_group-2.new.shelf) c.write_group-2.result (gives_faults c.args.vol c.mark_group.new.core.inner c.write_group-2.new.core.inner (g.S.Shelf.meaning c.mark_group.new.shelf) (g.S.Shelf.meaning c.write_group-2.new.shelf) c.write_group-2.result c.write_group-2.ensures.gave_up)
 
 pub returns-clause-stands : goal.returns-clause-stands
-returns-clause-stands g c = c.write_group.ensures.stands
+returns-clause-stands g c = c.write_group-2.ensures.stands
 
 pub returns-in-Err-clause-stands : goal.returns-in-Err-clause-stands
 returns-in-Err-clause-stands g c = c.mark_group.ensures.stands

@@ -260,7 +260,7 @@ pub returns-then-core-clause-may : goal.returns-then-core-clause-may
 returns-then-core-clause-may g c = λ none. none
 
 pub returns-then-core-clause-refused : goal.returns-then-core-clause-refused
-returns-then-core-clause-refused g c = λ no is. (tt, refl, refl, refl)
+returns-then-core-clause-refused g c = λ no is. (refl, refl, refl, refl)
 
 pub returns-then-is_some-clause-stands : goal.returns-then-is_some-clause-stands
 returns-then-is_some-clause-stands g c = c.requires.stands
@@ -281,7 +281,7 @@ pub returns-then-is_some-clause-may : goal.returns-then-is_some-clause-may
 returns-then-is_some-clause-may g c = λ none. none
 
 pub returns-then-is_some-clause-refused : goal.returns-then-is_some-clause-refused
-returns-then-is_some-clause-refused g c = λ no is. (tt, refl, refl, refl)
+returns-then-is_some-clause-refused g c = λ no is. (refl, refl, refl, refl)
 
 pub returns-then-not-is_active-clause-stands : goal.returns-then-not-is_active-clause-stands
 returns-then-not-is_active-clause-stands g c = c.requires.stands
@@ -302,7 +302,7 @@ pub returns-then-not-is_active-clause-may : goal.returns-then-not-is_active-clau
 returns-then-not-is_active-clause-may g c = λ none. none
 
 pub returns-then-not-is_active-clause-refused : goal.returns-then-not-is_active-clause-refused
-returns-then-not-is_active-clause-refused g c = λ no is. (tt, refl, refl, refl)
+returns-then-not-is_active-clause-refused g c = λ no is. (refl, refl, refl, refl)
 
 pub returns-then-not-takes_fresh-clause-stands : goal.returns-then-not-takes_fresh-clause-stands
 returns-then-not-takes_fresh-clause-stands g c = c.requires.stands
@@ -320,7 +320,7 @@ pub returns-then-not-takes_fresh-clause-may : goal.returns-then-not-takes_fresh-
 returns-then-not-takes_fresh-clause-may g c = λ none. none
 
 pub returns-then-not-takes_fresh-clause-refused : goal.returns-then-not-takes_fresh-clause-refused
-returns-then-not-takes_fresh-clause-refused g c = λ no is. (tt, refl, refl, refl)
+returns-then-not-takes_fresh-clause-refused g c = λ no is. (refl, refl, refl, refl)
 
 pub returns-in-Ok-clause-goes : goal.returns-in-Ok-clause-goes
 returns-in-Ok-clause-goes g c = c.begin_first.ensures.begins.goes
