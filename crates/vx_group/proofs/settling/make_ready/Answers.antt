@@ -7,6 +7,10 @@ use Rattle.vx_group.proofs.LoseLemmas.{but_parts, then_parts, none_parts}
 use Rattle.vx_group.proofs.Standing.{some_active}
 use Rattle.vx_group.proofs.TrustLemmas.{err_from, ok_from}
 use Rattle.vx_group.proofs.FindingLemmas.{behind_finds, none_finds}
+use Rattle.vx_kept.specs.Commits.{Member}
+use Rattle.vx_kept.specs.Keeping.{Sees}
+use Rattle.vx_kept.proofs.StateLemmas.{same_shape}
+use Rattle.vx_kept.proofs.Steps.{same_Acts}
 use Rattle.vx_group.proofs.settling.make_ready.Goals as goal
 
 pub detach-requires-clause-left : goal.detach-requires-clause-left
@@ -174,3 +178,9 @@ returns-in-Err-clause-cause g c = c.in-Err.ensures.cause
 
 pub returns-clause-stands : goal.returns-clause-stands
 returns-clause-stands g c = c.detach.ensures.stands
+
+pub returns-then-core-ge-MOST_NUMBER-clause-narrows : goal.returns-then-core-ge-MOST_NUMBER-clause-narrows
+returns-then-core-ge-MOST_NUMBER-clause-narrows g c = record { acts = same_Acts (Sees c.args.core.now.config (Member c.args.core.now.good (g.S.Shelf.meaning c.args.shelf.now)) (g.S.Shelf.meaning c.args.shelf.now)) (g.S.Shelf.meaning c.args.shelf.now); shape = same_shape c.args.core.now.config; on = λ v p is. is; faults = refl; unsure = refl }
+
+pub returns-then-not-core-clause-narrows : goal.returns-then-not-core-clause-narrows
+returns-then-not-core-clause-narrows g c = record { acts = same_Acts (Sees c.args.core.now.config (Member c.args.core.now.good (g.S.Shelf.meaning c.args.shelf.now)) (g.S.Shelf.meaning c.args.shelf.now)) (g.S.Shelf.meaning c.args.shelf.now); shape = same_shape c.args.core.now.config; on = λ v p is. is; faults = refl; unsure = refl }

@@ -1,4 +1,5 @@
 -- `trust_group`: its clauses, over a group of which no plex is held back; what `trust_log` asks.
+use Rattle.vx_group.proofs.CallLemmas.{not_down}
 use Rattle.std.proofs.Common.{false, refl, sym, subst, ◌∙◌, arith, true, ◌≡◌}
 use Rattle.vx_config.specs.Changes.{lost}
 use Rattle.vx_disk.specs.Shelf.{Goes, Nothing}
@@ -238,3 +239,6 @@ returns-in-Ok-clause-committed g c = λ is. c.in-Ok.ensures.committed
 
 pub returns-in-Ok-clause-cause : goal.returns-in-Ok-clause-cause
 returns-in-Ok-clause-cause g c = c.in-Ok.ensures.cause
+
+pub returns-then-core-ge-MOST_NUMBER-clause-cause : goal.returns-then-core-ge-MOST_NUMBER-clause-cause
+returns-then-core-ge-MOST_NUMBER-clause-cause g c = not_down c.is_down.result (g.S.Shelf.meaning c.args.shelf.now).down c.is_down.ensures c.if-is_down.false

@@ -187,3 +187,15 @@ returns-in-Ok-write_plexes-clause-gave_up g c = tt
 
 pub returns-in-Ok-write_plexes-clause-agreed : goal.returns-in-Ok-write_plexes-clause-agreed
 returns-in-Ok-write_plexes-clause-agreed g c = tt
+
+pub returns-in-Err-clause-stands : goal.returns-in-Err-clause-stands
+returns-in-Err-clause-stands g c = let s = c.make_ready.ensures.stands in record { wanted = s.wanted; serial = s.serial; disks = s.disks; rvg = s.rvg; few = s.few; small = s.small; large = s.large; on = s.on; some = s.some; kept = s.kept; tidy = s.tidy; trusts = s.trusts }
+
+pub returns-in-Err-write_plexes-clause-stands : goal.returns-in-Err-write_plexes-clause-stands
+returns-in-Err-write_plexes-clause-stands g c = let s = c.write_plexes.ensures.stands in record { wanted = s.wanted; serial = s.serial; disks = s.disks; rvg = s.rvg; few = s.few; small = s.small; large = s.large; on = s.on; some = s.some; kept = s.kept; tidy = s.tidy; trusts = s.trusts }
+
+pub returns-in-Ok-write_plexes-clause-cause : goal.returns-in-Ok-write_plexes-clause-cause
+returns-in-Ok-write_plexes-clause-cause g c = record { before = not_down c.is_down.result (g.S.Shelf.meaning c.args.shelf.now).down c.is_down.ensures c.if-is_down.false; after = c.in-Ok-write_plexes.ensures.cause }
+
+pub returns-in-Ok-write_plexes-clause-marks : goal.returns-in-Ok-write_plexes-clause-marks
+returns-in-Ok-write_plexes-clause-marks g c = c.write_plexes.ensures.unsure ∙ c.make_ready.ensures.narrows.unsure
