@@ -1,5 +1,5 @@
 -- `make_in`: clauses stays, beside, unmoved, ends and stands; what `plan` and `add` ask.
-use Rattle.std.specs.Prelude.{Some}
+use Rattle.std.specs.Prelude.{None, Some}
 use Rattle.std.proofs.Common.{◌≡◌, inl, ℕ, List, length, Err, refl, ap, sym, ◌∙◌, subst, arith}
 use Rattle.vx_config.specs.declared.entry.DiskEntry.{DiskEntry}
 use Rattle.vx_disk.specs.Moves.{Anything}
