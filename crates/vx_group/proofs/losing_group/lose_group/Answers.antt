@@ -19,7 +19,7 @@ use Rattle.vx_group.proofs.ThroughLemmas.{new_Stands, new_wide, released_goes, t
 use Rattle.vx_group.proofs.FindingLemmas.{still_group, as_finds}
 use Rattle.vx_group.proofs.FoundThrough.{through_finds}
 use Rattle.vx_group.proofs.TrustStillLemmas.{same_logs, still_but, through_but}
-use Rattle.vx_group.proofs.TrustLemmas.{ok_from}
+use Rattle.vx_group.proofs.TrustLemmas.{ok_from, err_from}
 use Rattle.vx_group.proofs.UnsureLemmas.{misses_by, through_marks, through_misses, unsure_then}
 use Rattle.vx_group.proofs.losing_group.lose_group.Goals as goal
 
@@ -192,3 +192,9 @@ returns-in-Err-clause-agreed g c = c.in-Err.ensures.agreed
 
 pub returns-in-Err-clause-stands : goal.returns-in-Err-clause-stands
 returns-in-Err-clause-stands g c = let it = c.release.ensures.stands in let s = it.stands in record { stands = record { wanted = s.wanted; serial = s.serial; disks = s.disks; rvg = s.rvg; few = s.few; small = s.small; large = s.large; on = s.on; some = s.some; kept = s.kept; tidy = s.tidy; trusts = s.trusts }; held = it.held }
+
+pub returns-clause-trust : goal.returns-clause-trust
+returns-clause-trust g c = ok_from c.lose_in-result.result (λ keeps is. ap (λ (i : Inner). i.committed) (new_wide c.args.core.now c.release.new.core (record { inner = c.lose_in-result.new.core; held = c.open_held-held.new.core.held }) c.close_held.new.core c.open_held-held.new.core.inner (g.S.Shelf.meaning c.args.shelf.now) (g.S.Shelf.meaning c.release.new.shelf) (g.S.Shelf.meaning c.lose_in-result.new.shelf) c.requires.stands c.release.ensures.stands c.release.ensures.narrows c.release.ensures.volumes c.open_held-held.result c.open_held-held.ensures.held c.open_held-held.ensures.inner c.open_held-held.ensures.none c.close_held.ensures) ∙ keeps (ap (λ (i : Inner). i.committed) c.open_held-held.ensures.inner ∙ c.in-Ok.ensures.trust is)) c.lose_in-result.ensures.trust
+
+pub returns-clause-agreed : goal.returns-clause-agreed
+returns-clause-agreed g c = err_from c.lose_in-result.result (λ keeps is. ap (λ (i : Inner). i.agreed) (new_wide c.args.core.now c.release.new.core (record { inner = c.lose_in-result.new.core; held = c.open_held-held.new.core.held }) c.close_held.new.core c.open_held-held.new.core.inner (g.S.Shelf.meaning c.args.shelf.now) (g.S.Shelf.meaning c.release.new.shelf) (g.S.Shelf.meaning c.lose_in-result.new.shelf) c.requires.stands c.release.ensures.stands c.release.ensures.narrows c.release.ensures.volumes c.open_held-held.result c.open_held-held.ensures.held c.open_held-held.ensures.inner c.open_held-held.ensures.none c.close_held.ensures) ∙ keeps (ap (λ (i : Inner). i.committed) c.open_held-held.ensures.inner ∙ c.in-Ok.ensures.trust is)) c.lose_in-result.ensures.agreed
