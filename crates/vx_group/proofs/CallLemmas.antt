@@ -11,7 +11,7 @@ use Rattle.vx_config.specs.declared.config.Config.{Config}
 use Rattle.vx_volume.specs.Plexes.{active}
 use Rattle.vx_model.specs.declared.no.No.{No}
 use Rattle.vx_model.specs.declared.no.No.TheVariants as refusal
-use Rattle.vx_volume.specs.Volumes.{AllBut, EndsAt}
+use Rattle.vx_volume.specs.Volumes.{AllBut, EndsAt, PlexCause}
 use Rattle.vx_kept.specs.Commits.{Member}
 use Rattle.vx_kept.specs.Groups.{group_meaning}
 use Rattle.vx_kept.specs.Keeping.{Acts, Kept, IsTidy, Sees}
@@ -48,6 +48,11 @@ pub blames_later : {T : Type 0} (r : Result T ShelfError) (old mid new : Meaning
 blames_later (Ok x) old mid new before up = up
 blames_later (Err (Fault d)) old mid new before why = (Rose_before (old.disk_faults d) (mid.disk_faults d) (new.disk_faults d) (before d) why.0, why.1)
 blames_later (Err Down) old mid new before down = down
+
+-- a plex that failed
+pub plex_blames : (T : Type 0) (c : Config) (v p : ℕ) (old new : Meaning) (error : ShelfError) → PlexCause {T = T} c v p old new (Err error) → Blames {T = T} old new (Err error)
+plex_blames T c v p old new (Fault disk) why = (why.1, why.2)
+plex_blames T c v p old new Down down = down
 
 pub counts_less : (error : ShelfError) (v : ℕ) (old new : ℕ → ℕ) → CountsRise error v old new → (u : ℕ) → old u ≤ new u
 counts_less (Fault d) v old new raised u = raised.no_less u

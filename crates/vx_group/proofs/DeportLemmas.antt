@@ -2,6 +2,7 @@
 use Rattle.std.proofs.Common.{◌≡◌, inl, inr, ℕ, ◌<◌, ◌≤◌, true, false, IsTrue, length, Result, Ok, Err, refl, ap, sym, ◌∙◌, arith}
 use Rattle.std.proofs.lemmas.Bool.{both_ways, cases_lt, false_from_ne_true}
 use Rattle.std.proofs.lemmas.Option.{slice_get_past}
+use Rattle.vx_disk.specs.Causes.{DeviceCause, refusal_of}
 use Rattle.vx_disk.specs.Shelf.{Meaning, Nothing}
 use Rattle.vx_disk.specs.declared.shelf.ShelfError.{ShelfError}
 use Rattle.vx_disk.specs.declared.shelf.ShelfError.TheVariants.{Fault, Down}
@@ -160,6 +161,10 @@ stops_later (Err Down) old mid new before down = down
 pub blames_stop : (old new : Meaning) (e : ShelfError) → Blames {T = Unit {0}} old new (Err e) → StopsByDevice {T = Unit {0}} old new (Err e)
 blames_stop old new (Fault d) why = why
 blames_stop old new Down down = down
+
+pub stops_cause : (T : Type 0) (old new : Meaning) (e : ShelfError) → StopsByDevice {T = T} old new (Err e) → DeviceCause old new (refusal_of e)
+stops_cause T old new (Fault d) why = why.0
+stops_cause T old new Down down = down
 
 -- ---- what is answered for want of serials
 

@@ -24,7 +24,7 @@ use Rattle.vx_kept.proofs.RunLemmas.{logs_volumes}
 use Rattle.vx_layout.specs.Places.{plex_at, plex_in}
 use Rattle.vx_maplog.specs.Logs.{log_of, used_or}
 use Rattle.vx_volume.specs.Plexes.{active, active_or}
-use Rattle.vx_group.specs.Blames.{Blames}
+use Rattle.vx_group.specs.Blames.{Blames, BlamesOr}
 use Rattle.vx_group.specs.GivesUp.{KeepsVolumes}
 use Rattle.vx_group.specs.Moves.{Narrows}
 use Rattle.vx_group.specs.Stands.{InnerStands}
@@ -94,3 +94,11 @@ if_ok_from (Err error) f is = tt
 pub error_to : (T U : Type 0) (error : ShelfError) (m m' : Meaning) → Blames {T = T} m m' (Err error) → Blames {T = U} m m' (Err error)
 error_to T U (Fault disk) m m' why = why
 error_to T U Down m m' why = why
+
+pub or_to : (T U : Type 0) (device : ℕ) (error : ShelfError) (m m' : Meaning) → BlamesOr {T = T} device m m' (Err error) → BlamesOr {T = U} device m m' (Err error)
+or_to T U device (Fault disk) m m' why = why
+or_to T U device Down m m' why = why
+
+pub keeps_to : (T U : Type 0) (c d : Config) (error : ShelfError) → KeepsVolumes {T = T} c d (Err error) → KeepsVolumes {T = U} c d (Err error)
+keeps_to T U c d (Fault disk) same = same
+keeps_to T U c d Down none = tt

@@ -1,5 +1,5 @@
 // The racks of the disk sets, as they come back.
-ghost use Rattle.std.specs.Prelude.{◌≡◌, ◌≤◌, ◌<◌, ◌++◌, [], map, vec_len};
+ghost use Rattle.std.specs.Prelude.{◌≡◌, ◌≤◌, ◌<◌, ◌++◌, ◌∷◌, [], map, vec_len};
 ghost use Rattle.std.specs.Vec.{vec_capacity};
 ghost use Rattle.vx_untold.specs.Shades.{rack_of};
 ghost use Rattle.vx_yard.specs.Racks.{rack_in, racks_in, site_rack};
@@ -76,7 +76,15 @@ pub fn take_racks<R: Rack>(racks: Vec<R>, disk_sets: Vec<DiskSet<R>>) -> Vec<R>
     racks
 }
 
-/// Fills an empty list, which has room for them, with an disk set for each of these racks, in order. The emptied list of the
+// Adds a disk set for a rack.
+fn put_rack<R: Rack>(disk_sets: &mut Vec<DiskSet<R>>, rack: R)
+    ensures items { vec_len disk_sets.old < vec_capacity disk_sets.old → disk_sets.new.items ≡ disk_sets.old.items ++ DiskSet.Bare rack ∷ [] }
+    ensures room { vec_capacity disk_sets.old ≤ vec_capacity disk_sets.new }
+{
+    let _ = disk_sets.push(DiskSet::Bare(rack));
+}
+
+/// Fills an empty list, which has room for them, with a disk set for each of these racks, in order. The emptied list of the
 /// racks keeps its room.
 pub fn put_racks<R: Rack>(racks: Vec<R>, disk_sets: Vec<DiskSet<R>>) -> (Vec<R>, Vec<DiskSet<R>>)
     ensures disk_sets { disk_sets.items ≡ [] → vec_len racks ≤ vec_capacity disk_sets → result.1.items ≡ map (λ r. DiskSet.Bare r) racks.items }
@@ -87,7 +95,7 @@ pub fn put_racks<R: Rack>(racks: Vec<R>, disk_sets: Vec<DiskSet<R>>) -> (Vec<R>,
     let mut disk_sets = disk_sets;
     racks.reverse();
     while let Some(rack) = racks.pop() {
-        let _ = disk_sets.push(DiskSet::Bare(rack));
+        put_rack(&mut disk_sets, rack);
     }
     (racks, disk_sets)
 }

@@ -1,5 +1,5 @@
 -- A pump of a link, over the group of its site.
-use Rattle.std.proofs.Common.{◌∙◌, arith, sym, subst}
+use Rattle.std.proofs.Common.{◌∙◌, arith, sym, subst, refl}
 use Rattle.vx_rvg.specs.Views.{Core}
 use Rattle.vx_diskset.specs.Stands.{IsUpAt}
 use Rattle.vx_diskset.proofs.MakeGroup.{fuse_untouched}
@@ -34,3 +34,21 @@ returns-clause-stands g c = λ beside n up.
     subst (λ (k : Core). IsUpAt beside n k new) (sym c.pump.ensures.core)
     (reads_up n c.args.rvg.now.core old new (sym up.halted ∙ sym c.in_default.ensures) up (lawful c.args.rvg.now.shelf) (lawful c.pump.new.rvg.shelf) c.args.rvg.now.sound.log_unit c.pump.ensures.goes c.pump.ensures.down
     (fuse_untouched n.fuse old new c.pump.ensures.disks c.pump.ensures.goes.unarmed up.fuse))
+
+pub returns-in-Some-clause-link : goal.returns-in-Some-clause-link
+returns-in-Some-clause-link g c = refl
+
+pub returns-in-Some-clause-unsent : goal.returns-in-Some-clause-unsent
+returns-in-Some-clause-unsent g c = refl
+
+pub returns-in-Some-clause-rule : goal.returns-in-Some-clause-rule
+returns-in-Some-clause-rule g c = tt
+
+pub returns-then-low-link-clause-link : goal.returns-then-low-link-clause-link
+returns-then-low-link-clause-link g c = refl
+
+pub returns-then-low-link-clause-unsent : goal.returns-then-low-link-clause-unsent
+returns-then-low-link-clause-unsent g c = refl
+
+pub returns-then-low-link-clause-rule : goal.returns-then-low-link-clause-rule
+returns-then-low-link-clause-rule g c = tt

@@ -1,5 +1,5 @@
 -- Room in the log, case by case.
-use Rattle.std.proofs.Common.{◌≤◌, ◌∙◌, ℕ, ap, arith}
+use Rattle.std.proofs.Common.{◌≤◌, ◌∙◌, ℕ, ap, arith, refl}
 use Rattle.vx_model.specs.declared.limits.TheConstants.{MOST_CALL_BLOCKS}
 use Rattle.std.specs.Prelude.{Err, Ok, min}
 use Rattle.std.proofs.lemmas.Result.{err_from_is_err_and}
@@ -146,3 +146,18 @@ returns-then-free-count-2-clause-moves g c = then_moves c.args.rvg.now.core c.ap
 
 pub returns-else-free-count-2-clause-moves : goal.returns-else-free-count-2-clause-moves
 returns-else-free-count-2-clause-moves g c = then_moves c.args.rvg.now.core c.apply_group.new.rvg.core (g.S.Shelf.meaning c.args.rvg.now.shelf) (g.S.Shelf.meaning c.apply_group.new.rvg.shelf) (g.S.Shelf.meaning c.reclaim_group.new.rvg.shelf) c.apply_group.ensures.units c.apply_group.ensures.moves c.reclaim_group.ensures.moves
+
+pub returns-in_err-apply_group-clause-units : goal.returns-in_err-apply_group-clause-units
+returns-in_err-apply_group-clause-units g c = c.apply_group.ensures.units
+
+pub returns-in_err-reclaim_group-clause-units : goal.returns-in_err-reclaim_group-clause-units
+returns-in_err-reclaim_group-clause-units g c = c.reclaim_group.ensures.units ∙ c.apply_group.ensures.units
+
+pub returns-then-free-count-2-clause-units : goal.returns-then-free-count-2-clause-units
+returns-then-free-count-2-clause-units g c = c.reclaim_group.ensures.units ∙ c.apply_group.ensures.units
+
+pub returns-else-free-count-2-clause-units : goal.returns-else-free-count-2-clause-units
+returns-else-free-count-2-clause-units g c = c.reclaim_group.ensures.units ∙ c.apply_group.ensures.units
+
+pub returns-then-free-count-clause-units : goal.returns-then-free-count-clause-units
+returns-then-free-count-clause-units g c = refl

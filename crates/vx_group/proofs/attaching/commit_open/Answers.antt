@@ -1,5 +1,5 @@
 -- `commit_open`: clauses attaches, failing and cause; what `detach` asks.
-use Rattle.std.proofs.Common.{ℕ, None, refl}
+use Rattle.std.proofs.Common.{ℕ, None, refl, ◌∙◌, sym}
 use Rattle.vx_group.proofs.AttachLemmas.{narrows_attaches, no_bit, then_attaches}
 use Rattle.vx_group.proofs.DetachLemmas.{zero_bit}
 use Rattle.vx_group.proofs.CallLemmas.{not_down}
@@ -88,3 +88,54 @@ returns-then-is_down-clause-settles g c = ends_kept c.detach.new.core c.take_bac
 
 pub returns-else-is_down-clause-settles : goal.returns-else-is_down-clause-settles
 returns-else-is_down-clause-settles g c = ends_kept c.detach.new.core c.take_back.new.core (g.S.Shelf.meaning c.args.shelf.now) (g.S.Shelf.meaning c.detach.new.shelf) (g.S.Shelf.meaning c.take_back.new.shelf) c.detach.ensures.settles c.take_back.ensures.settles
+
+pub detach-requires-clause-stands : goal.detach-requires-clause-stands
+detach-requires-clause-stands g c = c.requires.stands
+
+pub detach-requires-clause-settled : goal.detach-requires-clause-settled
+detach-requires-clause-settled g c = c.requires.settled
+
+pub detach-requires-clause-those : goal.detach-requires-clause-those
+detach-requires-clause-those g c = record { each = λ p bit. absurd (no_bit p bit) }
+
+pub take_back-requires-clause-stands : goal.take_back-requires-clause-stands
+take_back-requires-clause-stands g c = c.detach.ensures.stands
+
+pub take_back-requires-clause-is_on : goal.take_back-requires-clause-is_on
+take_back-requires-clause-is_on g c = c.detach.ensures.others c.args.vol c.args.plex (λ same bit. no_bit c.args.plex bit) ∙ c.requires.is_on
+
+pub take_back-requires-clause-other : goal.take_back-requires-clause-other
+take_back-requires-clause-other g c = let other = c.requires.other in record { plex = other.plex; is_on = c.detach.ensures.others c.args.vol other.plex (λ same bit. no_bit other.plex bit) ∙ other.is_on; apart = other.apart }
+
+pub returns-in-Ok-clause-stands : goal.returns-in-Ok-clause-stands
+returns-in-Ok-clause-stands g c = c.detach.ensures.stands
+
+pub returns-in-Ok-clause-ends : goal.returns-in-Ok-clause-ends
+returns-in-Ok-clause-ends g c = record { is_on = c.detach.ensures.others c.args.vol c.args.plex (λ same bit. no_bit c.args.plex bit) ∙ c.requires.is_on; committed = c.in-Ok.ensures.committed }
+
+pub returns-in-Ok-clause-count : goal.returns-in-Ok-clause-count
+returns-in-Ok-clause-count g c = refl
+
+pub returns-in-Ok-clause-failing : goal.returns-in-Ok-clause-failing
+returns-in-Ok-clause-failing g c = c.detach.ensures.failing
+
+pub returns-in-Ok-clause-trust : goal.returns-in-Ok-clause-trust
+returns-in-Ok-clause-trust g c = c.in-Ok.ensures.trust
+
+pub returns-in-Ok-clause-cause : goal.returns-in-Ok-clause-cause
+returns-in-Ok-clause-cause g c = c.in-Ok.ensures.cause
+
+pub returns-then-is_down-clause-stands : goal.returns-then-is_down-clause-stands
+returns-then-is_down-clause-stands g c = c.take_back.ensures.stands
+
+pub returns-then-is_down-clause-ends : goal.returns-then-is_down-clause-ends
+returns-then-is_down-clause-ends g c = c.take_back.ensures.off
+
+pub returns-then-is_down-clause-cause : goal.returns-then-is_down-clause-cause
+returns-then-is_down-clause-cause g c = sym c.is_down.ensures ∙ c.if-is_down.true
+
+pub returns-else-is_down-clause-stands : goal.returns-else-is_down-clause-stands
+returns-else-is_down-clause-stands g c = c.take_back.ensures.stands
+
+pub returns-else-is_down-clause-ends : goal.returns-else-is_down-clause-ends
+returns-else-is_down-clause-ends g c = c.take_back.ensures.off

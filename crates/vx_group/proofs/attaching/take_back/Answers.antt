@@ -9,6 +9,7 @@ use Rattle.vx_group.proofs.FailingLemmas.{no_failing, then_failing}
 use Rattle.vx_group.proofs.Standing.{sound_of}
 use Rattle.vx_group.proofs.FindingLemmas.{behind_finds, none_finds}
 use Rattle.vx_group.proofs.SettleMore.{behind_kept, missed_kept, still_kept}
+use Rattle.vx_group.proofs.CallLemmas.{not_down}
 use Rattle.vx_group.proofs.attaching.take_back.Goals as goal
 use Rattle.vx_group.proofs.TrustStillLemmas.{same_logs, then_logs, volumes_logs}
 use Rattle.vx_group.proofs.LoseLemmas.{but_parts}
@@ -119,3 +120,39 @@ returns-in-Ok-detach-clause-settles g c = behind_kept c.args.core.now c.settle_h
 
 pub returns-in-Err-detach-clause-settles : goal.returns-in-Err-detach-clause-settles
 returns-in-Err-detach-clause-settles g c = behind_kept c.args.core.now c.settle_headers.new.core c.detach.new.core (g.S.Shelf.meaning c.args.shelf.now) (g.S.Shelf.meaning c.settle_headers.new.shelf) (g.S.Shelf.meaning c.detach.new.shelf) c.requires.stands c.settle_headers.ensures.narrows c.settle_headers.ensures.less c.detach.ensures.settles
+
+pub settle_headers-requires-clause-stands : goal.settle_headers-requires-clause-stands
+settle_headers-requires-clause-stands g c = c.requires.stands
+
+pub settle_headers-requires-clause-up : goal.settle_headers-requires-clause-up
+settle_headers-requires-clause-up g c = not_down c.is_down.result (g.S.Shelf.meaning c.args.shelf.now).down c.is_down.ensures c.if-is_down.false
+
+pub detach-requires-clause-stands : goal.detach-requires-clause-stands
+detach-requires-clause-stands g c = c.settle_headers.ensures.stands
+
+pub detach-requires-clause-settled : goal.detach-requires-clause-settled
+detach-requires-clause-settled g c = c.in-Ok.ensures.settled
+
+pub returns-then-is_down-clause-stands : goal.returns-then-is_down-clause-stands
+returns-then-is_down-clause-stands g c = c.requires.stands
+
+pub returns-then-is_down-clause-off : goal.returns-then-is_down-clause-off
+returns-then-is_down-clause-off g c = inr (inr (sym c.is_down.ensures ∙ c.if-is_down.true))
+
+pub returns-in-Err-clause-stands : goal.returns-in-Err-clause-stands
+returns-in-Err-clause-stands g c = c.settle_headers.ensures.stands
+
+pub returns-in-Err-clause-off : goal.returns-in-Err-clause-off
+returns-in-Err-clause-off g c = inr (inl c.in-Err.ensures.missed)
+
+pub returns-in-Err-clause-failing : goal.returns-in-Err-clause-failing
+returns-in-Err-clause-failing g c = c.settle_headers.ensures.failing
+
+pub returns-in-Ok-detach-clause-stands : goal.returns-in-Ok-detach-clause-stands
+returns-in-Ok-detach-clause-stands g c = c.detach.ensures.stands
+
+pub returns-in-Err-detach-clause-stands : goal.returns-in-Err-detach-clause-stands
+returns-in-Err-detach-clause-stands g c = c.detach.ensures.stands
+
+pub returns-in-Err-detach-clause-off : goal.returns-in-Err-detach-clause-off
+returns-in-Err-detach-clause-off g c = inr c.in-Err-detach.ensures.missed

@@ -1,10 +1,10 @@
 -- `deport_in`: clauses ends and back; what `close` asks.
-use Rattle.std.proofs.Common.{sym, arith, subst}
+use Rattle.std.proofs.Common.{sym, arith, subst, ◌∙◌, Err, refl}
 use Rattle.vx_disk.specs.Shelf.{Nothing}
 use Rattle.vx_disk.proofs.Runs.{same_Goes}
 use Rattle.vx_group.specs.Holding.{wide}
 use Rattle.vx_group.specs.Stands.{inner_meaning}
-use Rattle.vx_group.proofs.BehindLemmas.{back_goes, behind_back, behind_deported, released_back}
+use Rattle.vx_group.proofs.BehindLemmas.{back_goes, behind_back, behind_deported, released_back, group_still}
 use Rattle.vx_group.proofs.HoldLemmas.{from_none, wide_none}
 use Rattle.vx_group.proofs.ThroughLemmas.{released_goes, through_goes}
 use Rattle.vx_group.proofs.FindingLemmas.{images_of, still_images}
@@ -15,6 +15,10 @@ use Rattle.vx_group.proofs.SettleDeport.{reads_behind}
 use Rattle.vx_group.specs.Settles.{ReadsSure}
 use Rattle.vx_group.specs.declared.inner.Inner.{Inner}
 use Rattle.vx_group.proofs.CallLemmas.{not_down}
+use Rattle.vx_disk.specs.Causes.{DeviceCause}
+use Rattle.vx_model.specs.declared.no.No.{No}
+use Rattle.vx_group.proofs.DeportLemmas.{stops_cause, stops_later}
+use Rattle.vx_group.proofs.FinishLemmas.{blamed_cause}
 use Rattle.vx_group.proofs.deporting.deport_in.Goals as goal
 
 pub returns-in-Err-clause-ends : goal.returns-in-Err-clause-ends
@@ -103,3 +107,53 @@ returns-in-Err-clause-agreed g c = c.in-Err.ensures.agreed
 
 pub returns-in-Err-close-clause-agreed : goal.returns-in-Err-close-clause-agreed
 returns-in-Err-close-clause-agreed g c = λ is. c.in-Err-close.ensures.agreed (c.in-Ok.ensures.trust is)
+
+pub release-requires-clause-up : goal.release-requires-clause-up
+release-requires-clause-up g c = not_down c.is_down.result (g.S.Shelf.meaning c.args.shelf.now).down c.is_down.ensures c.if-is_down.false
+
+pub close-requires-clause-more : goal.close-requires-clause-more
+close-requires-clause-more g c = let few = c.in-Ok.ensures.few in let room = c.if-core.false in omega (arith, few, room)
+
+pub close-requires-clause-up : goal.close-requires-clause-up
+close-requires-clause-up g c = c.in-Ok.ensures.cause
+
+pub returns-then-core-clause-limit : goal.returns-then-core-clause-limit
+returns-then-core-clause-limit g c = λ over. (refl, refl, refl)
+
+pub returns-then-core-clause-ends : goal.returns-then-core-clause-ends
+returns-then-core-clause-ends g c = group_still c.args.core.now (g.S.Shelf.meaning c.args.shelf.now) c.requires.stands
+
+pub returns-then-core-clause-cause : goal.returns-then-core-clause-cause
+returns-then-core-clause-cause g c = λ le. absurd (let over = c.if-core.true in omega (arith, le, over))
+
+pub returns-then-is_down-clause-limit : goal.returns-then-is_down-clause-limit
+returns-then-is_down-clause-limit g c = λ over. absurd (let le = c.if-core.false in omega (arith, over, le))
+
+pub returns-then-is_down-clause-ends : goal.returns-then-is_down-clause-ends
+returns-then-is_down-clause-ends g c = group_still c.args.core.now (g.S.Shelf.meaning c.args.shelf.now) c.requires.stands
+
+pub returns-then-is_down-clause-cause : goal.returns-then-is_down-clause-cause
+returns-then-is_down-clause-cause g c = λ le. sym c.is_down.ensures ∙ c.if-is_down.true
+
+pub returns-in-Err-clause-limit : goal.returns-in-Err-clause-limit
+returns-in-Err-clause-limit g c = λ over. absurd (let le = c.if-core.false in omega (arith, over, le))
+
+pub returns-in-Err-clause-cause : goal.returns-in-Err-clause-cause
+returns-in-Err-clause-cause g c = λ le. subst (λ (why : No). DeviceCause (g.S.Shelf.meaning c.args.shelf.now) (g.S.Shelf.meaning c.release.new.shelf) why) (sym c.refusal.ensures) (blamed_cause (Unit {0}) (g.S.Shelf.meaning c.args.shelf.now) (g.S.Shelf.meaning c.release.new.shelf) c.in-Err.error c.in-Err.ensures.cause)
+
+pub returns-in-Ok-close-clause-limit : goal.returns-in-Ok-close-clause-limit
+returns-in-Ok-close-clause-limit g c = λ over. absurd (let le = c.if-core.false in omega (arith, over, le))
+
+pub returns-in-Ok-close-clause-up : goal.returns-in-Ok-close-clause-up
+returns-in-Ok-close-clause-up g c = c.in-Ok-close.ensures.up
+
+pub returns-in-Ok-close-clause-cause : goal.returns-in-Ok-close-clause-cause
+returns-in-Ok-close-clause-cause g c = λ le. tt
+
+pub returns-in-Err-close-clause-limit : goal.returns-in-Err-close-clause-limit
+returns-in-Err-close-clause-limit g c = λ over. absurd (let le = c.if-core.false in omega (arith, over, le))
+
+pub returns-in-Err-close-clause-cause : goal.returns-in-Err-close-clause-cause
+returns-in-Err-close-clause-cause g c = λ le.
+    subst (λ (why : No). DeviceCause (g.S.Shelf.meaning c.args.shelf.now) (g.S.Shelf.meaning c.close.new.shelf) why) (sym c.refusal-in-Err-close.ensures)
+    (stops_cause (Unit {0}) (g.S.Shelf.meaning c.args.shelf.now) (g.S.Shelf.meaning c.close.new.shelf) c.in-Err-close.error (stops_later {T = Unit {0}} (Err c.in-Err-close.error) (g.S.Shelf.meaning c.args.shelf.now) (g.S.Shelf.meaning c.release.new.shelf) (g.S.Shelf.meaning c.close.new.shelf) c.release.ensures.narrows.acts.disk_faults c.in-Err-close.ensures.cause))

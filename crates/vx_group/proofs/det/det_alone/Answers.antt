@@ -1,5 +1,5 @@
 -- `det_alone`: its clauses; what `detach_plex` asks.
-use Rattle.std.proofs.Common.{inr, refl}
+use Rattle.std.proofs.Common.{inr, refl, subst, sym, ◌∙◌}
 use Rattle.vx_group.proofs.AloneLemmas.{alone_goes, alone_narrows}
 use Rattle.vx_group.proofs.CallLemmas.{not_down}
 use Rattle.vx_group.proofs.FindingLemmas.{still_group}
@@ -8,6 +8,16 @@ use Rattle.vx_group.proofs.GiveLemmas.{kept_or_down}
 use Rattle.vx_group.proofs.HoldLemmas.{from_none, none_Stands}
 use Rattle.vx_group.proofs.TrustStillLemmas.{same_logs}
 use Rattle.vx_group.proofs.UnsureMarks.{same_unsure}
+use Rattle.vx_disk.specs.Causes.{DeviceCause}
+use Rattle.vx_disk.specs.Shelf.{Nothing}
+use Rattle.vx_disk.proofs.Runs.{same_Goes}
+use Rattle.vx_group.specs.Holding.{wide}
+use Rattle.vx_group.specs.Stands.{inner_meaning}
+use Rattle.vx_model.specs.declared.no.No.{No}
+use Rattle.vx_group.proofs.FailingLemmas.{no_failing}
+use Rattle.vx_group.proofs.FinishLemmas.{blamed_cause}
+use Rattle.vx_group.proofs.LoseLemmas.{none_parts}
+use Rattle.vx_group.proofs.RvgLemmas.{no_narrows}
 use Rattle.vx_group.proofs.det.det_alone.Goals as goal
 
 pub detach_plex-requires-clause-stands : goal.detach_plex-requires-clause-stands
@@ -105,3 +115,48 @@ returns-in-Err-clause-agreed g c = c.in-Err.ensures.agreed
 
 pub returns-in-Err-clause-stays : goal.returns-in-Err-clause-stays
 returns-in-Err-clause-stays g c = kept_or_down c.args.core.now.inner.config c.args.core.now.inner.config c.detach_plex.new.core.config (g.S.Shelf.meaning c.args.shelf.now) (g.S.Shelf.meaning c.detach_plex.new.shelf) c.in-Err.error refl c.in-Err.ensures.keeps c.in-Err.ensures.cause
+
+pub returns-then-is_down-clause-stands : goal.returns-then-is_down-clause-stands
+returns-then-is_down-clause-stands g c = c.requires.stands
+
+pub returns-then-is_down-clause-goes : goal.returns-then-is_down-clause-goes
+returns-then-is_down-clause-goes g c = same_Goes Nothing (inner_meaning (wide c.args.core.now) (g.S.Shelf.meaning c.args.shelf.now))
+
+pub returns-then-is_down-clause-narrows : goal.returns-then-is_down-clause-narrows
+returns-then-is_down-clause-narrows g c = no_narrows c.args.core.now (g.S.Shelf.meaning c.args.shelf.now)
+
+pub returns-then-is_down-clause-parts : goal.returns-then-is_down-clause-parts
+returns-then-is_down-clause-parts g c = none_parts c.args.core.now.inner.config
+
+pub returns-then-is_down-clause-disks : goal.returns-then-is_down-clause-disks
+returns-then-is_down-clause-disks g c = no_failing (g.S.Shelf.meaning c.args.shelf.now) (g.S.Shelf.meaning c.args.shelf.now) c.args.core.now.inner.config.disks c.args.core.now.inner.config.disks refl
+
+pub returns-then-is_down-clause-off : goal.returns-then-is_down-clause-off
+returns-then-is_down-clause-off g c = tt
+
+pub returns-then-is_down-clause-others : goal.returns-then-is_down-clause-others
+returns-then-is_down-clause-others g c = λ w p apart. refl
+
+pub returns-then-is_down-clause-trust : goal.returns-then-is_down-clause-trust
+returns-then-is_down-clause-trust g c = tt
+
+pub returns-then-is_down-clause-cause : goal.returns-then-is_down-clause-cause
+returns-then-is_down-clause-cause g c = sym c.is_down.ensures ∙ c.if-is_down.true
+
+pub returns-in-Ok-clause-cause : goal.returns-in-Ok-clause-cause
+returns-in-Ok-clause-cause g c = tt
+
+pub returns-in-Ok-clause-stays : goal.returns-in-Ok-clause-stays
+returns-in-Ok-clause-stays g c = tt
+
+pub returns-in-Ok-clause-agreed : goal.returns-in-Ok-clause-agreed
+returns-in-Ok-clause-agreed g c = tt
+
+pub returns-in-Err-clause-off : goal.returns-in-Err-clause-off
+returns-in-Err-clause-off g c = tt
+
+pub returns-in-Err-clause-trust : goal.returns-in-Err-clause-trust
+returns-in-Err-clause-trust g c = tt
+
+pub returns-in-Err-clause-cause : goal.returns-in-Err-clause-cause
+returns-in-Err-clause-cause g c = subst (λ (why : No). DeviceCause (g.S.Shelf.meaning c.args.shelf.now) (g.S.Shelf.meaning c.detach_plex.new.shelf) why) (sym c.refusal.ensures) (blamed_cause (Unit {0}) (g.S.Shelf.meaning c.args.shelf.now) (g.S.Shelf.meaning c.detach_plex.new.shelf) c.in-Err.error c.in-Err.ensures.cause)

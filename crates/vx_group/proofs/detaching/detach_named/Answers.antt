@@ -1,5 +1,5 @@
 -- `detach_named`: clauses stands, narrows, off, cause, sure, others, parts and 10 more; what `commit_stale` asks.
-use Rattle.std.proofs.Common.{inl, inr, false, true, length, ap, ◌∙◌, refl, sym, subst, Err, arith}
+use Rattle.std.proofs.Common.{inl, inr, false, true, length, ap, ◌∙◌, refl, sym, subst, Err, arith, ◌≡◌}
 use Rattle.vx_disk.specs.declared.shelf.ShelfError.{ShelfError}
 use Rattle.vx_kept.specs.Commits.{Member}
 use Rattle.vx_kept.specs.States.{staled}
@@ -214,3 +214,132 @@ returns-else-is_down-2-clause-settles g c =
     left_settled (staled c.args.vol c.args.failed.set c.args.core.now.config 8) c.args.core.now.config (Member c.args.core.now.good m) _ (g.S.Shelf.meaning c.args.shelf.now) (g.S.Shelf.meaning c.commit_stale.new.shelf)
     (staled_on c.args.vol c.args.failed.set c.args.core.now.config c.requires.left (sound_of c.args.core.now m c.requires.stands) c.requires.stands.on) c.requires.stands.kept
     (less_acts c.args.core.now.config _ (g.S.Shelf.meaning c.args.shelf.now) (g.S.Shelf.meaning c.commit_stale.new.shelf) (apart_of_core c.args.core.now m c.requires.stands) c.commit_stale.ensures.acts) c.commit_stale.ensures.finds refl
+
+pub returns-then-is_down-clause-cause : goal.returns-then-is_down-clause-cause
+returns-then-is_down-clause-cause g c = sym c.is_down.ensures ∙ c.if-is_down.true
+
+pub returns-then-is_down-clause-sure : goal.returns-then-is_down-clause-sure
+returns-then-is_down-clause-sure g c = λ less. sym c.is_down.ensures ∙ c.if-is_down.true
+
+pub returns-then-is_down-clause-good : goal.returns-then-is_down-clause-good
+returns-then-is_down-clause-good g c = λ un. absurd (let clash : false ≡ true = sym c.requires.settled ∙ un in cc)
+
+pub returns-then-is_down-clause-missed : goal.returns-then-is_down-clause-missed
+returns-then-is_down-clause-missed g c = inr (sym c.is_down.ensures ∙ c.if-is_down.true)
+
+pub returns-else-is_down-clause-settled : goal.returns-else-is_down-clause-settled
+returns-else-is_down-clause-settled g c = c.requires.settled
+
+pub returns-else-is_down-clause-good : goal.returns-else-is_down-clause-good
+returns-else-is_down-clause-good g c = λ un. absurd (let clash : false ≡ true = sym c.requires.settled ∙ un in cc)
+
+pub returns-else-is_down-clause-cause : goal.returns-else-is_down-clause-cause
+returns-else-is_down-clause-cause g c = not_down c.is_down.result (g.S.Shelf.meaning c.commit_stale.new.shelf).down c.is_down.ensures c.if-is_down.false
+
+pub returns-else-is_down-clause-sure : goal.returns-else-is_down-clause-sure
+returns-else-is_down-clause-sure g c = λ less. not_down c.is_down.result (g.S.Shelf.meaning c.commit_stale.new.shelf).down c.is_down.ensures c.if-is_down.false
+
+pub returns-else-is_down-clause-named : goal.returns-else-is_down-clause-named
+returns-else-is_down-clause-named g c = c.in-Ok.ensures.named
+
+pub returns-then-is_down-2-clause-cause : goal.returns-then-is_down-2-clause-cause
+returns-then-is_down-2-clause-cause g c = sym c.is_down-in-Err.ensures ∙ c.if-is_down-2.true
+
+pub returns-then-is_down-2-clause-sure : goal.returns-then-is_down-2-clause-sure
+returns-then-is_down-2-clause-sure g c = λ less. sym c.is_down-in-Err.ensures ∙ c.if-is_down-2.true
+
+pub returns-then-is_down-2-clause-good : goal.returns-then-is_down-2-clause-good
+returns-then-is_down-2-clause-good g c = λ un. refl
+
+pub returns-then-is_down-2-clause-missed : goal.returns-then-is_down-2-clause-missed
+returns-then-is_down-2-clause-missed g c = inl refl
+
+pub returns-then-is_down-2-clause-agreed : goal.returns-then-is_down-2-clause-agreed
+returns-then-is_down-2-clause-agreed g c = λ is. is
+
+pub returns-else-is_down-2-clause-good : goal.returns-else-is_down-2-clause-good
+returns-else-is_down-2-clause-good g c = λ un. refl
+
+pub returns-else-is_down-2-clause-missed : goal.returns-else-is_down-2-clause-missed
+returns-else-is_down-2-clause-missed g c = inl refl
+
+pub returns-else-is_down-2-clause-agreed : goal.returns-else-is_down-2-clause-agreed
+returns-else-is_down-2-clause-agreed g c = λ is. is
+
+pub returns-then-is_down-clause-off : goal.returns-then-is_down-clause-off
+returns-then-is_down-clause-off g c = tt
+
+pub returns-then-is_down-clause-settled : goal.returns-then-is_down-clause-settled
+returns-then-is_down-clause-settled g c = tt
+
+pub returns-then-is_down-clause-few : goal.returns-then-is_down-clause-few
+returns-then-is_down-clause-few g c = tt
+
+pub returns-then-is_down-clause-room : goal.returns-then-is_down-clause-room
+returns-then-is_down-clause-room g c = tt
+
+pub returns-then-is_down-clause-trust : goal.returns-then-is_down-clause-trust
+returns-then-is_down-clause-trust g c = tt
+
+pub returns-then-is_down-clause-whole : goal.returns-then-is_down-clause-whole
+returns-then-is_down-clause-whole g c = tt
+
+pub returns-then-is_down-clause-committed : goal.returns-then-is_down-clause-committed
+returns-then-is_down-clause-committed g c = tt
+
+pub returns-then-is_down-clause-named : goal.returns-then-is_down-clause-named
+returns-then-is_down-clause-named g c = tt
+
+pub returns-then-is_down-2-clause-off : goal.returns-then-is_down-2-clause-off
+returns-then-is_down-2-clause-off g c = tt
+
+pub returns-then-is_down-2-clause-settled : goal.returns-then-is_down-2-clause-settled
+returns-then-is_down-2-clause-settled g c = tt
+
+pub returns-then-is_down-2-clause-few : goal.returns-then-is_down-2-clause-few
+returns-then-is_down-2-clause-few g c = tt
+
+pub returns-then-is_down-2-clause-room : goal.returns-then-is_down-2-clause-room
+returns-then-is_down-2-clause-room g c = tt
+
+pub returns-then-is_down-2-clause-trust : goal.returns-then-is_down-2-clause-trust
+returns-then-is_down-2-clause-trust g c = tt
+
+pub returns-then-is_down-2-clause-whole : goal.returns-then-is_down-2-clause-whole
+returns-then-is_down-2-clause-whole g c = tt
+
+pub returns-then-is_down-2-clause-committed : goal.returns-then-is_down-2-clause-committed
+returns-then-is_down-2-clause-committed g c = tt
+
+pub returns-then-is_down-2-clause-named : goal.returns-then-is_down-2-clause-named
+returns-then-is_down-2-clause-named g c = tt
+
+pub returns-else-is_down-2-clause-off : goal.returns-else-is_down-2-clause-off
+returns-else-is_down-2-clause-off g c = tt
+
+pub returns-else-is_down-2-clause-settled : goal.returns-else-is_down-2-clause-settled
+returns-else-is_down-2-clause-settled g c = tt
+
+pub returns-else-is_down-2-clause-few : goal.returns-else-is_down-2-clause-few
+returns-else-is_down-2-clause-few g c = tt
+
+pub returns-else-is_down-2-clause-room : goal.returns-else-is_down-2-clause-room
+returns-else-is_down-2-clause-room g c = tt
+
+pub returns-else-is_down-2-clause-trust : goal.returns-else-is_down-2-clause-trust
+returns-else-is_down-2-clause-trust g c = tt
+
+pub returns-else-is_down-2-clause-whole : goal.returns-else-is_down-2-clause-whole
+returns-else-is_down-2-clause-whole g c = tt
+
+pub returns-else-is_down-2-clause-committed : goal.returns-else-is_down-2-clause-committed
+returns-else-is_down-2-clause-committed g c = tt
+
+pub returns-else-is_down-2-clause-named : goal.returns-else-is_down-2-clause-named
+returns-else-is_down-2-clause-named g c = tt
+
+pub returns-else-is_down-clause-missed : goal.returns-else-is_down-clause-missed
+returns-else-is_down-clause-missed g c = tt
+
+pub returns-else-is_down-clause-agreed : goal.returns-else-is_down-clause-agreed
+returns-else-is_down-clause-agreed g c = tt

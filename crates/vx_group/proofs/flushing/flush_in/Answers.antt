@@ -1,7 +1,7 @@
 -- `flush_in`: clauses goes, cause, ok, marks, gave_up, loses, trust and 3 more.
-use Rattle.std.proofs.Common.{refl, ◌∙◌, ℕ, Bool, List, ap, subst, Err, arith}
+use Rattle.std.proofs.Common.{refl, ◌∙◌, ℕ, Bool, List, ap, subst, Err, arith, sym}
 use Rattle.vx_disk.specs.Shelf.{Nothing}
-use Rattle.vx_disk.proofs.Runs.{nothing_then}
+use Rattle.vx_disk.proofs.Runs.{nothing_then, same_Goes}
 use Rattle.vx_group.specs.Blames.{CountsRise, MarksUnsure}
 use Rattle.vx_group.specs.Stands.{volume_faults, inner_meaning}
 use Rattle.vx_group.proofs.LoseLemmas.{loses_none, loses_same, then_loses}
@@ -168,3 +168,63 @@ returns-in-Ok-flush_plexes-clause-ready g c = c.in-Ok-flush_plexes.ensures.ready
 
 pub returns-in-Err-flush_plexes-clause-ready : goal.returns-in-Err-flush_plexes-clause-ready
 returns-in-Err-flush_plexes-clause-ready g c = tt
+
+pub returns-then-is_down-clause-stands : goal.returns-then-is_down-clause-stands
+returns-then-is_down-clause-stands g c = c.requires.stands
+
+pub returns-then-is_down-clause-goes : goal.returns-then-is_down-clause-goes
+returns-then-is_down-clause-goes g c = same_Goes Nothing (inner_meaning c.args.core.now (g.S.Shelf.meaning c.args.shelf.now))
+
+pub returns-then-is_down-clause-ok : goal.returns-then-is_down-clause-ok
+returns-then-is_down-clause-ok g c = tt
+
+pub returns-then-is_down-clause-gave_up : goal.returns-then-is_down-clause-gave_up
+returns-then-is_down-clause-gave_up g c = tt
+
+pub returns-then-is_down-clause-trust : goal.returns-then-is_down-clause-trust
+returns-then-is_down-clause-trust g c = tt
+
+pub returns-then-is_down-clause-cause : goal.returns-then-is_down-clause-cause
+returns-then-is_down-clause-cause g c = sym c.is_down.ensures ∙ c.if-is_down.true
+
+pub returns-then-is_down-clause-unit_faults : goal.returns-then-is_down-clause-unit_faults
+returns-then-is_down-clause-unit_faults g c = λ u. omega arith
+
+pub returns-then-is_down-clause-marks : goal.returns-then-is_down-clause-marks
+returns-then-is_down-clause-marks g c = refl
+
+pub returns-in-Err-clause-ok : goal.returns-in-Err-clause-ok
+returns-in-Err-clause-ok g c = tt
+
+pub returns-in-Err-clause-trust : goal.returns-in-Err-clause-trust
+returns-in-Err-clause-trust g c = tt
+
+pub returns-in-Err-flush_plexes-clause-ok : goal.returns-in-Err-flush_plexes-clause-ok
+returns-in-Err-flush_plexes-clause-ok g c = tt
+
+pub returns-in-Err-flush_plexes-clause-trust : goal.returns-in-Err-flush_plexes-clause-trust
+returns-in-Err-flush_plexes-clause-trust g c = tt
+
+pub returns-in-Err-clause-agreed : goal.returns-in-Err-clause-agreed
+returns-in-Err-clause-agreed g c = c.in-Err.ensures.agreed
+
+pub returns-in-Ok-flush_plexes-clause-stands : goal.returns-in-Ok-flush_plexes-clause-stands
+returns-in-Ok-flush_plexes-clause-stands g c = c.flush_plexes.ensures.stands
+
+pub returns-in-Ok-flush_plexes-clause-gave_up : goal.returns-in-Ok-flush_plexes-clause-gave_up
+returns-in-Ok-flush_plexes-clause-gave_up g c = tt
+
+pub returns-in-Ok-flush_plexes-clause-agreed : goal.returns-in-Ok-flush_plexes-clause-agreed
+returns-in-Ok-flush_plexes-clause-agreed g c = tt
+
+pub returns-in-Err-clause-stands : goal.returns-in-Err-clause-stands
+returns-in-Err-clause-stands g c = let s = c.make_ready.ensures.stands in record { wanted = s.wanted; serial = s.serial; disks = s.disks; rvg = s.rvg; few = s.few; small = s.small; large = s.large; on = s.on; some = s.some; kept = s.kept; tidy = s.tidy; trusts = s.trusts }
+
+pub returns-in-Err-flush_plexes-clause-stands : goal.returns-in-Err-flush_plexes-clause-stands
+returns-in-Err-flush_plexes-clause-stands g c = let s = c.flush_plexes.ensures.stands in record { wanted = s.wanted; serial = s.serial; disks = s.disks; rvg = s.rvg; few = s.few; small = s.small; large = s.large; on = s.on; some = s.some; kept = s.kept; tidy = s.tidy; trusts = s.trusts }
+
+pub returns-in-Ok-flush_plexes-clause-cause : goal.returns-in-Ok-flush_plexes-clause-cause
+returns-in-Ok-flush_plexes-clause-cause g c = record { before = not_down c.is_down.result (g.S.Shelf.meaning c.args.shelf.now).down c.is_down.ensures c.if-is_down.false; after = c.in-Ok-flush_plexes.ensures.cause }
+
+pub returns-in-Ok-flush_plexes-clause-marks : goal.returns-in-Ok-flush_plexes-clause-marks
+returns-in-Ok-flush_plexes-clause-marks g c = c.flush_plexes.ensures.unsure ∙ c.make_ready.ensures.narrows.unsure

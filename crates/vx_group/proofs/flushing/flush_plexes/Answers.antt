@@ -10,7 +10,7 @@ use Rattle.vx_group.specs.Blames.{Blames}
 use Rattle.vx_group.proofs.DetachLemmas.{zero_bit}
 use Rattle.vx_group.specs.GivesUp.{GivesUp}
 use Rattle.vx_group.proofs.GiveLemmas.{detach_gives, ends_gives}
-use Rattle.vx_group.proofs.Standing.{fit_of, some_active}
+use Rattle.vx_group.proofs.Standing.{fit_of, some_active, sound_of}
 use Rattle.vx_group.proofs.WriteLemmas.{no_commit, flushed_Goes, flushed_Stands, flushed_Flushed, flushed_Narrows, flushed_all, flushed_finds}
 use Rattle.vx_group.proofs.FindingLemmas.{stays_finds, before_ends, ends_finds}
 use Rattle.vx_group.proofs.TrustStillLemmas.{same_logs}
@@ -193,3 +193,75 @@ returns-in-Err-clause-ready g c = λ was. tt
 
 pub returns-else-core-clause-ready : goal.returns-else-core-clause-ready
 returns-else-core-clause-ready g c = λ was. ok_from c.detach.result (λ off on. absurd (let clash : true ≡ false = sym on ∙ off in cc)) c.detach.ensures.settled
+
+pub flush_all-requires-clause-checked : goal.flush_all-requires-clause-checked
+flush_all-requires-clause-checked g c = sound_of c.args.core.now (g.S.Shelf.meaning c.args.shelf.now) c.requires.stands
+
+pub flush_all-requires-clause-up : goal.flush_all-requires-clause-up
+flush_all-requires-clause-up g c = c.requires.up
+
+pub detach-requires-clause-settled : goal.detach-requires-clause-settled
+detach-requires-clause-settled g c = c.if-core.false
+
+pub detach-requires-clause-left : goal.detach-requires-clause-left
+detach-requires-clause-left g c = λ lt. let some = c.in-Ok.ensures.ends.0.some in record { plex = some.0; is_on = some.1; out = some.2 }
+
+pub detach-requires-clause-those : goal.detach-requires-clause-those
+detach-requires-clause-those g c = record { each = λ p bit. (c.in-Ok.ensures.ends.0.blamed p bit).0 }
+
+pub returns-then-failed-eq0-clause-settled : goal.returns-then-failed-eq0-clause-settled
+returns-then-failed-eq0-clause-settled g c = λ off. off
+
+pub returns-then-failed-eq0-clause-faults : goal.returns-then-failed-eq0-clause-faults
+returns-then-failed-eq0-clause-faults g c = refl
+
+pub returns-then-failed-eq0-clause-unsure : goal.returns-then-failed-eq0-clause-unsure
+returns-then-failed-eq0-clause-unsure g c = refl
+
+pub returns-then-failed-eq0-clause-trust : goal.returns-then-failed-eq0-clause-trust
+returns-then-failed-eq0-clause-trust g c = λ is. is
+
+pub returns-then-failed-eq0-clause-cause : goal.returns-then-failed-eq0-clause-cause
+returns-then-failed-eq0-clause-cause g c = c.in-Ok.ensures.ends.0.up
+
+pub returns-then-core-clause-settled : goal.returns-then-core-clause-settled
+returns-then-core-clause-settled g c = λ off. tt
+
+pub returns-then-core-clause-faults : goal.returns-then-core-clause-faults
+returns-then-core-clause-faults g c = refl
+
+pub returns-then-core-clause-unsure : goal.returns-then-core-clause-unsure
+returns-then-core-clause-unsure g c = refl
+
+pub returns-then-core-clause-agreed : goal.returns-then-core-clause-agreed
+returns-then-core-clause-agreed g c = c.requires.stands.trusts.both
+
+pub returns-else-core-clause-stands : goal.returns-else-core-clause-stands
+returns-else-core-clause-stands g c = c.detach.ensures.stands
+
+pub returns-else-core-clause-settled : goal.returns-else-core-clause-settled
+returns-else-core-clause-settled g c = λ off. c.detach.ensures.settled
+
+pub returns-else-core-clause-faults : goal.returns-else-core-clause-faults
+returns-else-core-clause-faults g c = c.detach.ensures.narrows.faults
+
+pub returns-else-core-clause-unsure : goal.returns-else-core-clause-unsure
+returns-else-core-clause-unsure g c = c.detach.ensures.narrows.unsure
+
+pub returns-else-core-clause-trust : goal.returns-else-core-clause-trust
+returns-else-core-clause-trust g c = c.detach.ensures.trust
+
+pub returns-else-core-clause-agreed : goal.returns-else-core-clause-agreed
+returns-else-core-clause-agreed g c = c.detach.ensures.agreed
+
+pub returns-in-Err-clause-settled : goal.returns-in-Err-clause-settled
+returns-in-Err-clause-settled g c = λ off. tt
+
+pub returns-in-Err-clause-faults : goal.returns-in-Err-clause-faults
+returns-in-Err-clause-faults g c = refl
+
+pub returns-in-Err-clause-unsure : goal.returns-in-Err-clause-unsure
+returns-in-Err-clause-unsure g c = refl
+
+pub returns-in-Err-clause-agreed : goal.returns-in-Err-clause-agreed
+returns-in-Err-clause-agreed g c = c.requires.stands.trusts.both

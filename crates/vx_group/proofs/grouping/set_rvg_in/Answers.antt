@@ -113,3 +113,30 @@ returns-clause-finds g c = subst (λ (k : GroupCore). GroupFinds k c.name_rvg.ne
 
 pub returns-clause-later : goal.returns-clause-later
 returns-clause-later g c = let same = ap (λ (x : Config). x.serial) c.may_name.ensures.same in let more = c.name_rvg.ensures.later in omega (arith, same, more)
+
+pub returns-then-core-clause-stands : goal.returns-then-core-clause-stands
+returns-then-core-clause-stands g c = c.requires.stands
+
+pub returns-then-core-clause-volumes : goal.returns-then-core-clause-volumes
+returns-then-core-clause-volumes g c = refl
+
+pub returns-then-core-clause-site : goal.returns-then-core-clause-site
+returns-then-core-clause-site g c = refl
+
+pub returns-then-core-clause-trust : goal.returns-then-core-clause-trust
+returns-then-core-clause-trust g c = tt
+
+pub returns-then-core-clause-whole : goal.returns-then-core-clause-whole
+returns-then-core-clause-whole g c = tt
+
+pub returns-then-core-clause-agreed : goal.returns-then-core-clause-agreed
+returns-then-core-clause-agreed g c = c.requires.stands.stands.trusts.both
+
+pub returns-then-not-may_name-clause-trust : goal.returns-then-not-may_name-clause-trust
+returns-then-not-may_name-clause-trust g c = tt
+
+pub returns-then-not-may_name-clause-whole : goal.returns-then-not-may_name-clause-whole
+returns-then-not-may_name-clause-whole g c = tt
+
+pub returns-clause-stands : goal.returns-clause-stands
+returns-clause-stands g c = c.name_rvg.ensures.stands

@@ -93,3 +93,48 @@ returns-in-Err-clause-settles g c =
 pub returns-clause-settles : goal.returns-clause-settles
 returns-clause-settles g c =
     settled_behind c.args.core.now c.settle_headers.new.core c.lose_settled.new.core (g.S.Shelf.meaning c.args.shelf.now) (g.S.Shelf.meaning c.settle_headers.new.shelf) (g.S.Shelf.meaning c.lose_settled.new.shelf) c.requires.stands c.requires.more c.settle_headers.ensures.narrows c.settle_headers.ensures.less c.lose_settled.ensures.settles
+
+pub returns-clause-stands : goal.returns-clause-stands
+returns-clause-stands g c = c.lose_settled.ensures.stands
+
+pub returns-clause-lost : goal.returns-clause-lost
+returns-clause-lost g c = c.lose_settled.ensures.lost
+
+pub returns-clause-settled : goal.returns-clause-settled
+returns-clause-settled g c = c.lose_settled.ensures.settled
+
+pub returns-clause-missed : goal.returns-clause-missed
+returns-clause-missed g c = c.lose_settled.ensures.missed
+
+pub returns-clause-committed : goal.returns-clause-committed
+returns-clause-committed g c = c.lose_settled.ensures.committed
+
+pub returns-in-Err-clause-stands : goal.returns-in-Err-clause-stands
+returns-in-Err-clause-stands g c = c.settle_headers.ensures.stands
+
+pub returns-in-Err-clause-narrows : goal.returns-in-Err-clause-narrows
+returns-in-Err-clause-narrows g c = c.settle_headers.ensures.narrows
+
+pub returns-in-Err-clause-lost : goal.returns-in-Err-clause-lost
+returns-in-Err-clause-lost g c = tt
+
+pub returns-in-Err-clause-settled : goal.returns-in-Err-clause-settled
+returns-in-Err-clause-settled g c = tt
+
+pub returns-in-Err-clause-few : goal.returns-in-Err-clause-few
+returns-in-Err-clause-few g c = tt
+
+pub returns-in-Err-clause-failing : goal.returns-in-Err-clause-failing
+returns-in-Err-clause-failing g c = c.settle_headers.ensures.failing
+
+pub returns-in-Err-clause-trust : goal.returns-in-Err-clause-trust
+returns-in-Err-clause-trust g c = tt
+
+pub returns-in-Err-clause-committed : goal.returns-in-Err-clause-committed
+returns-in-Err-clause-committed g c = tt
+
+pub returns-in-Err-clause-finds : goal.returns-in-Err-clause-finds
+returns-in-Err-clause-finds g c = c.settle_headers.ensures.finds
+
+pub returns-in-Err-clause-cause : goal.returns-in-Err-clause-cause
+returns-in-Err-clause-cause g c = c.in-Err.ensures.cause

@@ -1,5 +1,5 @@
 -- The commit of a log that is lost.
-use Rattle.std.proofs.Common.{Err, ap, length, refl, subst, sym, true}
+use Rattle.std.proofs.Common.{Err, ap, length, refl, subst, sym, true, ◌∙◌}
 use Rattle.vx_disk.specs.declared.shelf.ShelfError.{ShelfError}
 use Rattle.vx_config.specs.Changes.{lost}
 use Rattle.vx_kept.specs.Commits.{Member}
@@ -203,3 +203,60 @@ returns-else-is_down-2-clause-settles g c =
     left_settled (lost c.args.vol c.args.log true c.args.core.now.config) c.args.core.now.config (Member c.args.core.now.good m) _ (g.S.Shelf.meaning c.args.shelf.now) (g.S.Shelf.meaning c.commit_lost.new.shelf)
     (lost_on c.args.core.now.config (lost c.args.vol c.args.log true c.args.core.now.config) (made_plexes c.args.vol c.args.log c.args.core.now.config _ refl) c.requires.stands.on) c.requires.stands.kept
     (less_acts c.args.core.now.config _ (g.S.Shelf.meaning c.args.shelf.now) (g.S.Shelf.meaning c.commit_lost.new.shelf) (apart_of_core c.args.core.now m c.requires.stands) c.commit_lost.ensures.acts) c.commit_lost.ensures.finds refl
+
+pub returns-then-is_down-clause-lost : goal.returns-then-is_down-clause-lost
+returns-then-is_down-clause-lost g c = tt
+
+pub returns-then-is_down-clause-settled : goal.returns-then-is_down-clause-settled
+returns-then-is_down-clause-settled g c = tt
+
+pub returns-then-is_down-clause-few : goal.returns-then-is_down-clause-few
+returns-then-is_down-clause-few g c = tt
+
+pub returns-then-is_down-clause-trust : goal.returns-then-is_down-clause-trust
+returns-then-is_down-clause-trust g c = tt
+
+pub returns-then-is_down-clause-committed : goal.returns-then-is_down-clause-committed
+returns-then-is_down-clause-committed g c = tt
+
+pub returns-then-is_down-2-clause-lost : goal.returns-then-is_down-2-clause-lost
+returns-then-is_down-2-clause-lost g c = tt
+
+pub returns-then-is_down-2-clause-settled : goal.returns-then-is_down-2-clause-settled
+returns-then-is_down-2-clause-settled g c = tt
+
+pub returns-then-is_down-2-clause-few : goal.returns-then-is_down-2-clause-few
+returns-then-is_down-2-clause-few g c = tt
+
+pub returns-then-is_down-2-clause-trust : goal.returns-then-is_down-2-clause-trust
+returns-then-is_down-2-clause-trust g c = tt
+
+pub returns-then-is_down-2-clause-committed : goal.returns-then-is_down-2-clause-committed
+returns-then-is_down-2-clause-committed g c = tt
+
+pub returns-else-is_down-2-clause-lost : goal.returns-else-is_down-2-clause-lost
+returns-else-is_down-2-clause-lost g c = tt
+
+pub returns-else-is_down-2-clause-settled : goal.returns-else-is_down-2-clause-settled
+returns-else-is_down-2-clause-settled g c = tt
+
+pub returns-else-is_down-2-clause-few : goal.returns-else-is_down-2-clause-few
+returns-else-is_down-2-clause-few g c = tt
+
+pub returns-else-is_down-2-clause-trust : goal.returns-else-is_down-2-clause-trust
+returns-else-is_down-2-clause-trust g c = tt
+
+pub returns-else-is_down-2-clause-committed : goal.returns-else-is_down-2-clause-committed
+returns-else-is_down-2-clause-committed g c = tt
+
+pub returns-then-is_down-clause-cause : goal.returns-then-is_down-clause-cause
+returns-then-is_down-clause-cause g c = sym c.is_down.ensures ∙ c.if-is_down.true
+
+pub returns-then-is_down-2-clause-cause : goal.returns-then-is_down-2-clause-cause
+returns-then-is_down-2-clause-cause g c = sym c.is_down-2.ensures ∙ c.if-is_down-2.true
+
+pub returns-else-is_down-clause-missed : goal.returns-else-is_down-clause-missed
+returns-else-is_down-clause-missed g c = tt
+
+pub returns-else-is_down-clause-agreed : goal.returns-else-is_down-clause-agreed
+returns-else-is_down-clause-agreed g c = tt

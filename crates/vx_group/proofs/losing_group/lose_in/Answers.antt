@@ -1,8 +1,8 @@
 -- A log that is lost in a call on its volume.
-use Rattle.std.proofs.Common.{◌∙◌, ℕ, Bool, List, ap, refl, subst, arith}
+use Rattle.std.proofs.Common.{◌∙◌, ℕ, Bool, List, ap, refl, subst, arith, false, sym, true, ◌≡◌}
 use Rattle.vx_disk.specs.Shelf.{Nothing}
 use Rattle.vx_group.specs.Blames.{CountsRise}
-use Rattle.vx_group.specs.Stands.{volume_faults}
+use Rattle.vx_group.specs.Stands.{volume_faults, inner_meaning}
 use Rattle.vx_kept.proofs.PlexActing.{none_PlexActs}
 use Rattle.vx_group.proofs.ActsLemmas.{narrow_PlexActs}
 use Rattle.vx_group.proofs.CallLemmas.{cause_by, counts_less, narrows_Goes, not_down}
@@ -12,6 +12,7 @@ use Rattle.vx_group.proofs.FindingLemmas.{as_finds, none_finds}
 use Rattle.vx_group.proofs.TrustStillLemmas.{same_logs, still_but}
 use Rattle.vx_group.proofs.SettleCalls.{as_told, same_told}
 use Rattle.vx_group.proofs.UnsureLemmas.{misses_by, unsure_then}
+use Rattle.vx_disk.proofs.Runs.{same_Goes}
 use Rattle.vx_group.proofs.losing_group.lose_in.Goals as goal
 
 pub returns-then-is_down-clause-acts : goal.returns-then-is_down-clause-acts
@@ -124,3 +125,99 @@ returns-in-Err-clause-marks g c = unsure_then c.args.vol c.args.core.now.unsure 
 
 pub returns-in-Err-clause-misses : goal.returns-in-Err-clause-misses
 returns-in-Err-clause-misses g c = misses_by c.lose_log.new.core (g.S.Shelf.meaning c.args.shelf.now) (g.S.Shelf.meaning c.lose_log.new.shelf) c.in-Err.error c.in-Err.ensures.missed c.in-Err.ensures.cause
+
+pub returns-then-is_down-clause-stands : goal.returns-then-is_down-clause-stands
+returns-then-is_down-clause-stands g c = c.requires.stands
+
+pub returns-then-is_down-clause-goes : goal.returns-then-is_down-clause-goes
+returns-then-is_down-clause-goes g c = same_Goes Nothing (inner_meaning c.args.core.now (g.S.Shelf.meaning c.args.shelf.now))
+
+pub returns-then-is_down-clause-lost : goal.returns-then-is_down-clause-lost
+returns-then-is_down-clause-lost g c = tt
+
+pub returns-then-is_down-clause-full : goal.returns-then-is_down-clause-full
+returns-then-is_down-clause-full g c = tt
+
+pub returns-then-is_down-clause-few : goal.returns-then-is_down-clause-few
+returns-then-is_down-clause-few g c = tt
+
+pub returns-then-is_down-clause-trust : goal.returns-then-is_down-clause-trust
+returns-then-is_down-clause-trust g c = tt
+
+pub returns-then-is_down-clause-agreed : goal.returns-then-is_down-clause-agreed
+returns-then-is_down-clause-agreed g c = c.requires.stands.trusts.both
+
+pub returns-then-is_down-clause-marks : goal.returns-then-is_down-clause-marks
+returns-then-is_down-clause-marks g c = refl
+
+pub returns-then-is_down-clause-misses : goal.returns-then-is_down-clause-misses
+returns-then-is_down-clause-misses g c = tt
+
+pub returns-then-is_down-clause-cause : goal.returns-then-is_down-clause-cause
+returns-then-is_down-clause-cause g c = sym c.is_down.ensures ∙ c.if-is_down.true
+
+pub returns-then-core-ge-MOST_NUMBER-clause-stands : goal.returns-then-core-ge-MOST_NUMBER-clause-stands
+returns-then-core-ge-MOST_NUMBER-clause-stands g c = c.requires.stands
+
+pub returns-then-core-ge-MOST_NUMBER-clause-goes : goal.returns-then-core-ge-MOST_NUMBER-clause-goes
+returns-then-core-ge-MOST_NUMBER-clause-goes g c = same_Goes Nothing (inner_meaning c.args.core.now (g.S.Shelf.meaning c.args.shelf.now))
+
+pub returns-then-core-ge-MOST_NUMBER-clause-trust : goal.returns-then-core-ge-MOST_NUMBER-clause-trust
+returns-then-core-ge-MOST_NUMBER-clause-trust g c = λ is. is
+
+pub returns-then-core-ge-MOST_NUMBER-clause-agreed : goal.returns-then-core-ge-MOST_NUMBER-clause-agreed
+returns-then-core-ge-MOST_NUMBER-clause-agreed g c = tt
+
+pub returns-then-core-ge-MOST_NUMBER-clause-marks : goal.returns-then-core-ge-MOST_NUMBER-clause-marks
+returns-then-core-ge-MOST_NUMBER-clause-marks g c = refl
+
+pub returns-then-core-ge-MOST_NUMBER-clause-misses : goal.returns-then-core-ge-MOST_NUMBER-clause-misses
+returns-then-core-ge-MOST_NUMBER-clause-misses g c = tt
+
+pub returns-then-core-ge-MOST_NUMBER-clause-lost : goal.returns-then-core-ge-MOST_NUMBER-clause-lost
+returns-then-core-ge-MOST_NUMBER-clause-lost g c = λ is. absurd (let clash : false ≡ true = is in cc)
+
+pub returns-in-Ok-clause-full : goal.returns-in-Ok-clause-full
+returns-in-Ok-clause-full g c = λ is. absurd (let clash : true ≡ false = is in cc)
+
+pub returns-in-Ok-clause-stands : goal.returns-in-Ok-clause-stands
+returns-in-Ok-clause-stands g c = c.lose_log.ensures.stands
+
+pub returns-in-Ok-clause-plexes : goal.returns-in-Ok-clause-plexes
+returns-in-Ok-clause-plexes g c = c.lose_log.ensures.plexes
+
+pub returns-in-Ok-clause-trust : goal.returns-in-Ok-clause-trust
+returns-in-Ok-clause-trust g c = c.in-Ok.ensures.trust
+
+pub returns-in-Ok-clause-agreed : goal.returns-in-Ok-clause-agreed
+returns-in-Ok-clause-agreed g c = tt
+
+pub returns-in-Ok-clause-misses : goal.returns-in-Ok-clause-misses
+returns-in-Ok-clause-misses g c = tt
+
+pub returns-in-Err-clause-plexes : goal.returns-in-Err-clause-plexes
+returns-in-Err-clause-plexes g c = c.lose_log.ensures.plexes
+
+pub returns-in-Err-clause-lost : goal.returns-in-Err-clause-lost
+returns-in-Err-clause-lost g c = tt
+
+pub returns-in-Err-clause-full : goal.returns-in-Err-clause-full
+returns-in-Err-clause-full g c = tt
+
+pub returns-in-Err-clause-few : goal.returns-in-Err-clause-few
+returns-in-Err-clause-few g c = tt
+
+pub returns-in-Err-clause-trust : goal.returns-in-Err-clause-trust
+returns-in-Err-clause-trust g c = tt
+
+pub returns-in-Err-clause-agreed : goal.returns-in-Err-clause-agreed
+returns-in-Err-clause-agreed g c = c.in-Err.ensures.agreed
+
+pub returns-in-Err-clause-stands : goal.returns-in-Err-clause-stands
+returns-in-Err-clause-stands g c = let s = c.lose_log.ensures.stands in record { wanted = s.wanted; serial = s.serial; disks = s.disks; rvg = s.rvg; few = s.few; small = s.small; large = s.large; on = s.on; some = s.some; kept = s.kept; tidy = s.tidy; trusts = s.trusts }
+
+pub returns-in-Ok-clause-cause : goal.returns-in-Ok-clause-cause
+returns-in-Ok-clause-cause g c = record { before = not_down c.is_down.result (g.S.Shelf.meaning c.args.shelf.now).down c.is_down.ensures c.if-is_down.false; after = c.in-Ok.ensures.cause }
+
+pub returns-then-core-ge-MOST_NUMBER-clause-cause : goal.returns-then-core-ge-MOST_NUMBER-clause-cause
+returns-then-core-ge-MOST_NUMBER-clause-cause g c = record { before = not_down c.is_down.result (g.S.Shelf.meaning c.args.shelf.now).down c.is_down.ensures c.if-is_down.false; after = not_down c.is_down.result (g.S.Shelf.meaning c.args.shelf.now).down c.is_down.ensures c.if-is_down.false }

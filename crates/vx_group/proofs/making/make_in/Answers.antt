@@ -17,6 +17,7 @@ use Rattle.vx_group.proofs.FindingLemmas.{still_group}
 use Rattle.vx_group.proofs.FoundThrough.{second_finds}
 use Rattle.vx_group.proofs.TrustStillLemmas.{same_logs, then_logs}
 use Rattle.vx_group.proofs.UnsureMarks.{same_unsure}
+use Rattle.std.specs.Prelude.{None, Some}
 use Rattle.vx_group.proofs.making.make_in.Goals as goal
 
 pub returns-in-Some-clause-stays : goal.returns-in-Some-clause-stays
@@ -199,3 +200,129 @@ returns-in-Ok-add-clause-logs g c = then_logs c.args.core.now.inner.config c.rel
 
 pub returns-in-Err-add-clause-logs : goal.returns-in-Err-add-clause-logs
 returns-in-Err-add-clause-logs g c = then_logs c.args.core.now.inner.config c.release.new.core.inner.config c.add.new.core.config c.release.ensures.logs c.add.ensures.logs
+
+pub returns-in-Err-clause-held : goal.returns-in-Err-clause-held
+returns-in-Err-clause-held g c = tt
+
+pub returns-in-Err-clause-up : goal.returns-in-Err-clause-up
+returns-in-Err-clause-up g c = tt
+
+pub returns-in-Err-clause-newest : goal.returns-in-Err-clause-newest
+returns-in-Err-clause-newest g c = tt
+
+pub returns-in-Err-clause-trust : goal.returns-in-Err-clause-trust
+returns-in-Err-clause-trust g c = tt
+
+pub returns-in-Err-clause-whole : goal.returns-in-Err-clause-whole
+returns-in-Err-clause-whole g c = tt
+
+pub returns-in-Err-clause-refused : goal.returns-in-Err-clause-refused
+returns-in-Err-clause-refused g c = λ why is. absurd (let clash : None ≡ Some why = sym (sym c.refuse_volume.ensures ∙ c.in_default.is) ∙ is in cc)
+
+pub returns-in-Err-add-clause-held : goal.returns-in-Err-add-clause-held
+returns-in-Err-add-clause-held g c = tt
+
+pub returns-in-Err-add-clause-up : goal.returns-in-Err-add-clause-up
+returns-in-Err-add-clause-up g c = tt
+
+pub returns-in-Err-add-clause-newest : goal.returns-in-Err-add-clause-newest
+returns-in-Err-add-clause-newest g c = tt
+
+pub returns-in-Err-add-clause-trust : goal.returns-in-Err-add-clause-trust
+returns-in-Err-add-clause-trust g c = tt
+
+pub returns-in-Err-add-clause-whole : goal.returns-in-Err-add-clause-whole
+returns-in-Err-add-clause-whole g c = tt
+
+pub returns-in-Err-add-clause-refused : goal.returns-in-Err-add-clause-refused
+returns-in-Err-add-clause-refused g c = λ why is. absurd (let clash : None ≡ Some why = sym (sym c.refuse_volume.ensures ∙ c.in_default.is) ∙ is in cc)
+
+pub returns-in-Err-release-clause-held : goal.returns-in-Err-release-clause-held
+returns-in-Err-release-clause-held g c = tt
+
+pub returns-in-Err-release-clause-up : goal.returns-in-Err-release-clause-up
+returns-in-Err-release-clause-up g c = tt
+
+pub returns-in-Err-release-clause-newest : goal.returns-in-Err-release-clause-newest
+returns-in-Err-release-clause-newest g c = tt
+
+pub returns-in-Err-release-clause-trust : goal.returns-in-Err-release-clause-trust
+returns-in-Err-release-clause-trust g c = tt
+
+pub returns-in-Err-release-clause-whole : goal.returns-in-Err-release-clause-whole
+returns-in-Err-release-clause-whole g c = tt
+
+pub returns-in-Err-release-clause-refused : goal.returns-in-Err-release-clause-refused
+returns-in-Err-release-clause-refused g c = λ why is. absurd (let clash : None ≡ Some why = sym (sym c.refuse_volume.ensures ∙ c.in_default.is) ∙ is in cc)
+
+pub returns-in-Some-clause-held : goal.returns-in-Some-clause-held
+returns-in-Some-clause-held g c = tt
+
+pub returns-in-Some-clause-up : goal.returns-in-Some-clause-up
+returns-in-Some-clause-up g c = tt
+
+pub returns-in-Some-clause-newest : goal.returns-in-Some-clause-newest
+returns-in-Some-clause-newest g c = tt
+
+pub returns-in-Some-clause-trust : goal.returns-in-Some-clause-trust
+returns-in-Some-clause-trust g c = tt
+
+pub returns-in-Some-clause-whole : goal.returns-in-Some-clause-whole
+returns-in-Some-clause-whole g c = tt
+
+pub returns-then-is_down-clause-held : goal.returns-then-is_down-clause-held
+returns-then-is_down-clause-held g c = tt
+
+pub returns-then-is_down-clause-up : goal.returns-then-is_down-clause-up
+returns-then-is_down-clause-up g c = tt
+
+pub returns-then-is_down-clause-newest : goal.returns-then-is_down-clause-newest
+returns-then-is_down-clause-newest g c = tt
+
+pub returns-then-is_down-clause-trust : goal.returns-then-is_down-clause-trust
+returns-then-is_down-clause-trust g c = tt
+
+pub returns-then-is_down-clause-whole : goal.returns-then-is_down-clause-whole
+returns-then-is_down-clause-whole g c = tt
+
+pub returns-then-is_down-clause-refused : goal.returns-then-is_down-clause-refused
+returns-then-is_down-clause-refused g c = λ why is. absurd (let clash : None ≡ Some why = sym (sym c.refuse_volume.ensures ∙ c.in_default.is) ∙ is in cc)
+
+pub returns-in-Ok-add-clause-refused : goal.returns-in-Ok-add-clause-refused
+returns-in-Ok-add-clause-refused g c = λ why is. absurd (let clash : None ≡ Some why = sym (sym c.refuse_volume.ensures ∙ c.in_default.is) ∙ is in cc)
+
+pub returns-in-Ok-add-clause-agreed : goal.returns-in-Ok-add-clause-agreed
+returns-in-Ok-add-clause-agreed g c = tt
+
+pub returns-in-Err-clause-stands : goal.returns-in-Err-clause-stands
+returns-in-Err-clause-stands g c = c.requires.stands
+
+pub returns-in-Err-clause-agreed : goal.returns-in-Err-clause-agreed
+returns-in-Err-clause-agreed g c = c.requires.stands.stands.trusts.both
+
+pub returns-in-Some-clause-stands : goal.returns-in-Some-clause-stands
+returns-in-Some-clause-stands g c = c.requires.stands
+
+pub returns-in-Some-clause-agreed : goal.returns-in-Some-clause-agreed
+returns-in-Some-clause-agreed g c = c.requires.stands.stands.trusts.both
+
+pub returns-then-is_down-clause-stands : goal.returns-then-is_down-clause-stands
+returns-then-is_down-clause-stands g c = c.requires.stands
+
+pub returns-then-is_down-clause-agreed : goal.returns-then-is_down-clause-agreed
+returns-then-is_down-clause-agreed g c = c.requires.stands.stands.trusts.both
+
+pub returns-in-Some-clause-ends : goal.returns-in-Some-clause-ends
+returns-in-Some-clause-ends g c = λ none. absurd (let clash : None ≡ Some c.in-Some.no = sym none ∙ sym c.refuse_volume.ensures ∙ c.in-Some.is in cc)
+
+pub returns-in-Err-release-clause-stands : goal.returns-in-Err-release-clause-stands
+returns-in-Err-release-clause-stands g c = c.release.ensures.stands
+
+pub returns-in-Err-release-clause-parts : goal.returns-in-Err-release-clause-parts
+returns-in-Err-release-clause-parts g c = c.release.ensures.parts
+
+pub returns-in-Err-release-clause-disks : goal.returns-in-Err-release-clause-disks
+returns-in-Err-release-clause-disks g c = c.release.ensures.failing
+
+pub returns-in-Err-release-clause-agreed : goal.returns-in-Err-release-clause-agreed
+returns-in-Err-release-clause-agreed g c = c.in-Err-release.ensures.agreed

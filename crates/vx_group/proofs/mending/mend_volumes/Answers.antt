@@ -1,5 +1,5 @@
 -- `mend_volumes`: clauses mended, only and agreed; what `copy_volume` asks; what stays true in its loop over `vol`.
-use Rattle.std.proofs.Common.{◌+◌, ◌<◌, ℕ, sym, subst, ap, length, arith}
+use Rattle.std.proofs.Common.{◌+◌, ◌<◌, ℕ, sym, subst, ap, length, arith, ◌∙◌, Err}
 use Rattle.std.specs.Prelude.{Option}
 use Rattle.vx_config.specs.Checks.{blocks_of}
 use Rattle.vx_drl.specs.Dirty.{Dirty}
@@ -12,6 +12,7 @@ use Rattle.vx_group.specs.Stands.{inner_meaning}
 use Rattle.vx_group.specs.declared.inner.Inner.{Inner}
 use Rattle.vx_group.proofs.MendLemmas.{mend_more, mend_on, mend_skip, none_mended, only_more, same_Goes}
 use Rattle.vx_group.proofs.mending.mend_volumes.Goals.{then-stopped-vol+in-Ok, else-stopped-vol}
+use Rattle.vx_group.proofs.CallLemmas.{blames_later}
 use Rattle.vx_group.proofs.mending.mend_volumes.Goals as goal
 
 pub loop-vol-init : goal.loop-vol-init
@@ -58,3 +59,25 @@ returns-clause-only g c = c.loop-vol.invariant.only
 
 pub returns-in-Err-clause-agreed : goal.returns-in-Err-clause-agreed
 returns-in-Err-clause-agreed g c = λ is. c.in-Err.ensures.agreed (c.loop-vol.invariant.trust is)
+
+pub copy_volume-requires-clause-stands : goal.copy_volume-requires-clause-stands
+copy_volume-requires-clause-stands g c = c.loop-vol.invariant.on.stands
+
+pub copy_volume-requires-clause-settled : goal.copy_volume-requires-clause-settled
+copy_volume-requires-clause-settled g c = c.loop-vol.invariant.settled
+
+pub copy_volume-requires-clause-there : goal.copy_volume-requires-clause-there
+copy_volume-requires-clause-there g c = let count = ap length c.as_slice-vol-end.ensures.volumes in let same = c.loop-vol.invariant.on.shape.volumes in omega (arith, count, same, c.loop-vol-test.true)
+
+pub copy_volume-requires-clause-is_on : goal.copy_volume-requires-clause-is_on
+copy_volume-requires-clause-is_on g c =
+    c.loop-vol.invariant.still c.loop-vol.vol (source_at c.args.sources.now c.loop-vol.vol) (omega arith) ∙ c.requires.on c.loop-vol.vol (let count = ap length c.as_slice-vol-end.ensures.volumes in omega (arith, count, c.loop-vol-test.true))
+
+pub copy_volume-requires-clause-up : goal.copy_volume-requires-clause-up
+copy_volume-requires-clause-up g c = c.loop-vol.invariant.up
+
+pub returns-in-Err-clause-cause : goal.returns-in-Err-clause-cause
+returns-in-Err-clause-cause g c = blames_later {T = Unit {0}} (Err c.in-Err.error) (g.S.Shelf.meaning c.args.shelf.now) (g.S.Shelf.meaning c.loop-vol.shelf) (g.S.Shelf.meaning c.copy_volume.new.shelf) c.loop-vol.invariant.on.disk_faults c.in-Err.ensures.cause
+
+pub returns-clause-cause : goal.returns-clause-cause
+returns-clause-cause g c = c.loop-vol.invariant.up

@@ -2,7 +2,7 @@
 use Rattle.std.proofs.Common.{ℕ, ◌/◌, ◌∙◌, length, refl, sym, subst, arith}
 use Rattle.vx_volume.specs.Volumes.{PlexRead}
 use Rattle.vx_group.specs.Holding.{wide}
-use Rattle.vx_group.specs.Stands.{volume_faults}
+use Rattle.vx_group.specs.Stands.{volume_faults, inner_meaning}
 use Rattle.vx_group.specs.Turns.{next_plex}
 use Rattle.vx_group.proofs.CallLemmas.{with_Stands}
 use Rattle.vx_group.proofs.MendLemmas.{same_Goes}
@@ -63,3 +63,75 @@ returns-in-Err-Device-clause-turn g c = rw c.in-Err-Device.field-0-is (
       c.in-Err-Device.disk c.in-Err-Device.field-0-is c.in-Err-Device.ensures.reads,
   refl,
 )
+
+pub returns-then-is_down-clause-stands : goal.returns-then-is_down-clause-stands
+returns-then-is_down-clause-stands g c = c.requires.stands
+
+pub returns-then-is_down-clause-goes : goal.returns-then-is_down-clause-goes
+returns-then-is_down-clause-goes g c = same_Goes (inner_meaning (wide c.args.core.now) (g.S.Shelf.meaning c.args.shelf.now))
+
+pub returns-then-is_down-clause-shown : goal.returns-then-is_down-clause-shown
+returns-then-is_down-clause-shown g c = tt
+
+pub returns-then-is_down-clause-ok : goal.returns-then-is_down-clause-ok
+returns-then-is_down-clause-ok g c = tt
+
+pub returns-then-is_down-clause-down : goal.returns-then-is_down-clause-down
+returns-then-is_down-clause-down g c = refl
+
+pub returns-then-is_down-clause-cause : goal.returns-then-is_down-clause-cause
+returns-then-is_down-clause-cause g c = sym c.is_down.ensures ∙ c.if-is_down.true
+
+pub returns-then-is_down-clause-held : goal.returns-then-is_down-clause-held
+returns-then-is_down-clause-held g c = refl
+
+pub returns-then-is_down-clause-same : goal.returns-then-is_down-clause-same
+returns-then-is_down-clause-same g c = refl
+
+pub returns-then-is_down-clause-settled : goal.returns-then-is_down-clause-settled
+returns-then-is_down-clause-settled g c = refl
+
+pub returns-then-is_down-clause-unsure : goal.returns-then-is_down-clause-unsure
+returns-then-is_down-clause-unsure g c = refl
+
+pub returns-then-is_down-clause-counts : goal.returns-then-is_down-clause-counts
+returns-then-is_down-clause-counts g c = λ u apart. refl
+
+pub returns-then-is_down-clause-trusted : goal.returns-then-is_down-clause-trusted
+returns-then-is_down-clause-trusted g c = (refl, refl)
+
+pub returns-in-Ok-clause-held : goal.returns-in-Ok-clause-held
+returns-in-Ok-clause-held g c = refl
+
+pub returns-in-Ok-clause-trusted : goal.returns-in-Ok-clause-trusted
+returns-in-Ok-clause-trusted g c = (refl, refl)
+
+pub returns-in-Ok-clause-same : goal.returns-in-Ok-clause-same
+returns-in-Ok-clause-same g c = refl
+
+pub returns-in-Ok-clause-settled : goal.returns-in-Ok-clause-settled
+returns-in-Ok-clause-settled g c = refl
+
+pub returns-in-Ok-clause-unsure : goal.returns-in-Ok-clause-unsure
+returns-in-Ok-clause-unsure g c = refl
+
+pub returns-in-Err-Device-clause-held : goal.returns-in-Err-Device-clause-held
+returns-in-Err-Device-clause-held g c = refl
+
+pub returns-in-Err-Device-clause-trusted : goal.returns-in-Err-Device-clause-trusted
+returns-in-Err-Device-clause-trusted g c = (refl, refl)
+
+pub returns-in-Err-Device-clause-same : goal.returns-in-Err-Device-clause-same
+returns-in-Err-Device-clause-same g c = refl
+
+pub returns-in-Err-Device-clause-settled : goal.returns-in-Err-Device-clause-settled
+returns-in-Err-Device-clause-settled g c = refl
+
+pub returns-in-Err-Device-clause-unsure : goal.returns-in-Err-Device-clause-unsure
+returns-in-Err-Device-clause-unsure g c = refl
+
+pub returns-in-Err-Device-clause-shown : goal.returns-in-Err-Device-clause-shown
+returns-in-Err-Device-clause-shown g c = tt
+
+pub returns-in-Err-Device-clause-ok : goal.returns-in-Err-Device-clause-ok
+returns-in-Err-Device-clause-ok g c = tt

@@ -6,7 +6,7 @@ use Rattle.vx_group.specs.declared.group_core.GroupCore.{GroupCore}
 use Rattle.vx_group.specs.declared.inner.Inner.{Inner}
 use Rattle.vx_group.proofs.AloneLemmas.{back_failing}
 use Rattle.vx_group.proofs.FailingLemmas.{no_failing}
-use Rattle.vx_group.proofs.HoldLemmas.{back_free, back_inner, back_parts, back_rest, e_Stands, e_finds, e_narrows, e_volumes, opened_same, wide_none, x_other, e_told}
+use Rattle.vx_group.proofs.HoldLemmas.{back_free, back_inner, back_parts, back_rest, e_Stands, e_finds, e_narrows, e_volumes, opened_same, wide_none, x_other, e_told, x_on}
 use Rattle.vx_group.proofs.LoseLemmas.{le_same, none_parts}
 use Rattle.vx_group.proofs.RegainLemmas.{same_narrows}
 use Rattle.vx_group.proofs.TrustLemmas.{err_from, ok_from}
@@ -15,6 +15,7 @@ use Rattle.vx_group.specs.Moves.{Narrows}
 use Rattle.vx_group.specs.Settles.{CoreSettles}
 use Rattle.vx_group.proofs.SettleCalls.{same_told}
 use Rattle.vx_group.proofs.UnsureMarks.{same_unsure}
+use Rattle.vx_group.specs.Stands.{InnerStands}
 use Rattle.vx_group.proofs.releasing.release.Goals as goal
 use Rattle.vx_group.specs.Finds.{CoreFinds}
 use Rattle.vx_group.specs.Holding.{GroupStands, wide}
@@ -203,3 +204,16 @@ returns-then-core-ge-MOST_NUMBER-clause-agreed g c = tt
 
 pub returns-then-core-ge-MOST_NUMBER-clause-cause : goal.returns-then-core-ge-MOST_NUMBER-clause-cause
 returns-then-core-ge-MOST_NUMBER-clause-cause g c = c.requires.up
+
+pub detach_plex-result-requires-clause-stands : goal.detach_plex-result-requires-clause-stands
+detach_plex-result-requires-clause-stands g c = subst (λ (i : Inner). InnerStands i (g.S.Shelf.meaning c.args.shelf.now)) (sym c.open_held.ensures.inner) c.requires.stands.stands
+
+pub detach_plex-result-requires-clause-is_on : goal.detach_plex-result-requires-clause-is_on
+detach_plex-result-requires-clause-is_on g c = x_on c.args.core.now c.in-Some.held (g.S.Shelf.meaning c.args.shelf.now) c.requires.stands (sym c.open_held.ensures.held ∙ c.in-Some.is) c.open_held.new.core.inner c.open_held.ensures.inner
+
+pub detach_plex-result-requires-clause-more : goal.detach_plex-result-requires-clause-more
+detach_plex-result-requires-clause-more g c =
+    let left = c.if-core-ge-MOST_NUMBER.false in let same : c.open_held.new.core.inner.config.serial ≡ c.args.core.now.inner.config.serial = ap (λ (i : Inner). i.config.serial) c.open_held.ensures.inner in omega (arith, left, same)
+
+pub detach_plex-result-requires-clause-up : goal.detach_plex-result-requires-clause-up
+detach_plex-result-requires-clause-up g c = c.requires.up

@@ -2,12 +2,16 @@
 use Rattle.std.proofs.Common.{◌∙◌, length, refl, arith, ◌≡◌, true, false, sym}
 use Rattle.vx_group.proofs.CallLemmas.{blames_later, both_Narrows}
 use Rattle.vx_group.proofs.DetachLemmas.{zero_bit}
-use Rattle.vx_group.proofs.FailingLemmas.{few_ok, then_failing}
-use Rattle.vx_group.proofs.LoseLemmas.{but_parts, then_parts}
+use Rattle.vx_group.proofs.FailingLemmas.{few_ok, then_failing, no_failing}
+use Rattle.vx_group.proofs.LoseLemmas.{but_parts, then_parts, none_parts}
 use Rattle.vx_group.proofs.SettleCalls.{headers_missed, same_told, settled_behind}
 use Rattle.vx_group.proofs.Standing.{some_active}
 use Rattle.vx_group.proofs.TrustLemmas.{err_from, ok_from}
-use Rattle.vx_group.proofs.FindingLemmas.{behind_finds}
+use Rattle.vx_group.proofs.FindingLemmas.{behind_finds, none_finds}
+use Rattle.vx_kept.specs.Commits.{Member}
+use Rattle.vx_kept.specs.Keeping.{Sees}
+use Rattle.vx_kept.proofs.StateLemmas.{same_shape}
+use Rattle.vx_kept.proofs.Steps.{same_Acts}
 use Rattle.vx_group.proofs.settling.make_ready.Goals as goal
 
 pub detach-requires-clause-left : goal.detach-requires-clause-left
@@ -87,3 +91,108 @@ returns-in-Err-clause-ready g c = tt
 
 pub returns-clause-ready : goal.returns-clause-ready
 returns-clause-ready g c = ok_from c.detach.result (λ off on. absurd (let clash : true ≡ false = sym on ∙ off in cc)) c.detach.ensures.settled
+
+pub returns-then-core-ge-MOST_NUMBER-clause-stands : goal.returns-then-core-ge-MOST_NUMBER-clause-stands
+returns-then-core-ge-MOST_NUMBER-clause-stands g c = c.requires.stands
+
+pub returns-then-core-ge-MOST_NUMBER-clause-volumes : goal.returns-then-core-ge-MOST_NUMBER-clause-volumes
+returns-then-core-ge-MOST_NUMBER-clause-volumes g c = refl
+
+pub returns-then-core-ge-MOST_NUMBER-clause-parts : goal.returns-then-core-ge-MOST_NUMBER-clause-parts
+returns-then-core-ge-MOST_NUMBER-clause-parts g c = none_parts c.args.core.now.config
+
+pub returns-then-core-ge-MOST_NUMBER-clause-failing : goal.returns-then-core-ge-MOST_NUMBER-clause-failing
+returns-then-core-ge-MOST_NUMBER-clause-failing g c = no_failing (g.S.Shelf.meaning c.args.shelf.now) (g.S.Shelf.meaning c.args.shelf.now) c.args.core.now.config.disks c.args.core.now.config.disks refl
+
+pub returns-then-core-ge-MOST_NUMBER-clause-few : goal.returns-then-core-ge-MOST_NUMBER-clause-few
+returns-then-core-ge-MOST_NUMBER-clause-few g c = omega arith
+
+pub returns-then-core-ge-MOST_NUMBER-clause-missed : goal.returns-then-core-ge-MOST_NUMBER-clause-missed
+returns-then-core-ge-MOST_NUMBER-clause-missed g c = tt
+
+pub returns-then-core-ge-MOST_NUMBER-clause-trust : goal.returns-then-core-ge-MOST_NUMBER-clause-trust
+returns-then-core-ge-MOST_NUMBER-clause-trust g c = λ is. is
+
+pub returns-then-core-ge-MOST_NUMBER-clause-agreed : goal.returns-then-core-ge-MOST_NUMBER-clause-agreed
+returns-then-core-ge-MOST_NUMBER-clause-agreed g c = tt
+
+pub returns-then-core-ge-MOST_NUMBER-clause-finds : goal.returns-then-core-ge-MOST_NUMBER-clause-finds
+returns-then-core-ge-MOST_NUMBER-clause-finds g c = none_finds c.args.core.now (g.S.Shelf.meaning c.args.shelf.now)
+
+pub returns-then-core-ge-MOST_NUMBER-clause-full : goal.returns-then-core-ge-MOST_NUMBER-clause-full
+returns-then-core-ge-MOST_NUMBER-clause-full g c = λ full. full
+
+pub returns-then-core-ge-MOST_NUMBER-clause-good : goal.returns-then-core-ge-MOST_NUMBER-clause-good
+returns-then-core-ge-MOST_NUMBER-clause-good g c = λ is. refl
+
+pub returns-then-core-ge-MOST_NUMBER-clause-cause : goal.returns-then-core-ge-MOST_NUMBER-clause-cause
+returns-then-core-ge-MOST_NUMBER-clause-cause g c = c.requires.up
+
+pub returns-then-not-core-clause-stands : goal.returns-then-not-core-clause-stands
+returns-then-not-core-clause-stands g c = c.requires.stands
+
+pub returns-then-not-core-clause-volumes : goal.returns-then-not-core-clause-volumes
+returns-then-not-core-clause-volumes g c = refl
+
+pub returns-then-not-core-clause-parts : goal.returns-then-not-core-clause-parts
+returns-then-not-core-clause-parts g c = none_parts c.args.core.now.config
+
+pub returns-then-not-core-clause-failing : goal.returns-then-not-core-clause-failing
+returns-then-not-core-clause-failing g c = no_failing (g.S.Shelf.meaning c.args.shelf.now) (g.S.Shelf.meaning c.args.shelf.now) c.args.core.now.config.disks c.args.core.now.config.disks refl
+
+pub returns-then-not-core-clause-few : goal.returns-then-not-core-clause-few
+returns-then-not-core-clause-few g c = omega arith
+
+pub returns-then-not-core-clause-missed : goal.returns-then-not-core-clause-missed
+returns-then-not-core-clause-missed g c = tt
+
+pub returns-then-not-core-clause-trust : goal.returns-then-not-core-clause-trust
+returns-then-not-core-clause-trust g c = λ is. is
+
+pub returns-then-not-core-clause-agreed : goal.returns-then-not-core-clause-agreed
+returns-then-not-core-clause-agreed g c = tt
+
+pub returns-then-not-core-clause-finds : goal.returns-then-not-core-clause-finds
+returns-then-not-core-clause-finds g c = none_finds c.args.core.now (g.S.Shelf.meaning c.args.shelf.now)
+
+pub returns-then-not-core-clause-full : goal.returns-then-not-core-clause-full
+returns-then-not-core-clause-full g c = λ full. full
+
+pub returns-then-not-core-clause-good : goal.returns-then-not-core-clause-good
+returns-then-not-core-clause-good g c = λ is. refl
+
+pub returns-then-not-core-clause-cause : goal.returns-then-not-core-clause-cause
+returns-then-not-core-clause-cause g c = c.requires.up
+
+pub returns-in-Err-clause-stands : goal.returns-in-Err-clause-stands
+returns-in-Err-clause-stands g c = c.settle_headers.ensures.stands
+
+pub returns-in-Err-clause-narrows : goal.returns-in-Err-clause-narrows
+returns-in-Err-clause-narrows g c = c.settle_headers.ensures.narrows
+
+pub returns-in-Err-clause-volumes : goal.returns-in-Err-clause-volumes
+returns-in-Err-clause-volumes g c = c.settle_headers.ensures.volumes
+
+pub returns-in-Err-clause-failing : goal.returns-in-Err-clause-failing
+returns-in-Err-clause-failing g c = c.settle_headers.ensures.failing
+
+pub returns-in-Err-clause-few : goal.returns-in-Err-clause-few
+returns-in-Err-clause-few g c = tt
+
+pub returns-in-Err-clause-trust : goal.returns-in-Err-clause-trust
+returns-in-Err-clause-trust g c = tt
+
+pub returns-in-Err-clause-finds : goal.returns-in-Err-clause-finds
+returns-in-Err-clause-finds g c = c.settle_headers.ensures.finds
+
+pub returns-in-Err-clause-cause : goal.returns-in-Err-clause-cause
+returns-in-Err-clause-cause g c = c.in-Err.ensures.cause
+
+pub returns-clause-stands : goal.returns-clause-stands
+returns-clause-stands g c = c.detach.ensures.stands
+
+pub returns-then-core-ge-MOST_NUMBER-clause-narrows : goal.returns-then-core-ge-MOST_NUMBER-clause-narrows
+returns-then-core-ge-MOST_NUMBER-clause-narrows g c = record { acts = same_Acts (Sees c.args.core.now.config (Member c.args.core.now.good (g.S.Shelf.meaning c.args.shelf.now)) (g.S.Shelf.meaning c.args.shelf.now)) (g.S.Shelf.meaning c.args.shelf.now); shape = same_shape c.args.core.now.config; on = λ v p is. is; faults = refl; unsure = refl }
+
+pub returns-then-not-core-clause-narrows : goal.returns-then-not-core-clause-narrows
+returns-then-not-core-clause-narrows g c = record { acts = same_Acts (Sees c.args.core.now.config (Member c.args.core.now.good (g.S.Shelf.meaning c.args.shelf.now)) (g.S.Shelf.meaning c.args.shelf.now)) (g.S.Shelf.meaning c.args.shelf.now); shape = same_shape c.args.core.now.config; on = λ v p is. is; faults = refl; unsure = refl }

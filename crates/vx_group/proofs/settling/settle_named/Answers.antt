@@ -1,5 +1,5 @@
 -- `settle_named`: clauses stands, narrows, cause, same, still, failing, named and 2 more; what `settle` asks; what stays true in its loop over `disk`.
-use Rattle.std.proofs.Common.{◌≡◌, ◌+◌, ◌<◌, ◌∙◌, ℕ, Bool, true, false, List, length, refl, ap, sym, subst, arith}
+use Rattle.std.proofs.Common.{◌≡◌, ◌+◌, ◌<◌, ◌∙◌, ℕ, Bool, true, false, List, length, refl, ap, sym, subst, arith, inl}
 use Rattle.vx_config.specs.declared.entry.DiskEntry.{DiskEntry}
 use Rattle.vx_copies.proofs.OneTry.{wanted_count}
 use Rattle.vx_copies.proofs.Settling.{failed_at as failed_is, no_disk}
@@ -194,3 +194,60 @@ returns-clause-finds g c =
     subst (λ (k : Inner). CoreFinds c.args.core.now k (g.S.Shelf.meaning c.args.shelf.now) (g.S.Shelf.meaning c.loop-disk.shelf)) (sym (core_settled c.args.core.now c.loop-disk.core c.loop-disk.invariant.1))
     (open_finds c.args.core.now _ (g.S.Shelf.meaning c.args.shelf.now) (g.S.Shelf.meaning c.loop-disk.shelf) (λ openly. openly c.if-not-core.false)
     (settle_finds c.args.core.now.good c.args.core.now.config c.loop-disk.core.config c.loop-disk.disk c.loop-disk.device c.loop-disk.failed (g.S.Shelf.meaning c.args.shelf.now) (g.S.Shelf.meaning c.loop-disk.shelf) (g.met.S.Shelf.lawful c.args.shelf.now) (g.met.S.Shelf.lawful c.loop-disk.shelf) c.loop-disk.invariant.0))
+
+pub returns-clause-settled : goal.returns-clause-settled
+returns-clause-settled g c = refl
+
+pub returns-clause-missed : goal.returns-clause-missed
+returns-clause-missed g c = tt
+
+pub returns-clause-back : goal.returns-clause-back
+returns-clause-back g c = tt
+
+pub returns-in-Err-Down-clause-settled : goal.returns-in-Err-Down-clause-settled
+returns-in-Err-Down-clause-settled g c = tt
+
+pub returns-in-Err-Down-clause-still : goal.returns-in-Err-Down-clause-still
+returns-in-Err-Down-clause-still g c = tt
+
+pub returns-in-Err-Down-clause-named : goal.returns-in-Err-Down-clause-named
+returns-in-Err-Down-clause-named g c = tt
+
+pub returns-then-not-has_good-clause-settled : goal.returns-then-not-has_good-clause-settled
+returns-then-not-has_good-clause-settled g c = tt
+
+pub returns-then-not-has_good-clause-still : goal.returns-then-not-has_good-clause-still
+returns-then-not-has_good-clause-still g c = tt
+
+pub returns-then-not-has_good-clause-named : goal.returns-then-not-has_good-clause-named
+returns-then-not-has_good-clause-named g c = tt
+
+pub returns-then-not-core-clause-volumes : goal.returns-then-not-core-clause-volumes
+returns-then-not-core-clause-volumes g c = refl
+
+pub returns-then-not-core-clause-serial : goal.returns-then-not-core-clause-serial
+returns-then-not-core-clause-serial g c = refl
+
+pub returns-then-not-core-clause-good : goal.returns-then-not-core-clause-good
+returns-then-not-core-clause-good g c = refl
+
+pub returns-then-not-core-clause-trust : goal.returns-then-not-core-clause-trust
+returns-then-not-core-clause-trust g c = refl
+
+pub returns-then-not-core-clause-agreed : goal.returns-then-not-core-clause-agreed
+returns-then-not-core-clause-agreed g c = refl
+
+pub returns-then-not-core-clause-missed : goal.returns-then-not-core-clause-missed
+returns-then-not-core-clause-missed g c = tt
+
+pub returns-then-not-core-clause-back : goal.returns-then-not-core-clause-back
+returns-then-not-core-clause-back g c = tt
+
+pub returns-then-not-core-clause-stands : goal.returns-then-not-core-clause-stands
+returns-then-not-core-clause-stands g c = c.requires.stands
+
+pub returns-then-not-core-clause-cause : goal.returns-then-not-core-clause-cause
+returns-then-not-core-clause-cause g c = c.requires.up
+
+pub returns-then-not-core-clause-still : goal.returns-then-not-core-clause-still
+returns-then-not-core-clause-still g c = inl refl

@@ -1,5 +1,5 @@
 -- `trust_group`: its clauses, over a group of which no plex is held back; what `trust_log` asks.
-use Rattle.std.proofs.Common.{false, refl, sym, subst, ◌∙◌}
+use Rattle.std.proofs.Common.{false, refl, sym, subst, ◌∙◌, arith, true, ◌≡◌}
 use Rattle.vx_config.specs.Changes.{lost}
 use Rattle.vx_disk.specs.Shelf.{Goes, Nothing}
 use Rattle.vx_kept.specs.PlexActs.{PlexActs}
@@ -16,6 +16,7 @@ use Rattle.vx_group.proofs.FoundThrough.{alone_finds}
 use Rattle.vx_group.proofs.TrustStillLemmas.{same_logs}
 use Rattle.vx_group.proofs.UnsureMarks.{same_unsure}
 use Rattle.vx_group.proofs.UnsureLemmas.{misses_by}
+use Rattle.vx_group.proofs.CallLemmas.{not_down}
 use Rattle.vx_group.proofs.trusting.trust_group.Goals as goal
 
 pub trust_log-requires-clause-stands : goal.trust_log-requires-clause-stands
@@ -110,3 +111,135 @@ returns-in-Err-clause-logs g c = c.trust_log.ensures.logs
 
 pub returns-in-Err-clause-misses : goal.returns-in-Err-clause-misses
 returns-in-Err-clause-misses g c = misses_by c.trust_log.new.core (g.S.Shelf.meaning c.args.shelf.now) (g.S.Shelf.meaning c.trust_log.new.shelf) c.in-Err.error c.in-Err.ensures.missed c.in-Err.ensures.cause
+
+pub returns-then-is_down-clause-stands : goal.returns-then-is_down-clause-stands
+returns-then-is_down-clause-stands g c = c.requires.stands
+
+pub returns-then-is_down-clause-none : goal.returns-then-is_down-clause-none
+returns-then-is_down-clause-none g c = c.requires.none
+
+pub returns-then-is_down-clause-few : goal.returns-then-is_down-clause-few
+returns-then-is_down-clause-few g c = tt
+
+pub returns-then-is_down-clause-faults : goal.returns-then-is_down-clause-faults
+returns-then-is_down-clause-faults g c = refl
+
+pub returns-then-is_down-clause-unsure : goal.returns-then-is_down-clause-unsure
+returns-then-is_down-clause-unsure g c = refl
+
+pub returns-then-is_down-clause-volumes : goal.returns-then-is_down-clause-volumes
+returns-then-is_down-clause-volumes g c = tt
+
+pub returns-then-is_down-clause-committed : goal.returns-then-is_down-clause-committed
+returns-then-is_down-clause-committed g c = tt
+
+pub returns-then-is_down-clause-full : goal.returns-then-is_down-clause-full
+returns-then-is_down-clause-full g c = tt
+
+pub returns-then-is_down-clause-trust : goal.returns-then-is_down-clause-trust
+returns-then-is_down-clause-trust g c = tt
+
+pub returns-then-is_down-clause-misses : goal.returns-then-is_down-clause-misses
+returns-then-is_down-clause-misses g c = tt
+
+pub returns-then-is_down-clause-cause : goal.returns-then-is_down-clause-cause
+returns-then-is_down-clause-cause g c = sym c.is_down.ensures ∙ c.if-is_down.true
+
+pub returns-then-core-ge-MOST_NUMBER-clause-stands : goal.returns-then-core-ge-MOST_NUMBER-clause-stands
+returns-then-core-ge-MOST_NUMBER-clause-stands g c = c.requires.stands
+
+pub returns-then-core-ge-MOST_NUMBER-clause-none : goal.returns-then-core-ge-MOST_NUMBER-clause-none
+returns-then-core-ge-MOST_NUMBER-clause-none g c = c.requires.none
+
+pub returns-then-core-ge-MOST_NUMBER-clause-few : goal.returns-then-core-ge-MOST_NUMBER-clause-few
+returns-then-core-ge-MOST_NUMBER-clause-few g c = omega arith
+
+pub returns-then-core-ge-MOST_NUMBER-clause-faults : goal.returns-then-core-ge-MOST_NUMBER-clause-faults
+returns-then-core-ge-MOST_NUMBER-clause-faults g c = refl
+
+pub returns-then-core-ge-MOST_NUMBER-clause-unsure : goal.returns-then-core-ge-MOST_NUMBER-clause-unsure
+returns-then-core-ge-MOST_NUMBER-clause-unsure g c = refl
+
+pub returns-then-core-ge-MOST_NUMBER-clause-trust : goal.returns-then-core-ge-MOST_NUMBER-clause-trust
+returns-then-core-ge-MOST_NUMBER-clause-trust g c = λ is. is
+
+pub returns-then-core-ge-MOST_NUMBER-clause-agreed : goal.returns-then-core-ge-MOST_NUMBER-clause-agreed
+returns-then-core-ge-MOST_NUMBER-clause-agreed g c = tt
+
+pub returns-then-core-ge-MOST_NUMBER-clause-misses : goal.returns-then-core-ge-MOST_NUMBER-clause-misses
+returns-then-core-ge-MOST_NUMBER-clause-misses g c = tt
+
+pub returns-then-core-ge-MOST_NUMBER-clause-volumes : goal.returns-then-core-ge-MOST_NUMBER-clause-volumes
+returns-then-core-ge-MOST_NUMBER-clause-volumes g c = λ is. absurd (let clash : false ≡ true = is in cc)
+
+pub returns-then-core-ge-MOST_NUMBER-clause-committed : goal.returns-then-core-ge-MOST_NUMBER-clause-committed
+returns-then-core-ge-MOST_NUMBER-clause-committed g c = λ is. absurd (let clash : false ≡ true = is in cc)
+
+pub returns-in-Ok-clause-full : goal.returns-in-Ok-clause-full
+returns-in-Ok-clause-full g c = λ is. absurd (let clash : true ≡ false = is in cc)
+
+pub returns-in-Ok-clause-loses : goal.returns-in-Ok-clause-loses
+returns-in-Ok-clause-loses g c = c.trust_log.ensures.loses
+
+pub returns-in-Err-clause-loses : goal.returns-in-Err-clause-loses
+returns-in-Err-clause-loses g c = c.trust_log.ensures.loses
+
+pub returns-in-Ok-clause-few : goal.returns-in-Ok-clause-few
+returns-in-Ok-clause-few g c = c.in-Ok.ensures.few
+
+pub returns-in-Err-clause-few : goal.returns-in-Err-clause-few
+returns-in-Err-clause-few g c = tt
+
+pub returns-in-Ok-clause-faults : goal.returns-in-Ok-clause-faults
+returns-in-Ok-clause-faults g c = c.trust_log.ensures.faults
+
+pub returns-in-Err-clause-faults : goal.returns-in-Err-clause-faults
+returns-in-Err-clause-faults g c = c.trust_log.ensures.faults
+
+pub returns-in-Ok-clause-unsure : goal.returns-in-Ok-clause-unsure
+returns-in-Ok-clause-unsure g c = c.trust_log.ensures.unsure
+
+pub returns-in-Err-clause-unsure : goal.returns-in-Err-clause-unsure
+returns-in-Err-clause-unsure g c = c.trust_log.ensures.unsure
+
+pub returns-in-Err-clause-volumes : goal.returns-in-Err-clause-volumes
+returns-in-Err-clause-volumes g c = tt
+
+pub returns-in-Err-clause-committed : goal.returns-in-Err-clause-committed
+returns-in-Err-clause-committed g c = tt
+
+pub returns-in-Err-clause-full : goal.returns-in-Err-clause-full
+returns-in-Err-clause-full g c = tt
+
+pub returns-in-Ok-clause-trust : goal.returns-in-Ok-clause-trust
+returns-in-Ok-clause-trust g c = c.in-Ok.ensures.trust
+
+pub returns-in-Err-clause-trust : goal.returns-in-Err-clause-trust
+returns-in-Err-clause-trust g c = tt
+
+pub returns-in-Ok-clause-agreed : goal.returns-in-Ok-clause-agreed
+returns-in-Ok-clause-agreed g c = tt
+
+pub returns-in-Err-clause-agreed : goal.returns-in-Err-clause-agreed
+returns-in-Err-clause-agreed g c = c.in-Err.ensures.agreed
+
+pub returns-in-Ok-clause-none : goal.returns-in-Ok-clause-none
+returns-in-Ok-clause-none g c = c.requires.none
+
+pub returns-in-Err-clause-none : goal.returns-in-Err-clause-none
+returns-in-Err-clause-none g c = c.requires.none
+
+pub returns-in-Ok-clause-misses : goal.returns-in-Ok-clause-misses
+returns-in-Ok-clause-misses g c = tt
+
+pub returns-in-Ok-clause-volumes : goal.returns-in-Ok-clause-volumes
+returns-in-Ok-clause-volumes g c = λ is. c.in-Ok.ensures.volumes
+
+pub returns-in-Ok-clause-committed : goal.returns-in-Ok-clause-committed
+returns-in-Ok-clause-committed g c = λ is. c.in-Ok.ensures.committed
+
+pub returns-in-Ok-clause-cause : goal.returns-in-Ok-clause-cause
+returns-in-Ok-clause-cause g c = c.in-Ok.ensures.cause
+
+pub returns-then-core-ge-MOST_NUMBER-clause-cause : goal.returns-then-core-ge-MOST_NUMBER-clause-cause
+returns-then-core-ge-MOST_NUMBER-clause-cause g c = not_down c.is_down.result (g.S.Shelf.meaning c.args.shelf.now).down c.is_down.ensures c.if-is_down.false

@@ -105,3 +105,33 @@ returns-in-Err-clause-missed g c = inl c.in-Err.ensures.missed
 
 pub returns-clause-missed : goal.returns-clause-missed
 returns-clause-missed g c = c.detach.ensures.missed
+
+pub returns-clause-stands : goal.returns-clause-stands
+returns-clause-stands g c = c.detach.ensures.stands
+
+pub returns-clause-committed : goal.returns-clause-committed
+returns-clause-committed g c = c.detach.ensures.committed
+
+pub returns-in-Err-clause-few : goal.returns-in-Err-clause-few
+returns-in-Err-clause-few g c = tt
+
+pub returns-in-Err-clause-volumes : goal.returns-in-Err-clause-volumes
+returns-in-Err-clause-volumes g c = tt
+
+pub returns-in-Err-clause-trust : goal.returns-in-Err-clause-trust
+returns-in-Err-clause-trust g c = tt
+
+pub returns-in-Err-clause-committed : goal.returns-in-Err-clause-committed
+returns-in-Err-clause-committed g c = tt
+
+pub returns-in-Err-clause-faults : goal.returns-in-Err-clause-faults
+returns-in-Err-clause-faults g c = c.settle_headers.ensures.narrows.faults
+
+pub returns-in-Err-clause-unsure : goal.returns-in-Err-clause-unsure
+returns-in-Err-clause-unsure g c = c.settle_headers.ensures.narrows.unsure
+
+pub returns-in-Err-clause-stands : goal.returns-in-Err-clause-stands
+returns-in-Err-clause-stands g c = c.settle_headers.ensures.stands
+
+pub returns-in-Err-clause-cause : goal.returns-in-Err-clause-cause
+returns-in-Err-clause-cause g c = c.in-Err.ensures.cause

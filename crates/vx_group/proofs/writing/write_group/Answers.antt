@@ -6,10 +6,10 @@ use Rattle.vx_group.specs.Blames.{CountsRise}
 use Rattle.vx_group.specs.Holding.{wide}
 use Rattle.vx_group.specs.Stands.{volume_faults}
 use Rattle.vx_group.proofs.CallLemmas.{cause_by, counts_less, narrows_Goes, not_down, nothing_Wrote}
-use Rattle.vx_group.proofs.LoseLemmas.{loses_none}
+use Rattle.vx_group.proofs.LoseLemmas.{loses_none, loses_same}
 use Rattle.vx_group.proofs.RegainLemmas.{all_holds}
 use Rattle.vx_group.proofs.ThroughLemmas.{again_none, new_Stands, new_wide, released_goes, through_cause, through_gives, through_goes, through_loses, through_ok}
-use Rattle.vx_group.proofs.TrustLemmas.{ok_from}
+use Rattle.vx_group.proofs.TrustLemmas.{ok_from, err_from}
 use Rattle.vx_config.specs.declared.config.Config.{Config}
 use Rattle.vx_volume.specs.Volumes.{OnPlexes}
 use Rattle.vx_kept.proofs.PlexActing.{none_PlexActs, on_wider}
@@ -129,3 +129,57 @@ pub returns-clause-ready : goal.returns-clause-ready
 returns-clause-ready g c =
     ok_from c.write_in-result.result (λ ready. subst (λ (i : Inner). MissesNone i) (sym
     (new_wide c.args.core.now c.release.new.core (record { inner = c.write_in-result.new.core; held = c.open_held-held.new.core.held }) c.close_held.new.core c.open_held-held.new.core.inner (g.S.Shelf.meaning c.args.shelf.now) (g.S.Shelf.meaning c.release.new.shelf) (g.S.Shelf.meaning c.write_in-result.new.shelf) c.requires.stands c.release.ensures.stands c.release.ensures.narrows c.release.ensures.volumes c.open_held-held.result c.open_held-held.ensures.held c.open_held-held.ensures.inner c.open_held-held.ensures.none c.close_held.ensures)) ready) c.write_in-result.ensures.ready
+
+pub returns-then-is_down-clause-stands : goal.returns-then-is_down-clause-stands
+returns-then-is_down-clause-stands g c = c.requires.stands
+
+pub returns-then-is_down-clause-ok : goal.returns-then-is_down-clause-ok
+returns-then-is_down-clause-ok g c = tt
+
+pub returns-then-is_down-clause-ready : goal.returns-then-is_down-clause-ready
+returns-then-is_down-clause-ready g c = tt
+
+pub returns-then-is_down-clause-gave_up : goal.returns-then-is_down-clause-gave_up
+returns-then-is_down-clause-gave_up g c = tt
+
+pub returns-then-is_down-clause-loses : goal.returns-then-is_down-clause-loses
+returns-then-is_down-clause-loses g c = loses_same c.args.core.now.inner.config (g.S.Shelf.meaning c.args.shelf.now) (g.S.Shelf.meaning c.args.shelf.now)
+
+pub returns-then-is_down-clause-clear : goal.returns-then-is_down-clause-clear
+returns-then-is_down-clause-clear g c = λ what. tt
+
+pub returns-then-is_down-clause-trust : goal.returns-then-is_down-clause-trust
+returns-then-is_down-clause-trust g c = tt
+
+pub returns-then-is_down-clause-agreed : goal.returns-then-is_down-clause-agreed
+returns-then-is_down-clause-agreed g c = c.requires.stands.stands.trusts.both
+
+pub returns-then-is_down-clause-marks : goal.returns-then-is_down-clause-marks
+returns-then-is_down-clause-marks g c = refl
+
+pub returns-then-is_down-clause-cause : goal.returns-then-is_down-clause-cause
+returns-then-is_down-clause-cause g c = sym c.is_down.ensures ∙ c.if-is_down.true
+
+pub returns-in-Err-clause-ok : goal.returns-in-Err-clause-ok
+returns-in-Err-clause-ok g c = tt
+
+pub returns-in-Err-clause-ready : goal.returns-in-Err-clause-ready
+returns-in-Err-clause-ready g c = tt
+
+pub returns-in-Err-clause-trust : goal.returns-in-Err-clause-trust
+returns-in-Err-clause-trust g c = tt
+
+pub returns-in-Err-clause-clear : goal.returns-in-Err-clause-clear
+returns-in-Err-clause-clear g c = λ less. tt
+
+pub returns-in-Err-clause-agreed : goal.returns-in-Err-clause-agreed
+returns-in-Err-clause-agreed g c = c.in-Err.ensures.agreed
+
+pub returns-in-Err-clause-stands : goal.returns-in-Err-clause-stands
+returns-in-Err-clause-stands g c = let it = c.release.ensures.stands in let s = it.stands in record { stands = record { wanted = s.wanted; serial = s.serial; disks = s.disks; rvg = s.rvg; few = s.few; small = s.small; large = s.large; on = s.on; some = s.some; kept = s.kept; tidy = s.tidy; trusts = s.trusts }; held = it.held }
+
+pub returns-clause-trust : goal.returns-clause-trust
+returns-clause-trust g c = ok_from c.write_in-result.result (λ keeps is. ap (λ (i : Inner). i.committed) (new_wide c.args.core.now c.release.new.core (record { inner = c.write_in-result.new.core; held = c.open_held-held.new.core.held }) c.close_held.new.core c.open_held-held.new.core.inner (g.S.Shelf.meaning c.args.shelf.now) (g.S.Shelf.meaning c.release.new.shelf) (g.S.Shelf.meaning c.write_in-result.new.shelf) c.requires.stands c.release.ensures.stands c.release.ensures.narrows c.release.ensures.volumes c.open_held-held.result c.open_held-held.ensures.held c.open_held-held.ensures.inner c.open_held-held.ensures.none c.close_held.ensures) ∙ keeps (ap (λ (i : Inner). i.committed) c.open_held-held.ensures.inner ∙ c.in-Ok.ensures.trust is)) c.write_in-result.ensures.trust
+
+pub returns-clause-agreed : goal.returns-clause-agreed
+returns-clause-agreed g c = err_from c.write_in-result.result (λ keeps is. ap (λ (i : Inner). i.agreed) (new_wide c.args.core.now c.release.new.core (record { inner = c.write_in-result.new.core; held = c.open_held-held.new.core.held }) c.close_held.new.core c.open_held-held.new.core.inner (g.S.Shelf.meaning c.args.shelf.now) (g.S.Shelf.meaning c.release.new.shelf) (g.S.Shelf.meaning c.write_in-result.new.shelf) c.requires.stands c.release.ensures.stands c.release.ensures.narrows c.release.ensures.volumes c.open_held-held.result c.open_held-held.ensures.held c.open_held-held.ensures.inner c.open_held-held.ensures.none c.close_held.ensures) ∙ keeps (ap (λ (i : Inner). i.committed) c.open_held-held.ensures.inner ∙ c.in-Ok.ensures.trust is)) c.write_in-result.ensures.agreed

@@ -1,5 +1,5 @@
 -- `write_in`: clauses goes, cause, ok, marks, gave_up, loses, trust and 3 more.
-use Rattle.std.proofs.Common.{refl, ◌/◌, ◌∙◌, ℕ, Bool, List, length, ap, subst, Err, arith}
+use Rattle.std.proofs.Common.{refl, ◌/◌, ◌∙◌, ℕ, Bool, List, length, ap, subst, Err, arith, sym}
 use Rattle.vx_disk.specs.Shelf.{Written}
 use Rattle.vx_disk.proofs.Runs.{none_written, nothing_then}
 use Rattle.vx_group.specs.Blames.{CountsRise, MarksUnsure}
@@ -160,3 +160,60 @@ returns-in-Ok-write_plexes-clause-ready g c = c.in-Ok-write_plexes.ensures.ready
 
 pub returns-in-Err-write_plexes-clause-ready : goal.returns-in-Err-write_plexes-clause-ready
 returns-in-Err-write_plexes-clause-ready g c = tt
+
+pub returns-then-is_down-clause-stands : goal.returns-then-is_down-clause-stands
+returns-then-is_down-clause-stands g c = c.requires.stands
+
+pub returns-then-is_down-clause-ok : goal.returns-then-is_down-clause-ok
+returns-then-is_down-clause-ok g c = tt
+
+pub returns-then-is_down-clause-gave_up : goal.returns-then-is_down-clause-gave_up
+returns-then-is_down-clause-gave_up g c = tt
+
+pub returns-then-is_down-clause-trust : goal.returns-then-is_down-clause-trust
+returns-then-is_down-clause-trust g c = tt
+
+pub returns-then-is_down-clause-cause : goal.returns-then-is_down-clause-cause
+returns-then-is_down-clause-cause g c = sym c.is_down.ensures ∙ c.if-is_down.true
+
+pub returns-then-is_down-clause-unit_faults : goal.returns-then-is_down-clause-unit_faults
+returns-then-is_down-clause-unit_faults g c = λ u. omega arith
+
+pub returns-then-is_down-clause-marks : goal.returns-then-is_down-clause-marks
+returns-then-is_down-clause-marks g c = refl
+
+pub returns-in-Err-clause-ok : goal.returns-in-Err-clause-ok
+returns-in-Err-clause-ok g c = tt
+
+pub returns-in-Err-clause-trust : goal.returns-in-Err-clause-trust
+returns-in-Err-clause-trust g c = tt
+
+pub returns-in-Err-write_plexes-clause-ok : goal.returns-in-Err-write_plexes-clause-ok
+returns-in-Err-write_plexes-clause-ok g c = tt
+
+pub returns-in-Err-write_plexes-clause-trust : goal.returns-in-Err-write_plexes-clause-trust
+returns-in-Err-write_plexes-clause-trust g c = tt
+
+pub returns-in-Err-clause-agreed : goal.returns-in-Err-clause-agreed
+returns-in-Err-clause-agreed g c = c.in-Err.ensures.agreed
+
+pub returns-in-Ok-write_plexes-clause-stands : goal.returns-in-Ok-write_plexes-clause-stands
+returns-in-Ok-write_plexes-clause-stands g c = c.write_plexes.ensures.stands
+
+pub returns-in-Ok-write_plexes-clause-gave_up : goal.returns-in-Ok-write_plexes-clause-gave_up
+returns-in-Ok-write_plexes-clause-gave_up g c = tt
+
+pub returns-in-Ok-write_plexes-clause-agreed : goal.returns-in-Ok-write_plexes-clause-agreed
+returns-in-Ok-write_plexes-clause-agreed g c = tt
+
+pub returns-in-Err-clause-stands : goal.returns-in-Err-clause-stands
+returns-in-Err-clause-stands g c = let s = c.make_ready.ensures.stands in record { wanted = s.wanted; serial = s.serial; disks = s.disks; rvg = s.rvg; few = s.few; small = s.small; large = s.large; on = s.on; some = s.some; kept = s.kept; tidy = s.tidy; trusts = s.trusts }
+
+pub returns-in-Err-write_plexes-clause-stands : goal.returns-in-Err-write_plexes-clause-stands
+returns-in-Err-write_plexes-clause-stands g c = let s = c.write_plexes.ensures.stands in record { wanted = s.wanted; serial = s.serial; disks = s.disks; rvg = s.rvg; few = s.few; small = s.small; large = s.large; on = s.on; some = s.some; kept = s.kept; tidy = s.tidy; trusts = s.trusts }
+
+pub returns-in-Ok-write_plexes-clause-cause : goal.returns-in-Ok-write_plexes-clause-cause
+returns-in-Ok-write_plexes-clause-cause g c = record { before = not_down c.is_down.result (g.S.Shelf.meaning c.args.shelf.now).down c.is_down.ensures c.if-is_down.false; after = c.in-Ok-write_plexes.ensures.cause }
+
+pub returns-in-Ok-write_plexes-clause-marks : goal.returns-in-Ok-write_plexes-clause-marks
+returns-in-Ok-write_plexes-clause-marks g c = c.write_plexes.ensures.unsure ∙ c.make_ready.ensures.narrows.unsure

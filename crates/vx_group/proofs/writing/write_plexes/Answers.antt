@@ -191,3 +191,69 @@ returns-in-Err-clause-ready g c = λ was. tt
 
 pub returns-else-core-clause-ready : goal.returns-else-core-clause-ready
 returns-else-core-clause-ready g c = λ was. ok_from c.detach.result (λ off on. absurd (let clash : true ≡ false = sym on ∙ off in cc)) c.detach.ensures.settled
+
+pub returns-in-Err-clause-ok : goal.returns-in-Err-clause-ok
+returns-in-Err-clause-ok g c = tt
+
+pub returns-in-Err-clause-all : goal.returns-in-Err-clause-all
+returns-in-Err-clause-all g c = tt
+
+pub returns-in-Err-clause-trust : goal.returns-in-Err-clause-trust
+returns-in-Err-clause-trust g c = tt
+
+pub returns-in-Err-clause-faults : goal.returns-in-Err-clause-faults
+returns-in-Err-clause-faults g c = refl
+
+pub returns-in-Err-clause-unsure : goal.returns-in-Err-clause-unsure
+returns-in-Err-clause-unsure g c = refl
+
+pub returns-in-Err-clause-agreed : goal.returns-in-Err-clause-agreed
+returns-in-Err-clause-agreed g c = c.requires.stands.trusts.both
+
+pub returns-then-core-clause-ok : goal.returns-then-core-clause-ok
+returns-then-core-clause-ok g c = tt
+
+pub returns-then-core-clause-all : goal.returns-then-core-clause-all
+returns-then-core-clause-all g c = tt
+
+pub returns-then-core-clause-trust : goal.returns-then-core-clause-trust
+returns-then-core-clause-trust g c = tt
+
+pub returns-then-core-clause-faults : goal.returns-then-core-clause-faults
+returns-then-core-clause-faults g c = refl
+
+pub returns-then-core-clause-unsure : goal.returns-then-core-clause-unsure
+returns-then-core-clause-unsure g c = refl
+
+pub returns-then-core-clause-agreed : goal.returns-then-core-clause-agreed
+returns-then-core-clause-agreed g c = c.requires.stands.trusts.both
+
+pub returns-then-failed-eq0-clause-faults : goal.returns-then-failed-eq0-clause-faults
+returns-then-failed-eq0-clause-faults g c = refl
+
+pub returns-then-failed-eq0-clause-unsure : goal.returns-then-failed-eq0-clause-unsure
+returns-then-failed-eq0-clause-unsure g c = refl
+
+pub returns-then-failed-eq0-clause-gave_up : goal.returns-then-failed-eq0-clause-gave_up
+returns-then-failed-eq0-clause-gave_up g c = tt
+
+pub returns-then-failed-eq0-clause-trust : goal.returns-then-failed-eq0-clause-trust
+returns-then-failed-eq0-clause-trust g c = λ is. is
+
+pub returns-then-failed-eq0-clause-agreed : goal.returns-then-failed-eq0-clause-agreed
+returns-then-failed-eq0-clause-agreed g c = tt
+
+pub returns-else-core-clause-stands : goal.returns-else-core-clause-stands
+returns-else-core-clause-stands g c = c.detach.ensures.stands
+
+pub returns-else-core-clause-faults : goal.returns-else-core-clause-faults
+returns-else-core-clause-faults g c = c.detach.ensures.narrows.faults
+
+pub returns-else-core-clause-unsure : goal.returns-else-core-clause-unsure
+returns-else-core-clause-unsure g c = c.detach.ensures.narrows.unsure
+
+pub returns-else-core-clause-trust : goal.returns-else-core-clause-trust
+returns-else-core-clause-trust g c = c.detach.ensures.trust
+
+pub returns-else-core-clause-agreed : goal.returns-else-core-clause-agreed
+returns-else-core-clause-agreed g c = c.detach.ensures.agreed

@@ -40,3 +40,21 @@ pub returns-in-Err-clause-maps : goal.returns-in-Err-clause-maps
 returns-in-Err-clause-maps g c =
     parts_same c.args.group.now.core.inner.config c.read.new.self.core.inner.config c.args.group.now.logs.items c.read.new.self.logs.items c.args.group.now.alike c.read.new.self.alike c.args.group.now.stopped c.read.new.self.stopped
     c.read.ensures.same c.read.ensures.logs c.read.ensures.alike c.read.ensures.stopped
+
+pub returns-in-Ok-clause-same : goal.returns-in-Ok-clause-same
+returns-in-Ok-clause-same g c = c.read.ensures.same
+
+pub returns-in-Ok-clause-below : goal.returns-in-Ok-clause-below
+returns-in-Ok-clause-below g c = c.read.ensures.below
+
+pub returns-in-Ok-clause-cause : goal.returns-in-Ok-clause-cause
+returns-in-Ok-clause-cause g c = tt
+
+pub returns-in-Err-clause-same : goal.returns-in-Err-clause-same
+returns-in-Err-clause-same g c = c.read.ensures.same
+
+pub returns-in-Err-clause-below : goal.returns-in-Err-clause-below
+returns-in-Err-clause-below g c = c.read.ensures.below
+
+pub returns-in-Err-clause-kept : goal.returns-in-Err-clause-kept
+returns-in-Err-clause-kept g c = λ note holds. tt

@@ -109,3 +109,39 @@ returns-else-is_down-clause-volumes g c =
     none_go (inner_meaning (wide c.args.group.now.core) (g.S.Shelf.meaning c.args.group.now.shelf)) (inner_meaning (wide c.make_volume.new.self.core) (g.S.Shelf.meaning c.make_volume.new.self.shelf))
     (same_goes c.args.group.now.core c.make_volume.new.self.core (g.S.Shelf.meaning c.args.group.now.shelf) (g.S.Shelf.meaning c.make_volume.new.self.shelf) c.make_volume.new.self.stands.group (g.met.S.Shelf.lawful c.make_volume.new.self.shelf) c.make_volume.ensures.stays
     (refused_volumes c.args.name.now c.args.want.now c.args.group.now.core c.make_volume.new.self.core (g.S.Shelf.meaning c.args.group.now.shelf) (g.S.Shelf.meaning c.make_volume.new.self.shelf) c.in-Err.stop (make_refusal c.args.group.now.core.inner.config c.args.name.now c.args.want.now) c.in-Err.ensures.ends (λ why is. (c.in-Err.ensures.refused why is).1)))
+
+pub returns-in-Ok-clause-trust : goal.returns-in-Ok-clause-trust
+returns-in-Ok-clause-trust g c = c.in-Ok.ensures.trust
+
+pub returns-in-Ok-clause-agreed : goal.returns-in-Ok-clause-agreed
+returns-in-Ok-clause-agreed g c = tt
+
+pub returns-in-Ok-clause-parts : goal.returns-in-Ok-clause-parts
+returns-in-Ok-clause-parts g c = c.make_volume.ensures.parts
+
+pub returns-in-Ok-clause-disks : goal.returns-in-Ok-clause-disks
+returns-in-Ok-clause-disks g c = c.make_volume.ensures.disks
+
+pub returns-else-is_down-clause-trust : goal.returns-else-is_down-clause-trust
+returns-else-is_down-clause-trust g c = tt
+
+pub returns-else-is_down-clause-agreed : goal.returns-else-is_down-clause-agreed
+returns-else-is_down-clause-agreed g c = c.in-Err.ensures.agreed
+
+pub returns-else-is_down-clause-parts : goal.returns-else-is_down-clause-parts
+returns-else-is_down-clause-parts g c = c.make_volume.ensures.parts
+
+pub returns-else-is_down-clause-disks : goal.returns-else-is_down-clause-disks
+returns-else-is_down-clause-disks g c = c.make_volume.ensures.disks
+
+pub returns-then-is_down-clause-trust : goal.returns-then-is_down-clause-trust
+returns-then-is_down-clause-trust g c = tt
+
+pub returns-then-is_down-clause-agreed : goal.returns-then-is_down-clause-agreed
+returns-then-is_down-clause-agreed g c = c.in-Err.ensures.agreed
+
+pub returns-then-is_down-clause-parts : goal.returns-then-is_down-clause-parts
+returns-then-is_down-clause-parts g c = c.make_volume.ensures.parts
+
+pub returns-then-is_down-clause-disks : goal.returns-then-is_down-clause-disks
+returns-then-is_down-clause-disks g c = c.make_volume.ensures.disks

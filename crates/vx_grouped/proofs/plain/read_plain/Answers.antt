@@ -41,3 +41,21 @@ pub returns-in-Err-clause-gives_up : goal.returns-in-Err-clause-gives_up
 returns-in-Err-clause-gives_up g c = λ disk is.
     read_gives c.in-Err.failed c.refusal.result c.args.vol c.args.group.now.core.inner.config c.args.group.now.core.inner.next c.read.new.self.core.inner.next c.args.block (length c.args.into.now / BLOCK) c.read.new.into
     (g.S.Shelf.meaning c.args.group.now.shelf) (g.S.Shelf.meaning c.read.new.self.shelf) disk c.refusal.ensures is c.in-Err.ensures.turn
+
+pub returns-in-Ok-clause-same : goal.returns-in-Ok-clause-same
+returns-in-Ok-clause-same g c = c.read.ensures.same
+
+pub returns-in-Ok-clause-below : goal.returns-in-Ok-clause-below
+returns-in-Ok-clause-below g c = c.read.ensures.below
+
+pub returns-in-Ok-clause-cause : goal.returns-in-Ok-clause-cause
+returns-in-Ok-clause-cause g c = tt
+
+pub returns-in-Err-clause-same : goal.returns-in-Err-clause-same
+returns-in-Err-clause-same g c = c.read.ensures.same
+
+pub returns-in-Err-clause-below : goal.returns-in-Err-clause-below
+returns-in-Err-clause-below g c = c.read.ensures.below
+
+pub returns-in-Err-clause-reads : goal.returns-in-Err-clause-reads
+returns-in-Err-clause-reads g c = λ note holds. tt

@@ -109,3 +109,21 @@ returns-in-Ok-flush_run-clause-goes g c = then_nothing (Written c.args.vol c.arg
 
 pub returns-in-Err-flush_run-clause-goes : goal.returns-in-Err-flush_run-clause-goes
 returns-in-Err-flush_run-clause-goes g c = then_nothing (Written c.args.vol c.args.block c.args.bytes.now) (inner_meaning (wide c.args.group.now.core) (g.S.Shelf.meaning c.args.group.now.shelf)) (inner_meaning (wide c.write.new.self.core) (g.S.Shelf.meaning c.write.new.self.shelf)) (inner_meaning (wide c.flush_run.new.self.core) (g.S.Shelf.meaning c.flush_run.new.self.shelf)) c.write.ensures.goes c.flush_run.ensures.goes
+
+pub returns-in-Err-clause-loses : goal.returns-in-Err-clause-loses
+returns-in-Err-clause-loses g c = c.write.ensures.loses
+
+pub returns-in-Err-clause-trust : goal.returns-in-Err-clause-trust
+returns-in-Err-clause-trust g c = tt
+
+pub returns-in-Err-clause-agreed : goal.returns-in-Err-clause-agreed
+returns-in-Err-clause-agreed g c = c.in-Err.ensures.agreed
+
+pub returns-in-Err-flush_run-clause-trust : goal.returns-in-Err-flush_run-clause-trust
+returns-in-Err-flush_run-clause-trust g c = tt
+
+pub returns-in-Ok-flush_run-clause-agreed : goal.returns-in-Ok-flush_run-clause-agreed
+returns-in-Ok-flush_run-clause-agreed g c = tt
+
+pub returns-in-Ok-flush_run-clause-cause : goal.returns-in-Ok-flush_run-clause-cause
+returns-in-Ok-flush_run-clause-cause g c = tt

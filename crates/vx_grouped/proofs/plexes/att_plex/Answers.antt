@@ -82,3 +82,27 @@ returns-clause-maps g c = λ was now.
     stay_held c.args.group.now.core.inner.config c.att-answer.new.self.core.inner.config c.args.group.now.logs.items c.att-answer.new.self.logs.items c.args.group.now.alike c.att-answer.new.self.alike c.args.group.now.stopped c.att-answer.new.self.stopped
     (c.att-answer.ensures.tests why is) c.att-answer.ensures.flags.0 c.att-answer.ensures.flags.1 (ap (λ (x : GroupCore). x.inner.config) same.1))
     c.att-answer.ensures.cause
+
+pub returns-clause-refused : goal.returns-clause-refused
+returns-clause-refused g c = c.att-answer.ensures.refused
+
+pub returns-clause-already : goal.returns-clause-already
+returns-clause-already g c = c.att-answer.ensures.already
+
+pub returns-clause-count : goal.returns-clause-count
+returns-clause-count g c = c.att-answer.ensures.count
+
+pub returns-clause-regains : goal.returns-clause-regains
+returns-clause-regains g c = c.att-answer.ensures.regains
+
+pub returns-clause-trust : goal.returns-clause-trust
+returns-clause-trust g c = c.att-answer.ensures.trust
+
+pub returns-clause-cause : goal.returns-clause-cause
+returns-clause-cause g c = c.att-answer.ensures.cause
+
+pub returns-then-is_down-clause-regains : goal.returns-then-is_down-clause-regains
+returns-then-is_down-clause-regains g c = c.att-answer.ensures.regains
+
+pub returns-then-is_down-clause-trust : goal.returns-then-is_down-clause-trust
+returns-then-is_down-clause-trust g c = tt

@@ -70,3 +70,33 @@ pub returns-clause-undone : goal.returns-clause-undone
 returns-clause-undone g c = λ disk is.
     undone_det c.det-answer.result disk (IsTrue (g.S.Shelf.meaning c.det-answer.new.self.shelf).down) (active c.det-answer.new.self.core.inner.config c.args.vol c.args.plex ≡ active c.args.group.now.core.inner.config c.args.vol c.args.plex) c.det-answer.ensures.stays is
     (not_down c.is_down.result (g.S.Shelf.meaning c.det-answer.new.self.shelf).down c.is_down.ensures c.if-is_down.false)
+
+pub returns-clause-goes : goal.returns-clause-goes
+returns-clause-goes g c = c.det-answer.ensures.goes
+
+pub returns-clause-off : goal.returns-clause-off
+returns-clause-off g c = c.det-answer.ensures.off
+
+pub returns-clause-others : goal.returns-clause-others
+returns-clause-others g c = c.det-answer.ensures.others
+
+pub returns-clause-trust : goal.returns-clause-trust
+returns-clause-trust g c = c.det-answer.ensures.trust
+
+pub returns-clause-agreed : goal.returns-clause-agreed
+returns-clause-agreed g c = c.det-answer.ensures.agreed
+
+pub returns-clause-cause : goal.returns-clause-cause
+returns-clause-cause g c = c.det-answer.ensures.cause
+
+pub returns-then-is_down-clause-goes : goal.returns-then-is_down-clause-goes
+returns-then-is_down-clause-goes g c = c.det-answer.ensures.goes
+
+pub returns-then-is_down-clause-off : goal.returns-then-is_down-clause-off
+returns-then-is_down-clause-off g c = tt
+
+pub returns-then-is_down-clause-others : goal.returns-then-is_down-clause-others
+returns-then-is_down-clause-others g c = c.det-answer.ensures.others
+
+pub returns-then-is_down-clause-trust : goal.returns-then-is_down-clause-trust
+returns-then-is_down-clause-trust g c = tt

@@ -211,3 +211,114 @@ returns-clause-misses g c = c.keep_map.ensures.misses
 
 pub returns-then-blocks-eq0-clause-marks : goal.returns-then-blocks-eq0-clause-marks
 returns-then-blocks-eq0-clause-marks g c = c.in-Ok.ensures.marks
+
+pub returns-in-Err-clause-stands : goal.returns-in-Err-clause-stands
+returns-in-Err-clause-stands g c = c.ready_group.ensures.stands
+
+pub returns-in-Err-clause-goes : goal.returns-in-Err-clause-goes
+returns-in-Err-clause-goes g c = c.ready_group.ensures.goes
+
+pub returns-in-Err-clause-loses : goal.returns-in-Err-clause-loses
+returns-in-Err-clause-loses g c = c.ready_group.ensures.loses
+
+pub returns-in-Err-clause-narrow : goal.returns-in-Err-clause-narrow
+returns-in-Err-clause-narrow g c = c.ready_group.ensures.narrow
+
+pub returns-in-Err-clause-still : goal.returns-in-Err-clause-still
+returns-in-Err-clause-still g c = c.ready_group.ensures.still
+
+pub returns-in-Err-clause-begins : goal.returns-in-Err-clause-begins
+returns-in-Err-clause-begins g c = tt
+
+pub returns-in-Err-clause-spent : goal.returns-in-Err-clause-spent
+returns-in-Err-clause-spent g c = tt
+
+pub returns-in-Err-clause-trust : goal.returns-in-Err-clause-trust
+returns-in-Err-clause-trust g c = tt
+
+pub returns-in-Err-clause-agreed : goal.returns-in-Err-clause-agreed
+returns-in-Err-clause-agreed g c = c.in-Err.ensures.agreed
+
+pub returns-in-Err-clause-finds : goal.returns-in-Err-clause-finds
+returns-in-Err-clause-finds g c = c.ready_group.ensures.finds
+
+pub returns-in-Err-clause-cause : goal.returns-in-Err-clause-cause
+returns-in-Err-clause-cause g c = c.in-Err.ensures.cause
+
+pub returns-then-not-ready-clause-stands : goal.returns-then-not-ready-clause-stands
+returns-then-not-ready-clause-stands g c = c.ready_group.ensures.stands
+
+pub returns-then-not-ready-clause-goes : goal.returns-then-not-ready-clause-goes
+returns-then-not-ready-clause-goes g c = c.ready_group.ensures.goes
+
+pub returns-then-not-ready-clause-loses : goal.returns-then-not-ready-clause-loses
+returns-then-not-ready-clause-loses g c = c.ready_group.ensures.loses
+
+pub returns-then-not-ready-clause-narrow : goal.returns-then-not-ready-clause-narrow
+returns-then-not-ready-clause-narrow g c = c.ready_group.ensures.narrow
+
+pub returns-then-not-ready-clause-still : goal.returns-then-not-ready-clause-still
+returns-then-not-ready-clause-still g c = c.ready_group.ensures.still
+
+pub returns-then-not-ready-clause-trust : goal.returns-then-not-ready-clause-trust
+returns-then-not-ready-clause-trust g c = c.in-Ok.ensures.trust
+
+pub returns-then-not-ready-clause-agreed : goal.returns-then-not-ready-clause-agreed
+returns-then-not-ready-clause-agreed g c = tt
+
+pub returns-then-not-ready-clause-finds : goal.returns-then-not-ready-clause-finds
+returns-then-not-ready-clause-finds g c = c.ready_group.ensures.finds
+
+pub returns-then-not-ready-clause-misses : goal.returns-then-not-ready-clause-misses
+returns-then-not-ready-clause-misses g c = tt
+
+pub returns-then-not-ready-clause-cause : goal.returns-then-not-ready-clause-cause
+returns-then-not-ready-clause-cause g c = c.in-Ok.ensures.cause
+
+pub returns-then-blocks-eq0-clause-stands : goal.returns-then-blocks-eq0-clause-stands
+returns-then-blocks-eq0-clause-stands g c = c.ready_group.ensures.stands
+
+pub returns-then-blocks-eq0-clause-goes : goal.returns-then-blocks-eq0-clause-goes
+returns-then-blocks-eq0-clause-goes g c = c.ready_group.ensures.goes
+
+pub returns-then-blocks-eq0-clause-loses : goal.returns-then-blocks-eq0-clause-loses
+returns-then-blocks-eq0-clause-loses g c = c.ready_group.ensures.loses
+
+pub returns-then-blocks-eq0-clause-narrow : goal.returns-then-blocks-eq0-clause-narrow
+returns-then-blocks-eq0-clause-narrow g c = c.ready_group.ensures.narrow
+
+pub returns-then-blocks-eq0-clause-still : goal.returns-then-blocks-eq0-clause-still
+returns-then-blocks-eq0-clause-still g c = c.ready_group.ensures.still
+
+pub returns-then-blocks-eq0-clause-trust : goal.returns-then-blocks-eq0-clause-trust
+returns-then-blocks-eq0-clause-trust g c = c.in-Ok.ensures.trust
+
+pub returns-then-blocks-eq0-clause-agreed : goal.returns-then-blocks-eq0-clause-agreed
+returns-then-blocks-eq0-clause-agreed g c = tt
+
+pub returns-then-blocks-eq0-clause-finds : goal.returns-then-blocks-eq0-clause-finds
+returns-then-blocks-eq0-clause-finds g c = c.ready_group.ensures.finds
+
+pub returns-then-blocks-eq0-clause-misses : goal.returns-then-blocks-eq0-clause-misses
+returns-then-blocks-eq0-clause-misses g c = tt
+
+pub returns-then-blocks-eq0-clause-cause : goal.returns-then-blocks-eq0-clause-cause
+returns-then-blocks-eq0-clause-cause g c = c.in-Ok.ensures.cause
+
+pub returns-in-Err-clause-drl : goal.returns-in-Err-clause-drl
+returns-in-Err-clause-drl g c = refl
+
+pub returns-then-not-ready-clause-drl : goal.returns-then-not-ready-clause-drl
+returns-then-not-ready-clause-drl g c = refl
+
+pub returns-then-blocks-eq0-clause-drl : goal.returns-then-blocks-eq0-clause-drl
+returns-then-blocks-eq0-clause-drl g c = refl
+
+pub returns-clause-stands : goal.returns-clause-stands
+returns-clause-stands g c = c.keep_map.ensures.stands
+
+pub returns-clause-drl : goal.returns-clause-drl
+returns-clause-drl g c = c.begin_fallen.ensures.drl
+
+pub returns-clause-spent : goal.returns-clause-spent
+returns-clause-spent g c = c.keep_map.ensures.spent

@@ -212,3 +212,87 @@ returns-clause-marks g c = marks_then c.args.vol c.args.core.now.inner.unsure c.
 
 pub returns-clause-misses : goal.returns-clause-misses
 returns-clause-misses g c = c.mark_group.ensures.misses
+
+pub returns-in-Err-clause-stands : goal.returns-in-Err-clause-stands
+returns-in-Err-clause-stands g c = c.ready_group.ensures.stands
+
+pub returns-in-Err-clause-goes : goal.returns-in-Err-clause-goes
+returns-in-Err-clause-goes g c = c.ready_group.ensures.goes
+
+pub returns-in-Err-clause-loses : goal.returns-in-Err-clause-loses
+returns-in-Err-clause-loses g c = c.ready_group.ensures.loses
+
+pub returns-in-Err-clause-narrow : goal.returns-in-Err-clause-narrow
+returns-in-Err-clause-narrow g c = c.ready_group.ensures.narrow
+
+pub returns-in-Err-clause-still : goal.returns-in-Err-clause-still
+returns-in-Err-clause-still g c = c.ready_group.ensures.still
+
+pub returns-in-Err-clause-said : goal.returns-in-Err-clause-said
+returns-in-Err-clause-said g c = tt
+
+pub returns-in-Err-clause-holds : goal.returns-in-Err-clause-holds
+returns-in-Err-clause-holds g c = tt
+
+pub returns-in-Err-clause-may : goal.returns-in-Err-clause-may
+returns-in-Err-clause-may g c = tt
+
+pub returns-in-Err-clause-spent : goal.returns-in-Err-clause-spent
+returns-in-Err-clause-spent g c = tt
+
+pub returns-in-Err-clause-trust : goal.returns-in-Err-clause-trust
+returns-in-Err-clause-trust g c = tt
+
+pub returns-in-Err-clause-agreed : goal.returns-in-Err-clause-agreed
+returns-in-Err-clause-agreed g c = c.in-Err.ensures.agreed
+
+pub returns-in-Err-clause-finds : goal.returns-in-Err-clause-finds
+returns-in-Err-clause-finds g c = c.ready_group.ensures.finds
+
+pub returns-in-Err-clause-cause : goal.returns-in-Err-clause-cause
+returns-in-Err-clause-cause g c = c.in-Err.ensures.cause
+
+pub returns-then-not-ready-clause-stands : goal.returns-then-not-ready-clause-stands
+returns-then-not-ready-clause-stands g c = c.ready_group.ensures.stands
+
+pub returns-then-not-ready-clause-goes : goal.returns-then-not-ready-clause-goes
+returns-then-not-ready-clause-goes g c = c.ready_group.ensures.goes
+
+pub returns-then-not-ready-clause-loses : goal.returns-then-not-ready-clause-loses
+returns-then-not-ready-clause-loses g c = c.ready_group.ensures.loses
+
+pub returns-then-not-ready-clause-narrow : goal.returns-then-not-ready-clause-narrow
+returns-then-not-ready-clause-narrow g c = c.ready_group.ensures.narrow
+
+pub returns-then-not-ready-clause-still : goal.returns-then-not-ready-clause-still
+returns-then-not-ready-clause-still g c = c.ready_group.ensures.still
+
+pub returns-then-not-ready-clause-trust : goal.returns-then-not-ready-clause-trust
+returns-then-not-ready-clause-trust g c = c.in-Ok.ensures.trust
+
+pub returns-then-not-ready-clause-agreed : goal.returns-then-not-ready-clause-agreed
+returns-then-not-ready-clause-agreed g c = tt
+
+pub returns-then-not-ready-clause-finds : goal.returns-then-not-ready-clause-finds
+returns-then-not-ready-clause-finds g c = c.ready_group.ensures.finds
+
+pub returns-then-not-ready-clause-misses : goal.returns-then-not-ready-clause-misses
+returns-then-not-ready-clause-misses g c = tt
+
+pub returns-then-not-ready-clause-cause : goal.returns-then-not-ready-clause-cause
+returns-then-not-ready-clause-cause g c = c.in-Ok.ensures.cause
+
+pub returns-clause-stands : goal.returns-clause-stands
+returns-clause-stands g c = c.mark_group.ensures.stands
+
+pub returns-clause-log : goal.returns-clause-log
+returns-clause-log g c = c.mark_group.ensures.log
+
+pub returns-clause-said : goal.returns-clause-said
+returns-clause-said g c = c.mark_group.ensures.said
+
+pub returns-clause-may : goal.returns-clause-may
+returns-clause-may g c = c.mark_group.ensures.may
+
+pub returns-clause-spent : goal.returns-clause-spent
+returns-clause-spent g c = c.mark_group.ensures.spent

@@ -380,3 +380,90 @@ returns-clause-marks g c = marks_then c.args.vol c.args.core.now.inner.unsure c.
 
 pub returns-clause-misses : goal.returns-clause-misses
 returns-clause-misses g c = c.keep_log.ensures.misses
+
+pub returns-in-Err-clause-stands : goal.returns-in-Err-clause-stands
+returns-in-Err-clause-stands g c = c.ready_group.ensures.stands
+
+pub returns-in-Err-clause-goes : goal.returns-in-Err-clause-goes
+returns-in-Err-clause-goes g c = c.ready_group.ensures.goes
+
+pub returns-in-Err-clause-still : goal.returns-in-Err-clause-still
+returns-in-Err-clause-still g c = c.ready_group.ensures.still
+
+pub returns-in-Err-clause-off : goal.returns-in-Err-clause-off
+returns-in-Err-clause-off g c = tt
+
+pub returns-in-Err-clause-full : goal.returns-in-Err-clause-full
+returns-in-Err-clause-full g c = tt
+
+pub returns-in-Err-clause-spent : goal.returns-in-Err-clause-spent
+returns-in-Err-clause-spent g c = tt
+
+pub returns-in-Err-clause-same : goal.returns-in-Err-clause-same
+returns-in-Err-clause-same g c = tt
+
+pub returns-in-Err-clause-trust : goal.returns-in-Err-clause-trust
+returns-in-Err-clause-trust g c = tt
+
+pub returns-in-Err-clause-agreed : goal.returns-in-Err-clause-agreed
+returns-in-Err-clause-agreed g c = c.in-Err.ensures.agreed
+
+pub returns-in-Err-clause-cause : goal.returns-in-Err-clause-cause
+returns-in-Err-clause-cause g c = c.in-Err.ensures.cause
+
+pub returns-then-not-ready-clause-stands : goal.returns-then-not-ready-clause-stands
+returns-then-not-ready-clause-stands g c = c.ready_group.ensures.stands
+
+pub returns-then-not-ready-clause-goes : goal.returns-then-not-ready-clause-goes
+returns-then-not-ready-clause-goes g c = c.ready_group.ensures.goes
+
+pub returns-then-not-ready-clause-still : goal.returns-then-not-ready-clause-still
+returns-then-not-ready-clause-still g c = c.ready_group.ensures.still
+
+pub returns-then-not-ready-clause-trust : goal.returns-then-not-ready-clause-trust
+returns-then-not-ready-clause-trust g c = c.in-Ok.ensures.trust
+
+pub returns-then-not-ready-clause-agreed : goal.returns-then-not-ready-clause-agreed
+returns-then-not-ready-clause-agreed g c = tt
+
+pub returns-then-not-ready-clause-misses : goal.returns-then-not-ready-clause-misses
+returns-then-not-ready-clause-misses g c = tt
+
+pub returns-then-not-ready-clause-cause : goal.returns-then-not-ready-clause-cause
+returns-then-not-ready-clause-cause g c = c.in-Ok.ensures.cause
+
+pub returns-then-blocks-eq0-clause-stands : goal.returns-then-blocks-eq0-clause-stands
+returns-then-blocks-eq0-clause-stands g c = c.ready_group.ensures.stands
+
+pub returns-then-blocks-eq0-clause-goes : goal.returns-then-blocks-eq0-clause-goes
+returns-then-blocks-eq0-clause-goes g c = c.ready_group.ensures.goes
+
+pub returns-then-blocks-eq0-clause-still : goal.returns-then-blocks-eq0-clause-still
+returns-then-blocks-eq0-clause-still g c = c.ready_group.ensures.still
+
+pub returns-then-blocks-eq0-clause-trust : goal.returns-then-blocks-eq0-clause-trust
+returns-then-blocks-eq0-clause-trust g c = c.in-Ok.ensures.trust
+
+pub returns-then-blocks-eq0-clause-agreed : goal.returns-then-blocks-eq0-clause-agreed
+returns-then-blocks-eq0-clause-agreed g c = tt
+
+pub returns-then-blocks-eq0-clause-misses : goal.returns-then-blocks-eq0-clause-misses
+returns-then-blocks-eq0-clause-misses g c = tt
+
+pub returns-then-blocks-eq0-clause-cause : goal.returns-then-blocks-eq0-clause-cause
+returns-then-blocks-eq0-clause-cause g c = c.in-Ok.ensures.cause
+
+pub returns-in-Err-clear_run-clause-off : goal.returns-in-Err-clear_run-clause-off
+returns-in-Err-clear_run-clause-off g c = tt
+
+pub returns-in-Err-clear_run-clause-full : goal.returns-in-Err-clear_run-clause-full
+returns-in-Err-clear_run-clause-full g c = tt
+
+pub returns-in-Err-clear_run-clause-spent : goal.returns-in-Err-clear_run-clause-spent
+returns-in-Err-clear_run-clause-spent g c = tt
+
+pub returns-in-Err-clear_run-clause-same : goal.returns-in-Err-clear_run-clause-same
+returns-in-Err-clear_run-clause-same g c = tt
+
+pub returns-in-Err-clear_run-clause-trust : goal.returns-in-Err-clear_run-clause-trust
+returns-in-Err-clear_run-clause-trust g c = tt

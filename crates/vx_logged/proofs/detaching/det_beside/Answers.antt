@@ -18,3 +18,39 @@ returns-clause-trusts g c = c.det_alone.ensures.logs
 
 pub returns-clause-stays : goal.returns-clause-stays
 returns-clause-stays g c = c.det_alone.ensures.stays
+
+pub returns-clause-stands : goal.returns-clause-stands
+returns-clause-stands g c = c.det_alone.ensures.stands
+
+pub returns-clause-goes : goal.returns-clause-goes
+returns-clause-goes g c = c.det_alone.ensures.goes
+
+pub returns-clause-narrows : goal.returns-clause-narrows
+returns-clause-narrows g c = c.det_alone.ensures.narrows
+
+pub returns-clause-parts : goal.returns-clause-parts
+returns-clause-parts g c = c.det_alone.ensures.parts
+
+pub returns-clause-disks : goal.returns-clause-disks
+returns-clause-disks g c = c.det_alone.ensures.disks
+
+pub returns-clause-off : goal.returns-clause-off
+returns-clause-off g c = c.det_alone.ensures.off
+
+pub returns-clause-free : goal.returns-clause-free
+returns-clause-free g c = c.det_alone.ensures.free
+
+pub returns-clause-others : goal.returns-clause-others
+returns-clause-others g c = c.det_alone.ensures.others
+
+pub returns-clause-trust : goal.returns-clause-trust
+returns-clause-trust g c = c.det_alone.ensures.trust
+
+pub returns-clause-agreed : goal.returns-clause-agreed
+returns-clause-agreed g c = c.det_alone.ensures.agreed
+
+pub returns-clause-finds : goal.returns-clause-finds
+returns-clause-finds g c = c.det_alone.ensures.finds
+
+pub returns-clause-cause : goal.returns-clause-cause
+returns-clause-cause g c = c.det_alone.ensures.cause

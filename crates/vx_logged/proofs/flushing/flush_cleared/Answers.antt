@@ -420,3 +420,69 @@ returns-in-Err-clear_group-clause-marks g c = unsure_then c.args.vol c.args.core
 
 pub returns-in-Err-clear_group-clause-gives_up : goal.returns-in-Err-clear_group-clause-gives_up
 returns-in-Err-clear_group-clause-gives_up g c = misses_faults Bool c.args.vol c.args.core.now.inner.config c.clear_group.new.core.inner (g.S.Shelf.meaning c.args.shelf.now) (g.S.Shelf.meaning c.clear_group.new.shelf) c.in-Err-clear_group.error c.in-Err-clear_group.ensures.misses
+
+pub returns-in-Err-clause-stands : goal.returns-in-Err-clause-stands
+returns-in-Err-clause-stands g c = c.flush_group.ensures.stands
+
+pub returns-in-Err-clause-goes : goal.returns-in-Err-clause-goes
+returns-in-Err-clause-goes g c = c.flush_group.ensures.goes
+
+pub returns-in-Err-clause-ok : goal.returns-in-Err-clause-ok
+returns-in-Err-clause-ok g c = tt
+
+pub returns-in-Err-clause-trust : goal.returns-in-Err-clause-trust
+returns-in-Err-clause-trust g c = tt
+
+pub returns-in-Err-clause-agreed : goal.returns-in-Err-clause-agreed
+returns-in-Err-clause-agreed g c = c.in-Err.ensures.agreed
+
+pub returns-in-Err-clause-cause : goal.returns-in-Err-clause-cause
+returns-in-Err-clause-cause g c = c.in-Err.ensures.cause
+
+pub returns-then-not-sure-clause-stands : goal.returns-then-not-sure-clause-stands
+returns-then-not-sure-clause-stands g c = c.flush_group.ensures.stands
+
+pub returns-then-not-sure-clause-goes : goal.returns-then-not-sure-clause-goes
+returns-then-not-sure-clause-goes g c = c.flush_group.ensures.goes
+
+pub returns-then-not-sure-clause-ok : goal.returns-then-not-sure-clause-ok
+returns-then-not-sure-clause-ok g c = c.in-Ok.ensures.ok
+
+pub returns-then-not-sure-clause-trust : goal.returns-then-not-sure-clause-trust
+returns-then-not-sure-clause-trust g c = c.in-Ok.ensures.trust
+
+pub returns-then-not-sure-clause-agreed : goal.returns-then-not-sure-clause-agreed
+returns-then-not-sure-clause-agreed g c = tt
+
+pub returns-then-not-sure-clause-cause : goal.returns-then-not-sure-clause-cause
+returns-then-not-sure-clause-cause g c = c.in-Ok.ensures.cause
+
+pub returns-in-Err-clear_group-clause-stands : goal.returns-in-Err-clear_group-clause-stands
+returns-in-Err-clear_group-clause-stands g c = c.clear_group.ensures.stands
+
+pub returns-in-Ok-clear_group-clause-stands : goal.returns-in-Ok-clear_group-clause-stands
+returns-in-Ok-clear_group-clause-stands g c = c.clear_group.ensures.stands
+
+pub returns-in-Err-keep_fallen-clause-stands : goal.returns-in-Err-keep_fallen-clause-stands
+returns-in-Err-keep_fallen-clause-stands g c = c.keep_fallen.ensures.stands
+
+pub returns-then-not-done-clause-stands : goal.returns-then-not-done-clause-stands
+returns-then-not-done-clause-stands g c = c.keep_fallen.ensures.stands
+
+pub returns-in-Err-clear_group-clause-ok : goal.returns-in-Err-clear_group-clause-ok
+returns-in-Err-clear_group-clause-ok g c = tt
+
+pub returns-in-Err-clear_group-clause-trust : goal.returns-in-Err-clear_group-clause-trust
+returns-in-Err-clear_group-clause-trust g c = tt
+
+pub returns-in-Err-keep_fallen-clause-ok : goal.returns-in-Err-keep_fallen-clause-ok
+returns-in-Err-keep_fallen-clause-ok g c = tt
+
+pub returns-in-Err-keep_fallen-clause-trust : goal.returns-in-Err-keep_fallen-clause-trust
+returns-in-Err-keep_fallen-clause-trust g c = tt
+
+pub returns-in-Ok-clear_group-clause-agreed : goal.returns-in-Ok-clear_group-clause-agreed
+returns-in-Ok-clear_group-clause-agreed g c = tt
+
+pub returns-then-not-done-clause-agreed : goal.returns-then-not-done-clause-agreed
+returns-then-not-done-clause-agreed g c = tt

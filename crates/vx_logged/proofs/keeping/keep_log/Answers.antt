@@ -17,3 +17,45 @@ returns-clause-trusts g c =
 pub returns-clause-spent : goal.returns-clause-spent
 returns-clause-spent g c =
     c.keep_one.ensures.spent
+
+pub returns-clause-stands : goal.returns-clause-stands
+returns-clause-stands g c = c.keep_one.ensures.stands
+
+pub returns-clause-goes : goal.returns-clause-goes
+returns-clause-goes g c = c.keep_one.ensures.goes
+
+pub returns-clause-loses : goal.returns-clause-loses
+returns-clause-loses g c = c.keep_one.ensures.loses
+
+pub returns-clause-logs : goal.returns-clause-logs
+returns-clause-logs g c = c.keep_one.ensures.logs
+
+pub returns-clause-narrow : goal.returns-clause-narrow
+returns-clause-narrow g c = c.keep_one.ensures.narrow
+
+pub returns-clause-below : goal.returns-clause-below
+returns-clause-below g c = c.keep_one.ensures.below
+
+pub returns-clause-still : goal.returns-clause-still
+returns-clause-still g c = c.keep_one.ensures.still
+
+pub returns-clause-full : goal.returns-clause-full
+returns-clause-full g c = c.keep_one.ensures.full
+
+pub returns-clause-trust : goal.returns-clause-trust
+returns-clause-trust g c = c.keep_one.ensures.trust
+
+pub returns-clause-agreed : goal.returns-clause-agreed
+returns-clause-agreed g c = c.keep_one.ensures.agreed
+
+pub returns-clause-finds : goal.returns-clause-finds
+returns-clause-finds g c = c.keep_one.ensures.finds
+
+pub returns-clause-marks : goal.returns-clause-marks
+returns-clause-marks g c = c.keep_one.ensures.marks
+
+pub returns-clause-misses : goal.returns-clause-misses
+returns-clause-misses g c = c.keep_one.ensures.misses
+
+pub returns-clause-cause : goal.returns-clause-cause
+returns-clause-cause g c = c.keep_one.ensures.cause

@@ -115,3 +115,132 @@ returns-in-Err-keep_map-clause-marks g c = unsure_then c.args.vol c.args.core.no
 
 pub returns-in-Err-keep_map-clause-misses : goal.returns-in-Err-keep_map-clause-misses
 returns-in-Err-keep_map-clause-misses g c = c.in-Err-keep_map.ensures.misses
+
+pub returns-in-Err-clause-stands : goal.returns-in-Err-clause-stands
+returns-in-Err-clause-stands g c = c.keep_log.ensures.stands
+
+pub returns-in-Err-clause-goes : goal.returns-in-Err-clause-goes
+returns-in-Err-clause-goes g c = c.keep_log.ensures.goes
+
+pub returns-in-Err-clause-loses : goal.returns-in-Err-clause-loses
+returns-in-Err-clause-loses g c = c.keep_log.ensures.loses
+
+pub returns-in-Err-clause-logs : goal.returns-in-Err-clause-logs
+returns-in-Err-clause-logs g c = c.keep_log.ensures.logs
+
+pub returns-in-Err-clause-narrow : goal.returns-in-Err-clause-narrow
+returns-in-Err-clause-narrow g c = c.keep_log.ensures.narrow
+
+pub returns-in-Err-clause-below : goal.returns-in-Err-clause-below
+returns-in-Err-clause-below g c = c.keep_log.ensures.below
+
+pub returns-in-Err-clause-still : goal.returns-in-Err-clause-still
+returns-in-Err-clause-still g c = c.keep_log.ensures.still
+
+pub returns-in-Err-clause-kept : goal.returns-in-Err-clause-kept
+returns-in-Err-clause-kept g c = tt
+
+pub returns-in-Err-clause-said : goal.returns-in-Err-clause-said
+returns-in-Err-clause-said g c = tt
+
+pub returns-in-Err-clause-full : goal.returns-in-Err-clause-full
+returns-in-Err-clause-full g c = tt
+
+pub returns-in-Err-clause-spent : goal.returns-in-Err-clause-spent
+returns-in-Err-clause-spent g c = tt
+
+pub returns-in-Err-clause-trust : goal.returns-in-Err-clause-trust
+returns-in-Err-clause-trust g c = tt
+
+pub returns-in-Err-clause-agreed : goal.returns-in-Err-clause-agreed
+returns-in-Err-clause-agreed g c = c.in-Err.ensures.agreed
+
+pub returns-in-Err-clause-finds : goal.returns-in-Err-clause-finds
+returns-in-Err-clause-finds g c = c.keep_log.ensures.finds
+
+pub returns-in-Err-clause-cause : goal.returns-in-Err-clause-cause
+returns-in-Err-clause-cause g c = c.in-Err.ensures.cause
+
+pub returns-then-not-done-clause-stands : goal.returns-then-not-done-clause-stands
+returns-then-not-done-clause-stands g c = c.keep_log.ensures.stands
+
+pub returns-then-not-done-clause-goes : goal.returns-then-not-done-clause-goes
+returns-then-not-done-clause-goes g c = c.keep_log.ensures.goes
+
+pub returns-then-not-done-clause-loses : goal.returns-then-not-done-clause-loses
+returns-then-not-done-clause-loses g c = c.keep_log.ensures.loses
+
+pub returns-then-not-done-clause-logs : goal.returns-then-not-done-clause-logs
+returns-then-not-done-clause-logs g c = c.keep_log.ensures.logs
+
+pub returns-then-not-done-clause-narrow : goal.returns-then-not-done-clause-narrow
+returns-then-not-done-clause-narrow g c = c.keep_log.ensures.narrow
+
+pub returns-then-not-done-clause-below : goal.returns-then-not-done-clause-below
+returns-then-not-done-clause-below g c = c.keep_log.ensures.below
+
+pub returns-then-not-done-clause-still : goal.returns-then-not-done-clause-still
+returns-then-not-done-clause-still g c = c.keep_log.ensures.still
+
+pub returns-then-not-done-clause-trust : goal.returns-then-not-done-clause-trust
+returns-then-not-done-clause-trust g c = c.in-Ok.ensures.trust
+
+pub returns-then-not-done-clause-agreed : goal.returns-then-not-done-clause-agreed
+returns-then-not-done-clause-agreed g c = tt
+
+pub returns-then-not-done-clause-misses : goal.returns-then-not-done-clause-misses
+returns-then-not-done-clause-misses g c = tt
+
+pub returns-then-not-done-clause-cause : goal.returns-then-not-done-clause-cause
+returns-then-not-done-clause-cause g c = c.in-Ok.ensures.cause
+
+pub returns-then-not-done-clause-kept : goal.returns-then-not-done-clause-kept
+returns-then-not-done-clause-kept g c = λ is. absurd (let clash : false ≡ true = is in cc)
+
+pub returns-then-not-done-clause-full : goal.returns-then-not-done-clause-full
+returns-then-not-done-clause-full g c = λ is. c.in-Ok.ensures.full c.if-not-done.true
+
+pub returns-in-Ok-keep_map-clause-stands : goal.returns-in-Ok-keep_map-clause-stands
+returns-in-Ok-keep_map-clause-stands g c = c.keep_map.ensures.stands
+
+pub returns-in-Ok-keep_map-clause-still : goal.returns-in-Ok-keep_map-clause-still
+returns-in-Ok-keep_map-clause-still g c = λ none w p. c.keep_map.ensures.still (c.keep_log.ensures.finds.free none) w p ∙ c.keep_log.ensures.still none w p
+
+pub returns-in-Err-keep_map-clause-stands : goal.returns-in-Err-keep_map-clause-stands
+returns-in-Err-keep_map-clause-stands g c = c.keep_map.ensures.stands
+
+pub returns-in-Err-keep_map-clause-still : goal.returns-in-Err-keep_map-clause-still
+returns-in-Err-keep_map-clause-still g c = λ none w p. c.keep_map.ensures.still (c.keep_log.ensures.finds.free none) w p ∙ c.keep_log.ensures.still none w p
+
+pub returns-in-Ok-keep_map-clause-full : goal.returns-in-Ok-keep_map-clause-full
+returns-in-Ok-keep_map-clause-full g c = λ is. absurd (let clash : true ≡ false = is in cc)
+
+pub returns-in-Ok-keep_map-clause-trust : goal.returns-in-Ok-keep_map-clause-trust
+returns-in-Ok-keep_map-clause-trust g c = λ is. c.in-Ok-keep_map.ensures.trust (c.in-Ok.ensures.trust is)
+
+pub returns-in-Ok-keep_map-clause-agreed : goal.returns-in-Ok-keep_map-clause-agreed
+returns-in-Ok-keep_map-clause-agreed g c = tt
+
+pub returns-in-Ok-keep_map-clause-misses : goal.returns-in-Ok-keep_map-clause-misses
+returns-in-Ok-keep_map-clause-misses g c = tt
+
+pub returns-in-Ok-keep_map-clause-cause : goal.returns-in-Ok-keep_map-clause-cause
+returns-in-Ok-keep_map-clause-cause g c = record { before = c.in-Ok.ensures.cause.before; after = c.in-Ok-keep_map.ensures.cause.after }
+
+pub returns-in-Err-keep_map-clause-agreed : goal.returns-in-Err-keep_map-clause-agreed
+returns-in-Err-keep_map-clause-agreed g c = λ is. c.in-Err-keep_map.ensures.agreed (c.in-Ok.ensures.trust is)
+
+pub returns-in-Err-keep_map-clause-kept : goal.returns-in-Err-keep_map-clause-kept
+returns-in-Err-keep_map-clause-kept g c = tt
+
+pub returns-in-Err-keep_map-clause-said : goal.returns-in-Err-keep_map-clause-said
+returns-in-Err-keep_map-clause-said g c = tt
+
+pub returns-in-Err-keep_map-clause-full : goal.returns-in-Err-keep_map-clause-full
+returns-in-Err-keep_map-clause-full g c = tt
+
+pub returns-in-Err-keep_map-clause-spent : goal.returns-in-Err-keep_map-clause-spent
+returns-in-Err-keep_map-clause-spent g c = tt
+
+pub returns-in-Err-keep_map-clause-trust : goal.returns-in-Err-keep_map-clause-trust
+returns-in-Err-keep_map-clause-trust g c = tt

@@ -10,6 +10,10 @@ use Rattle.vx_group.proofs.LoseLemmas.{along_none}
 use Rattle.vx_group.proofs.FindingLemmas.{still_group}
 use Rattle.vx_group.proofs.TrustStillLemmas.{same_logs}
 use Rattle.vx_logged.proofs.GoneLogs.{trusts_all}
+use Rattle.vx_group.proofs.CallLemmas.{not_down}
+use Rattle.vx_group.specs.Stands.{inner_meaning}
+use Rattle.vx_group.specs.Holding.{wide}
+use Rattle.vx_disk.proofs.Runs.{same_Goes}
 use Rattle.vx_logged.proofs.keeping.keep_one.Goals as goal
 
 pub returns-then-is_down-clause-logs : goal.returns-then-is_down-clause-logs
@@ -177,3 +181,138 @@ returns-clause-marks g c = c.lose_group.ensures.marks
 
 pub returns-clause-misses : goal.returns-clause-misses
 returns-clause-misses g c = c.lose_group.ensures.misses
+
+pub returns-clause-stands : goal.returns-clause-stands
+returns-clause-stands g c = c.lose_group.ensures.stands
+
+pub returns-clause-goes : goal.returns-clause-goes
+returns-clause-goes g c = c.lose_group.ensures.goes
+
+pub returns-clause-still : goal.returns-clause-still
+returns-clause-still g c = c.lose_group.ensures.still
+
+pub returns-clause-full : goal.returns-clause-full
+returns-clause-full g c = c.lose_group.ensures.full
+
+pub returns-clause-trust : goal.returns-clause-trust
+returns-clause-trust g c = c.lose_group.ensures.trust
+
+pub returns-clause-agreed : goal.returns-clause-agreed
+returns-clause-agreed g c = c.lose_group.ensures.agreed
+
+pub returns-clause-cause : goal.returns-clause-cause
+returns-clause-cause g c = c.lose_group.ensures.cause
+
+pub returns-then-has-clause-stands : goal.returns-then-has-clause-stands
+returns-then-has-clause-stands g c = c.requires.stands
+
+pub returns-then-has-clause-goes : goal.returns-then-has-clause-goes
+returns-then-has-clause-goes g c = same_Goes Nothing (inner_meaning (wide c.args.core.now) (g.S.Shelf.meaning c.args.shelf.now))
+
+pub returns-then-has-clause-trust : goal.returns-then-has-clause-trust
+returns-then-has-clause-trust g c = λ is. is
+
+pub returns-then-has-clause-agreed : goal.returns-then-has-clause-agreed
+returns-then-has-clause-agreed g c = tt
+
+pub returns-then-has-clause-marks : goal.returns-then-has-clause-marks
+returns-then-has-clause-marks g c = refl
+
+pub returns-then-has-clause-misses : goal.returns-then-has-clause-misses
+returns-then-has-clause-misses g c = tt
+
+pub returns-then-has-clause-cause : goal.returns-then-has-clause-cause
+returns-then-has-clause-cause g c = record { before = not_down c.is_down.result (g.S.Shelf.meaning c.args.shelf.now).down c.is_down.ensures c.if-is_down.false; after = not_down c.is_down.result (g.S.Shelf.meaning c.args.shelf.now).down c.is_down.ensures c.if-is_down.false }
+
+pub returns-then-not-is_trusted-clause-stands : goal.returns-then-not-is_trusted-clause-stands
+returns-then-not-is_trusted-clause-stands g c = c.requires.stands
+
+pub returns-then-not-is_trusted-clause-goes : goal.returns-then-not-is_trusted-clause-goes
+returns-then-not-is_trusted-clause-goes g c = same_Goes Nothing (inner_meaning (wide c.args.core.now) (g.S.Shelf.meaning c.args.shelf.now))
+
+pub returns-then-not-is_trusted-clause-trust : goal.returns-then-not-is_trusted-clause-trust
+returns-then-not-is_trusted-clause-trust g c = λ is. is
+
+pub returns-then-not-is_trusted-clause-agreed : goal.returns-then-not-is_trusted-clause-agreed
+returns-then-not-is_trusted-clause-agreed g c = tt
+
+pub returns-then-not-is_trusted-clause-marks : goal.returns-then-not-is_trusted-clause-marks
+returns-then-not-is_trusted-clause-marks g c = refl
+
+pub returns-then-not-is_trusted-clause-misses : goal.returns-then-not-is_trusted-clause-misses
+returns-then-not-is_trusted-clause-misses g c = tt
+
+pub returns-then-not-is_trusted-clause-cause : goal.returns-then-not-is_trusted-clause-cause
+returns-then-not-is_trusted-clause-cause g c = record { before = not_down c.is_down.result (g.S.Shelf.meaning c.args.shelf.now).down c.is_down.ensures c.if-is_down.false; after = not_down c.is_down.result (g.S.Shelf.meaning c.args.shelf.now).down c.is_down.ensures c.if-is_down.false }
+
+pub returns-then-core-clause-stands : goal.returns-then-core-clause-stands
+returns-then-core-clause-stands g c = c.requires.stands
+
+pub returns-then-core-clause-goes : goal.returns-then-core-clause-goes
+returns-then-core-clause-goes g c = same_Goes Nothing (inner_meaning (wide c.args.core.now) (g.S.Shelf.meaning c.args.shelf.now))
+
+pub returns-then-core-clause-trust : goal.returns-then-core-clause-trust
+returns-then-core-clause-trust g c = λ is. is
+
+pub returns-then-core-clause-agreed : goal.returns-then-core-clause-agreed
+returns-then-core-clause-agreed g c = tt
+
+pub returns-then-core-clause-marks : goal.returns-then-core-clause-marks
+returns-then-core-clause-marks g c = refl
+
+pub returns-then-core-clause-misses : goal.returns-then-core-clause-misses
+returns-then-core-clause-misses g c = tt
+
+pub returns-then-core-clause-cause : goal.returns-then-core-clause-cause
+returns-then-core-clause-cause g c = record { before = not_down c.is_down.result (g.S.Shelf.meaning c.args.shelf.now).down c.is_down.ensures c.if-is_down.false; after = not_down c.is_down.result (g.S.Shelf.meaning c.args.shelf.now).down c.is_down.ensures c.if-is_down.false }
+
+pub returns-then-is_down-clause-stands : goal.returns-then-is_down-clause-stands
+returns-then-is_down-clause-stands g c = c.requires.stands
+
+pub returns-then-is_down-clause-goes : goal.returns-then-is_down-clause-goes
+returns-then-is_down-clause-goes g c = same_Goes Nothing (inner_meaning (wide c.args.core.now) (g.S.Shelf.meaning c.args.shelf.now))
+
+pub returns-then-is_down-clause-kept : goal.returns-then-is_down-clause-kept
+returns-then-is_down-clause-kept g c = tt
+
+pub returns-then-is_down-clause-full : goal.returns-then-is_down-clause-full
+returns-then-is_down-clause-full g c = tt
+
+pub returns-then-is_down-clause-spent : goal.returns-then-is_down-clause-spent
+returns-then-is_down-clause-spent g c = tt
+
+pub returns-then-is_down-clause-few : goal.returns-then-is_down-clause-few
+returns-then-is_down-clause-few g c = tt
+
+pub returns-then-is_down-clause-trust : goal.returns-then-is_down-clause-trust
+returns-then-is_down-clause-trust g c = tt
+
+pub returns-then-is_down-clause-agreed : goal.returns-then-is_down-clause-agreed
+returns-then-is_down-clause-agreed g c = c.requires.stands.stands.trusts.both
+
+pub returns-then-is_down-clause-marks : goal.returns-then-is_down-clause-marks
+returns-then-is_down-clause-marks g c = refl
+
+pub returns-then-is_down-clause-misses : goal.returns-then-is_down-clause-misses
+returns-then-is_down-clause-misses g c = tt
+
+pub returns-then-is_down-clause-cause : goal.returns-then-is_down-clause-cause
+returns-then-is_down-clause-cause g c = sym c.is_down.ensures ∙ c.if-is_down.true
+
+pub returns-then-has-clause-kept : goal.returns-then-has-clause-kept
+returns-then-has-clause-kept g c = λ is told. c.if-has.true
+
+pub returns-then-core-clause-kept : goal.returns-then-core-clause-kept
+returns-then-core-clause-kept g c = λ is. absurd (let clash : false ≡ true = is in cc)
+
+pub returns-then-has-clause-full : goal.returns-then-has-clause-full
+returns-then-has-clause-full g c = λ is. absurd (let clash : true ≡ false = is in cc)
+
+pub returns-then-has-clause-spent : goal.returns-then-has-clause-spent
+returns-then-has-clause-spent g c = λ is. absurd (let clash : true ≡ false = is in cc)
+
+pub returns-then-not-is_trusted-clause-full : goal.returns-then-not-is_trusted-clause-full
+returns-then-not-is_trusted-clause-full g c = λ is. absurd (let clash : true ≡ false = is in cc)
+
+pub returns-then-not-is_trusted-clause-spent : goal.returns-then-not-is_trusted-clause-spent
+returns-then-not-is_trusted-clause-spent g c = λ is. absurd (let clash : true ≡ false = is in cc)

@@ -1,5 +1,5 @@
 -- Marks of a group before a write.
-use Rattle.std.proofs.Common.{IsTrue, ◌≡◌, ◌+◌, ◌<◌, ◌≤◌, ℕ, Bool, false, true, refl, subst, sym, arith}
+use Rattle.std.proofs.Common.{IsTrue, ◌≡◌, ◌+◌, ◌<◌, ◌≤◌, ℕ, Bool, false, true, refl, subst, sym, arith, ◌∙◌}
 use Rattle.vx_config.specs.Checks.{blocks_of}
 use Rattle.vx_config.specs.declared.config.Config.{Config}
 use Rattle.vx_disk.specs.Shelf.{Nothing}
@@ -356,3 +356,96 @@ returns-clause-marks g c = marks_then c.args.vol c.args.core.now.inner.unsure c.
 
 pub returns-clause-misses : goal.returns-clause-misses
 returns-clause-misses g c = c.keep_logs.ensures.misses
+
+pub returns-in-Err-clause-stands : goal.returns-in-Err-clause-stands
+returns-in-Err-clause-stands g c = c.ready_group.ensures.stands
+
+pub returns-in-Err-clause-goes : goal.returns-in-Err-clause-goes
+returns-in-Err-clause-goes g c = c.ready_group.ensures.goes
+
+pub returns-in-Err-clause-still : goal.returns-in-Err-clause-still
+returns-in-Err-clause-still g c = c.ready_group.ensures.still
+
+pub returns-in-Err-clause-said : goal.returns-in-Err-clause-said
+returns-in-Err-clause-said g c = tt
+
+pub returns-in-Err-clause-missed : goal.returns-in-Err-clause-missed
+returns-in-Err-clause-missed g c = tt
+
+pub returns-in-Err-clause-holds : goal.returns-in-Err-clause-holds
+returns-in-Err-clause-holds g c = tt
+
+pub returns-in-Err-clause-may : goal.returns-in-Err-clause-may
+returns-in-Err-clause-may g c = tt
+
+pub returns-in-Err-clause-full : goal.returns-in-Err-clause-full
+returns-in-Err-clause-full g c = tt
+
+pub returns-in-Err-clause-spent : goal.returns-in-Err-clause-spent
+returns-in-Err-clause-spent g c = tt
+
+pub returns-in-Err-clause-trust : goal.returns-in-Err-clause-trust
+returns-in-Err-clause-trust g c = tt
+
+pub returns-in-Err-clause-agreed : goal.returns-in-Err-clause-agreed
+returns-in-Err-clause-agreed g c = c.in-Err.ensures.agreed
+
+pub returns-in-Err-clause-cause : goal.returns-in-Err-clause-cause
+returns-in-Err-clause-cause g c = c.in-Err.ensures.cause
+
+pub returns-in-Err-clause-knows : goal.returns-in-Err-clause-knows
+returns-in-Err-clause-knows g c = λ spare know. tt
+
+pub returns-then-not-ready-clause-stands : goal.returns-then-not-ready-clause-stands
+returns-then-not-ready-clause-stands g c = c.ready_group.ensures.stands
+
+pub returns-then-not-ready-clause-goes : goal.returns-then-not-ready-clause-goes
+returns-then-not-ready-clause-goes g c = c.ready_group.ensures.goes
+
+pub returns-then-not-ready-clause-still : goal.returns-then-not-ready-clause-still
+returns-then-not-ready-clause-still g c = c.ready_group.ensures.still
+
+pub returns-then-not-ready-clause-trust : goal.returns-then-not-ready-clause-trust
+returns-then-not-ready-clause-trust g c = c.in-Ok.ensures.trust
+
+pub returns-then-not-ready-clause-agreed : goal.returns-then-not-ready-clause-agreed
+returns-then-not-ready-clause-agreed g c = tt
+
+pub returns-then-not-ready-clause-misses : goal.returns-then-not-ready-clause-misses
+returns-then-not-ready-clause-misses g c = tt
+
+pub returns-then-not-ready-clause-cause : goal.returns-then-not-ready-clause-cause
+returns-then-not-ready-clause-cause g c = c.in-Ok.ensures.cause
+
+pub returns-in-Err-guard_run-clause-still : goal.returns-in-Err-guard_run-clause-still
+returns-in-Err-guard_run-clause-still g c = c.ready_group.ensures.still
+
+pub returns-in-Err-guard_run-clause-knows : goal.returns-in-Err-guard_run-clause-knows
+returns-in-Err-guard_run-clause-knows g c = λ spare know. tt
+
+pub returns-in-Err-guard_run-clause-said : goal.returns-in-Err-guard_run-clause-said
+returns-in-Err-guard_run-clause-said g c = tt
+
+pub returns-in-Err-guard_run-clause-missed : goal.returns-in-Err-guard_run-clause-missed
+returns-in-Err-guard_run-clause-missed g c = tt
+
+pub returns-in-Err-guard_run-clause-holds : goal.returns-in-Err-guard_run-clause-holds
+returns-in-Err-guard_run-clause-holds g c = tt
+
+pub returns-in-Err-guard_run-clause-may : goal.returns-in-Err-guard_run-clause-may
+returns-in-Err-guard_run-clause-may g c = tt
+
+pub returns-in-Err-guard_run-clause-full : goal.returns-in-Err-guard_run-clause-full
+returns-in-Err-guard_run-clause-full g c = tt
+
+pub returns-in-Err-guard_run-clause-spent : goal.returns-in-Err-guard_run-clause-spent
+returns-in-Err-guard_run-clause-spent g c = tt
+
+pub returns-in-Err-guard_run-clause-trust : goal.returns-in-Err-guard_run-clause-trust
+returns-in-Err-guard_run-clause-trust g c = tt
+
+pub returns-clause-stands : goal.returns-clause-stands
+returns-clause-stands g c = c.keep_logs.ensures.stands
+
+pub returns-clause-still : goal.returns-clause-still
+returns-clause-still g c = λ w p. c.keep_logs.ensures.still (c.in-Ok.ensures.none c.if-not-ready.false) w p ∙ c.ready_group.ensures.still w p

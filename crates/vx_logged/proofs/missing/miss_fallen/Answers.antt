@@ -159,3 +159,84 @@ returns-in-Err-clause-marks g c = c.in-Err.ensures.marks
 
 pub returns-in-Err-clause-misses : goal.returns-in-Err-clause-misses
 returns-in-Err-clause-misses g c = misses_to c.mark_group.new.core.inner c.in-Err.error c.in-Err.ensures.misses
+
+pub returns-in-Ok-clause-stands : goal.returns-in-Ok-clause-stands
+returns-in-Ok-clause-stands g c = c.mark_group.ensures.stands
+
+pub returns-in-Ok-clause-goes : goal.returns-in-Ok-clause-goes
+returns-in-Ok-clause-goes g c = c.mark_group.ensures.goes
+
+pub returns-in-Ok-clause-loses : goal.returns-in-Ok-clause-loses
+returns-in-Ok-clause-loses g c = c.mark_group.ensures.loses
+
+pub returns-in-Ok-clause-others : goal.returns-in-Ok-clause-others
+returns-in-Ok-clause-others g c = c.mark_group.ensures.others
+
+pub returns-in-Ok-clause-adds : goal.returns-in-Ok-clause-adds
+returns-in-Ok-clause-adds g c = c.mark_group.ensures.adds
+
+pub returns-in-Ok-clause-still : goal.returns-in-Ok-clause-still
+returns-in-Ok-clause-still g c = c.mark_group.ensures.still
+
+pub returns-in-Ok-clause-notes : goal.returns-in-Ok-clause-notes
+returns-in-Ok-clause-notes g c = c.mark_group.ensures.notes
+
+pub returns-in-Ok-clause-drops : goal.returns-in-Ok-clause-drops
+returns-in-Ok-clause-drops g c = c.mark_group.ensures.drops
+
+pub returns-in-Ok-clause-trusts : goal.returns-in-Ok-clause-trusts
+returns-in-Ok-clause-trusts g c = c.mark_group.ensures.trusts
+
+pub returns-in-Ok-clause-agreed : goal.returns-in-Ok-clause-agreed
+returns-in-Ok-clause-agreed g c = tt
+
+pub returns-in-Ok-clause-finds : goal.returns-in-Ok-clause-finds
+returns-in-Ok-clause-finds g c = c.mark_group.ensures.finds
+
+pub returns-in-Ok-clause-misses : goal.returns-in-Ok-clause-misses
+returns-in-Ok-clause-misses g c = tt
+
+pub returns-in-Err-clause-stands : goal.returns-in-Err-clause-stands
+returns-in-Err-clause-stands g c = c.mark_group.ensures.stands
+
+pub returns-in-Err-clause-goes : goal.returns-in-Err-clause-goes
+returns-in-Err-clause-goes g c = c.mark_group.ensures.goes
+
+pub returns-in-Err-clause-loses : goal.returns-in-Err-clause-loses
+returns-in-Err-clause-loses g c = c.mark_group.ensures.loses
+
+pub returns-in-Err-clause-others : goal.returns-in-Err-clause-others
+returns-in-Err-clause-others g c = c.mark_group.ensures.others
+
+pub returns-in-Err-clause-adds : goal.returns-in-Err-clause-adds
+returns-in-Err-clause-adds g c = c.mark_group.ensures.adds
+
+pub returns-in-Err-clause-still : goal.returns-in-Err-clause-still
+returns-in-Err-clause-still g c = c.mark_group.ensures.still
+
+pub returns-in-Err-clause-notes : goal.returns-in-Err-clause-notes
+returns-in-Err-clause-notes g c = c.mark_group.ensures.notes
+
+pub returns-in-Err-clause-drops : goal.returns-in-Err-clause-drops
+returns-in-Err-clause-drops g c = c.mark_group.ensures.drops
+
+pub returns-in-Err-clause-trusts : goal.returns-in-Err-clause-trusts
+returns-in-Err-clause-trusts g c = c.mark_group.ensures.trusts
+
+pub returns-in-Err-clause-trust : goal.returns-in-Err-clause-trust
+returns-in-Err-clause-trust g c = tt
+
+pub returns-in-Err-clause-finds : goal.returns-in-Err-clause-finds
+returns-in-Err-clause-finds g c = c.mark_group.ensures.finds
+
+pub returns-then-not-misses-clause-stands : goal.returns-then-not-misses-clause-stands
+returns-then-not-misses-clause-stands g c = c.requires.stands
+
+pub returns-then-not-misses-clause-agreed : goal.returns-then-not-misses-clause-agreed
+returns-then-not-misses-clause-agreed g c = tt
+
+pub returns-then-not-misses-clause-marks : goal.returns-then-not-misses-clause-marks
+returns-then-not-misses-clause-marks g c = refl
+
+pub returns-then-not-misses-clause-misses : goal.returns-then-not-misses-clause-misses
+returns-then-not-misses-clause-misses g c = tt

@@ -278,3 +278,39 @@ returns-clause-marks g c = marks_then c.args.vol c.args.core.now.inner.unsure c.
 
 pub returns-clause-gives_up : goal.returns-clause-gives_up
 returns-clause-gives_up g c = faults_before c.args.vol c.args.core.now.inner.config c.mark_group.new.core.inner.config (g.S.Shelf.meaning c.args.shelf.now) (g.S.Shelf.meaning c.mark_group.new.shelf) (c.mark_group.ensures.loses.loses.lies c.args.vol) (c.mark_group.ensures.still c.args.vol) c.mark_group.ensures.loses.rises c.write_group-2.new.core.inner (g.S.Shelf.meaning c.write_group-2.new.shelf) c.write_group-2.result (gives_faults c.args.vol c.mark_group.new.core.inner c.write_group-2.new.core.inner (g.S.Shelf.meaning c.mark_group.new.shelf) (g.S.Shelf.meaning c.write_group-2.new.shelf) c.write_group-2.result c.write_group-2.ensures.gave_up)
+
+pub returns-clause-stands : goal.returns-clause-stands
+returns-clause-stands g c = c.write_group-2.ensures.stands
+
+pub returns-in-Err-clause-stands : goal.returns-in-Err-clause-stands
+returns-in-Err-clause-stands g c = c.mark_group.ensures.stands
+
+pub returns-in-Err-clause-others : goal.returns-in-Err-clause-others
+returns-in-Err-clause-others g c = c.mark_group.ensures.others
+
+pub returns-in-Err-clause-trust : goal.returns-in-Err-clause-trust
+returns-in-Err-clause-trust g c = tt
+
+pub returns-in-Err-clause-agreed : goal.returns-in-Err-clause-agreed
+returns-in-Err-clause-agreed g c = c.in-Err.ensures.agreed
+
+pub returns-in-Err-clause-ok : goal.returns-in-Err-clause-ok
+returns-in-Err-clause-ok g c = tt
+
+pub returns-then-stopped-clause-stands : goal.returns-then-stopped-clause-stands
+returns-then-stopped-clause-stands g c = c.write_group.ensures.stands
+
+pub returns-then-stopped-clause-goes : goal.returns-then-stopped-clause-goes
+returns-then-stopped-clause-goes g c = c.write_group.ensures.goes
+
+pub returns-then-stopped-clause-ok : goal.returns-then-stopped-clause-ok
+returns-then-stopped-clause-ok g c = c.write_group.ensures.ok
+
+pub returns-then-stopped-clause-trust : goal.returns-then-stopped-clause-trust
+returns-then-stopped-clause-trust g c = c.write_group.ensures.trust
+
+pub returns-then-stopped-clause-agreed : goal.returns-then-stopped-clause-agreed
+returns-then-stopped-clause-agreed g c = c.write_group.ensures.agreed
+
+pub returns-then-stopped-clause-cause : goal.returns-then-stopped-clause-cause
+returns-then-stopped-clause-cause g c = c.write_group.ensures.cause

@@ -380,3 +380,123 @@ returns-in-Err-mark_fallen-clause-unsure g c = down_marks c.args.vol c.args.core
 
 pub returns-in-Err-mark_fallen-clause-gives_up : goal.returns-in-Err-mark_fallen-clause-gives_up
 returns-in-Err-mark_fallen-clause-gives_up g c = down_faults c.args.vol c.args.core.now.inner.config c.mark_fallen.new.core.inner (g.S.Shelf.meaning c.args.shelf.now) (g.S.Shelf.meaning c.mark_fallen.new.shelf) (g.S.Shelf.meaning c.miss_refused-in-Err-mark_fallen.new.shelf) c.in-Err-mark_fallen.error c.miss_refused-in-Err-mark_fallen.result c.miss_refused-in-Err-mark_fallen.ensures.below.faults (or_down (g.S.Shelf.meaning c.miss_refused-in-Err-mark_fallen.new.shelf) c.in-Err-mark_fallen.error c.miss_refused-in-Err-mark_fallen.result c.miss_refused-in-Err-mark_fallen.ensures.same c.miss_refused-in-Err-mark_fallen.ensures.fell) (misses_faults Bool c.args.vol c.args.core.now.inner.config c.mark_fallen.new.core.inner (g.S.Shelf.meaning c.args.shelf.now) (g.S.Shelf.meaning c.mark_fallen.new.shelf) c.in-Err-mark_fallen.error c.in-Err-mark_fallen.ensures.misses)
+
+pub returns-then-stopped-clause-stands : goal.returns-then-stopped-clause-stands
+returns-then-stopped-clause-stands g c = c.write_first.ensures.stands
+
+pub returns-then-stopped-clause-goes : goal.returns-then-stopped-clause-goes
+returns-then-stopped-clause-goes g c = c.write_first.ensures.goes
+
+pub returns-then-stopped-clause-loses : goal.returns-then-stopped-clause-loses
+returns-then-stopped-clause-loses g c = c.write_first.ensures.loses
+
+pub returns-then-stopped-clause-ok : goal.returns-then-stopped-clause-ok
+returns-then-stopped-clause-ok g c = c.in-Ok.ensures.ok
+
+pub returns-then-stopped-clause-log : goal.returns-then-stopped-clause-log
+returns-then-stopped-clause-log g c = c.write_first.ensures.log
+
+pub returns-then-stopped-clause-others : goal.returns-then-stopped-clause-others
+returns-then-stopped-clause-others g c = c.write_first.ensures.others
+
+pub returns-then-stopped-clause-adds : goal.returns-then-stopped-clause-adds
+returns-then-stopped-clause-adds g c = c.write_first.ensures.adds
+
+pub returns-then-stopped-clause-marked : goal.returns-then-stopped-clause-marked
+returns-then-stopped-clause-marked g c = c.write_first.ensures.marked
+
+pub returns-then-stopped-clause-stays : goal.returns-then-stopped-clause-stays
+returns-then-stopped-clause-stays g c = c.write_first.ensures.stays
+
+pub returns-then-stopped-clause-full : goal.returns-then-stopped-clause-full
+returns-then-stopped-clause-full g c = c.write_first.ensures.full
+
+pub returns-then-stopped-clause-trust : goal.returns-then-stopped-clause-trust
+returns-then-stopped-clause-trust g c = c.in-Ok.ensures.trust
+
+pub returns-then-stopped-clause-agreed : goal.returns-then-stopped-clause-agreed
+returns-then-stopped-clause-agreed g c = tt
+
+pub returns-then-stopped-clause-finds : goal.returns-then-stopped-clause-finds
+returns-then-stopped-clause-finds g c = c.write_first.ensures.finds
+
+pub returns-then-stopped-clause-cause : goal.returns-then-stopped-clause-cause
+returns-then-stopped-clause-cause g c = c.in-Ok.ensures.cause
+
+pub returns-in-Err-clause-stands : goal.returns-in-Err-clause-stands
+returns-in-Err-clause-stands g c = c.miss_refused.ensures.stands
+
+pub returns-in-Err-mark_fallen-clause-stands : goal.returns-in-Err-mark_fallen-clause-stands
+returns-in-Err-mark_fallen-clause-stands g c = c.miss_refused-in-Err-mark_fallen.ensures.stands
+
+pub returns-in-Err-clause-ok : goal.returns-in-Err-clause-ok
+returns-in-Err-clause-ok g c = tt
+
+pub returns-in-Err-clause-trust : goal.returns-in-Err-clause-trust
+returns-in-Err-clause-trust g c = tt
+
+pub returns-in-Err-mark_fallen-clause-ok : goal.returns-in-Err-mark_fallen-clause-ok
+returns-in-Err-mark_fallen-clause-ok g c = tt
+
+pub returns-in-Err-mark_fallen-clause-trust : goal.returns-in-Err-mark_fallen-clause-trust
+returns-in-Err-mark_fallen-clause-trust g c = tt
+
+pub returns-in-Err-clause-stays : goal.returns-in-Err-clause-stays
+returns-in-Err-clause-stays g c = c.write_first.ensures.stays
+
+pub returns-in-Err-clause-full : goal.returns-in-Err-clause-full
+returns-in-Err-clause-full g c = c.write_first.ensures.full
+
+pub returns-in-Err-mark_fallen-clause-stays : goal.returns-in-Err-mark_fallen-clause-stays
+returns-in-Err-mark_fallen-clause-stays g c = c.write_first.ensures.stays
+
+pub returns-in-Err-mark_fallen-clause-full : goal.returns-in-Err-mark_fallen-clause-full
+returns-in-Err-mark_fallen-clause-full g c = c.write_first.ensures.full
+
+pub returns-then-not-done-clause-stays : goal.returns-then-not-done-clause-stays
+returns-then-not-done-clause-stays g c = c.write_first.ensures.stays
+
+pub returns-then-not-done-clause-full : goal.returns-then-not-done-clause-full
+returns-then-not-done-clause-full g c = c.write_first.ensures.full
+
+pub returns-else-not-done-clause-stays : goal.returns-else-not-done-clause-stays
+returns-else-not-done-clause-stays g c = c.write_first.ensures.stays
+
+pub returns-else-not-done-clause-full : goal.returns-else-not-done-clause-full
+returns-else-not-done-clause-full g c = c.write_first.ensures.full
+
+pub returns-then-not-done-clause-stands : goal.returns-then-not-done-clause-stands
+returns-then-not-done-clause-stands g c = c.mark_fallen.ensures.stands
+
+pub returns-then-not-done-clause-others : goal.returns-then-not-done-clause-others
+returns-then-not-done-clause-others g c = others_then c.args.vol c.args.core.now c.write_first.new.core c.mark_fallen.new.core (g.S.Shelf.meaning c.args.shelf.now) (g.S.Shelf.meaning c.write_first.new.shelf) (g.S.Shelf.meaning c.mark_fallen.new.shelf) c.write_first.ensures.others c.mark_fallen.ensures.others
+
+pub returns-then-not-done-clause-trust : goal.returns-then-not-done-clause-trust
+returns-then-not-done-clause-trust g c = λ is. c.in-Ok-mark_fallen.ensures.trust (c.in-Ok.ensures.trust is)
+
+pub returns-then-not-done-clause-agreed : goal.returns-then-not-done-clause-agreed
+returns-then-not-done-clause-agreed g c = tt
+
+pub returns-then-not-done-clause-cause : goal.returns-then-not-done-clause-cause
+returns-then-not-done-clause-cause g c = record { before = c.in-Ok.ensures.cause.before; after = c.in-Ok-mark_fallen.ensures.cause.after }
+
+pub returns-else-not-done-clause-stands : goal.returns-else-not-done-clause-stands
+returns-else-not-done-clause-stands g c = c.mark_fallen.ensures.stands
+
+pub returns-else-not-done-clause-others : goal.returns-else-not-done-clause-others
+returns-else-not-done-clause-others g c = others_then c.args.vol c.args.core.now c.write_first.new.core c.mark_fallen.new.core (g.S.Shelf.meaning c.args.shelf.now) (g.S.Shelf.meaning c.write_first.new.shelf) (g.S.Shelf.meaning c.mark_fallen.new.shelf) c.write_first.ensures.others c.mark_fallen.ensures.others
+
+pub returns-else-not-done-clause-trust : goal.returns-else-not-done-clause-trust
+returns-else-not-done-clause-trust g c = λ is. c.in-Ok-mark_fallen.ensures.trust (c.in-Ok.ensures.trust is)
+
+pub returns-else-not-done-clause-agreed : goal.returns-else-not-done-clause-agreed
+returns-else-not-done-clause-agreed g c = tt
+
+pub returns-else-not-done-clause-cause : goal.returns-else-not-done-clause-cause
+returns-else-not-done-clause-cause g c = record { before = c.in-Ok.ensures.cause.before; after = c.in-Ok-mark_fallen.ensures.cause.after }
+
+pub returns-else-not-done-clause-log : goal.returns-else-not-done-clause-log
+returns-else-not-done-clause-log g c = λ off. c.mark_fallen.ensures.log
+
+pub returns-else-not-done-clause-adds : goal.returns-else-not-done-clause-adds
+returns-else-not-done-clause-adds g c = only_then _ _ (first_region c.args.block) (last_region c.args.block (length c.args.bytes.now / 512)) c.args.logs.now c.write_first.new.logs c.mark_fallen.new.logs (ap regions_in (c.write_first.ensures.goes.size c.args.vol)) c.write_first.ensures.adds c.mark_fallen.ensures.adds

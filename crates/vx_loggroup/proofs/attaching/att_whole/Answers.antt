@@ -49,3 +49,24 @@ returns-clause-keeps g c =
 
 pub returns-clause-settles : goal.returns-clause-settles
 returns-clause-settles g c = c.att_in.ensures.settles
+
+pub returns-clause-refused : goal.returns-clause-refused
+returns-clause-refused g c = c.att_in.ensures.refused
+
+pub returns-clause-already : goal.returns-clause-already
+returns-clause-already g c = c.att_in.ensures.already
+
+pub returns-clause-ends : goal.returns-clause-ends
+returns-clause-ends g c = c.att_in.ensures.ends
+
+pub returns-clause-regains : goal.returns-clause-regains
+returns-clause-regains g c = c.att_in.ensures.regains
+
+pub returns-clause-held : goal.returns-clause-held
+returns-clause-held g c = c.att_in.ensures.held
+
+pub returns-clause-trust : goal.returns-clause-trust
+returns-clause-trust g c = c.att_in.ensures.trust
+
+pub returns-clause-cause : goal.returns-clause-cause
+returns-clause-cause g c = c.att_in.ensures.cause

@@ -68,3 +68,45 @@ returns-clause-unsure g c = marks_then c.args.vol c.args.core.now.inner.unsure c
 
 pub returns-clause-misses : goal.returns-clause-misses
 returns-clause-misses g c = c.begin_fmr.ensures.misses
+
+pub returns-in-Err-clause-stands : goal.returns-in-Err-clause-stands
+returns-in-Err-clause-stands g c = c.begin_drl.ensures.stands
+
+pub returns-in-Err-clause-none : goal.returns-in-Err-clause-none
+returns-in-Err-clause-none g c = c.begin_drl.ensures.none
+
+pub returns-in-Err-clause-begins : goal.returns-in-Err-clause-begins
+returns-in-Err-clause-begins g c = c.begin_drl.ensures.begins
+
+pub returns-in-Err-clause-first : goal.returns-in-Err-clause-first
+returns-in-Err-clause-first g c = c.begin_drl.ensures.first
+
+pub returns-in-Err-clause-log : goal.returns-in-Err-clause-log
+returns-in-Err-clause-log g c = c.begin_drl.ensures.log
+
+pub returns-in-Err-clause-maps : goal.returns-in-Err-clause-maps
+returns-in-Err-clause-maps g c = c.begin_drl.ensures.maps
+
+pub returns-in-Err-clause-few : goal.returns-in-Err-clause-few
+returns-in-Err-clause-few g c = tt
+
+pub returns-in-Err-clause-trust : goal.returns-in-Err-clause-trust
+returns-in-Err-clause-trust g c = tt
+
+pub returns-in-Err-clause-agreed : goal.returns-in-Err-clause-agreed
+returns-in-Err-clause-agreed g c = c.in-Err.ensures.agreed
+
+pub returns-in-Err-clause-cause : goal.returns-in-Err-clause-cause
+returns-in-Err-clause-cause g c = c.in-Err.ensures.cause
+
+pub returns-clause-stands : goal.returns-clause-stands
+returns-clause-stands g c = c.begin_fmr.ensures.stands
+
+pub returns-clause-none : goal.returns-clause-none
+returns-clause-none g c = c.begin_fmr.ensures.none
+
+pub returns-clause-log : goal.returns-clause-log
+returns-clause-log g c = c.begin_fmr.ensures.log
+
+pub returns-clause-maps : goal.returns-clause-maps
+returns-clause-maps g c = c.begin_fmr.ensures.maps

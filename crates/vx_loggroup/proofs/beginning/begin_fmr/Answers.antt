@@ -1,5 +1,5 @@
 -- `begin_fmr`: where no log begins; what its call asks.
-use Rattle.std.proofs.Common.{◌∙◌, sym}
+use Rattle.std.proofs.Common.{◌∙◌, sym, arith, refl}
 use Rattle.vx_group.specs.Attaches.{region_count}
 use Rattle.vx_group.specs.Holding.{wide}
 use Rattle.vx_loggroup.proofs.FreshLemmas.{begins_none, first_none, none_of}
@@ -45,3 +45,93 @@ returns-clause-unsure g c = c.begin_map.ensures.unsure
 
 pub returns-clause-misses : goal.returns-clause-misses
 returns-clause-misses g c = c.begin_map.ensures.misses
+
+pub returns-then-is_some-clause-stands : goal.returns-then-is_some-clause-stands
+returns-then-is_some-clause-stands g c = c.requires.stands
+
+pub returns-then-is_some-clause-none : goal.returns-then-is_some-clause-none
+returns-then-is_some-clause-none g c = c.requires.none
+
+pub returns-then-is_some-clause-log : goal.returns-then-is_some-clause-log
+returns-then-is_some-clause-log g c = c.requires.log
+
+pub returns-then-is_some-clause-maps : goal.returns-then-is_some-clause-maps
+returns-then-is_some-clause-maps g c = c.requires.maps
+
+pub returns-then-is_some-clause-cause : goal.returns-then-is_some-clause-cause
+returns-then-is_some-clause-cause g c = record { before = c.requires.up; after = c.requires.up }
+
+pub returns-then-is_some-clause-few : goal.returns-then-is_some-clause-few
+returns-then-is_some-clause-few g c = omega arith
+
+pub returns-then-is_some-clause-trust : goal.returns-then-is_some-clause-trust
+returns-then-is_some-clause-trust g c = λ is. is
+
+pub returns-then-is_some-clause-agreed : goal.returns-then-is_some-clause-agreed
+returns-then-is_some-clause-agreed g c = tt
+
+pub returns-then-is_some-clause-unsure : goal.returns-then-is_some-clause-unsure
+returns-then-is_some-clause-unsure g c = refl
+
+pub returns-then-is_some-clause-misses : goal.returns-then-is_some-clause-misses
+returns-then-is_some-clause-misses g c = tt
+
+pub returns-then-not-is_waiting-clause-stands : goal.returns-then-not-is_waiting-clause-stands
+returns-then-not-is_waiting-clause-stands g c = c.requires.stands
+
+pub returns-then-not-is_waiting-clause-none : goal.returns-then-not-is_waiting-clause-none
+returns-then-not-is_waiting-clause-none g c = c.requires.none
+
+pub returns-then-not-is_waiting-clause-log : goal.returns-then-not-is_waiting-clause-log
+returns-then-not-is_waiting-clause-log g c = c.requires.log
+
+pub returns-then-not-is_waiting-clause-maps : goal.returns-then-not-is_waiting-clause-maps
+returns-then-not-is_waiting-clause-maps g c = c.requires.maps
+
+pub returns-then-not-is_waiting-clause-cause : goal.returns-then-not-is_waiting-clause-cause
+returns-then-not-is_waiting-clause-cause g c = record { before = c.requires.up; after = c.requires.up }
+
+pub returns-then-not-is_waiting-clause-few : goal.returns-then-not-is_waiting-clause-few
+returns-then-not-is_waiting-clause-few g c = omega arith
+
+pub returns-then-not-is_waiting-clause-trust : goal.returns-then-not-is_waiting-clause-trust
+returns-then-not-is_waiting-clause-trust g c = λ is. is
+
+pub returns-then-not-is_waiting-clause-agreed : goal.returns-then-not-is_waiting-clause-agreed
+returns-then-not-is_waiting-clause-agreed g c = tt
+
+pub returns-then-not-is_waiting-clause-unsure : goal.returns-then-not-is_waiting-clause-unsure
+returns-then-not-is_waiting-clause-unsure g c = refl
+
+pub returns-then-not-is_waiting-clause-misses : goal.returns-then-not-is_waiting-clause-misses
+returns-then-not-is_waiting-clause-misses g c = tt
+
+pub returns-clause-stands : goal.returns-clause-stands
+returns-clause-stands g c = c.begin_map.ensures.stands
+
+pub returns-clause-none : goal.returns-clause-none
+returns-clause-none g c = c.begin_map.ensures.none
+
+pub returns-clause-begins : goal.returns-clause-begins
+returns-clause-begins g c = c.begin_map.ensures.begins
+
+pub returns-clause-first : goal.returns-clause-first
+returns-clause-first g c = c.begin_map.ensures.first
+
+pub returns-clause-log : goal.returns-clause-log
+returns-clause-log g c = c.begin_map.ensures.log
+
+pub returns-clause-maps : goal.returns-clause-maps
+returns-clause-maps g c = c.begin_map.ensures.maps
+
+pub returns-clause-few : goal.returns-clause-few
+returns-clause-few g c = c.begin_map.ensures.few
+
+pub returns-clause-trust : goal.returns-clause-trust
+returns-clause-trust g c = c.begin_map.ensures.trust
+
+pub returns-clause-agreed : goal.returns-clause-agreed
+returns-clause-agreed g c = c.begin_map.ensures.agreed
+
+pub returns-clause-cause : goal.returns-clause-cause
+returns-clause-cause g c = c.begin_map.ensures.cause

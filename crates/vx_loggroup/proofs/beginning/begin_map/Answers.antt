@@ -1,5 +1,5 @@
 -- `begin_map`: its clauses; what `begin_maps` and `trust_first` ask.
-use Rattle.std.proofs.Common.{◌≡◌, ◌∙◌, false, refl, subst, sym, ap}
+use Rattle.std.proofs.Common.{◌≡◌, ◌∙◌, false, refl, subst, sym, ap, arith}
 use Rattle.vx_config.specs.declared.config.Config.{Config}
 use Rattle.vx_config.specs.declared.entry.VolumeLog.TheVariants.{Drl, Fmr}
 use Rattle.vx_config.proofs.Changed.{sound_lost}
@@ -128,3 +128,54 @@ returns-clause-unsure g c = c.trust_first.ensures.unsure
 
 pub returns-clause-misses : goal.returns-clause-misses
 returns-clause-misses g c = c.trust_first.ensures.misses
+
+pub returns-clause-stands : goal.returns-clause-stands
+returns-clause-stands g c = c.trust_first.ensures.stands
+
+pub returns-clause-none : goal.returns-clause-none
+returns-clause-none g c = c.trust_first.ensures.none
+
+pub returns-clause-few : goal.returns-clause-few
+returns-clause-few g c = c.trust_first.ensures.few
+
+pub returns-clause-trust : goal.returns-clause-trust
+returns-clause-trust g c = c.trust_first.ensures.trust
+
+pub returns-clause-agreed : goal.returns-clause-agreed
+returns-clause-agreed g c = c.trust_first.ensures.agreed
+
+pub returns-then-is_down-clause-none : goal.returns-then-is_down-clause-none
+returns-then-is_down-clause-none g c = c.requires.none
+
+pub returns-then-is_down-clause-few : goal.returns-then-is_down-clause-few
+returns-then-is_down-clause-few g c = tt
+
+pub returns-then-is_down-clause-trust : goal.returns-then-is_down-clause-trust
+returns-then-is_down-clause-trust g c = tt
+
+pub returns-then-is_down-clause-unsure : goal.returns-then-is_down-clause-unsure
+returns-then-is_down-clause-unsure g c = refl
+
+pub returns-then-is_down-clause-misses : goal.returns-then-is_down-clause-misses
+returns-then-is_down-clause-misses g c = tt
+
+pub returns-then-is_down-clause-cause : goal.returns-then-is_down-clause-cause
+returns-then-is_down-clause-cause g c = sym c.is_down.ensures ∙ c.if-is_down.true
+
+pub returns-then-is_none-clause-none : goal.returns-then-is_none-clause-none
+returns-then-is_none-clause-none g c = c.requires.none
+
+pub returns-then-is_none-clause-few : goal.returns-then-is_none-clause-few
+returns-then-is_none-clause-few g c = omega arith
+
+pub returns-then-is_none-clause-trust : goal.returns-then-is_none-clause-trust
+returns-then-is_none-clause-trust g c = λ is. is
+
+pub returns-then-is_none-clause-agreed : goal.returns-then-is_none-clause-agreed
+returns-then-is_none-clause-agreed g c = tt
+
+pub returns-then-is_none-clause-unsure : goal.returns-then-is_none-clause-unsure
+returns-then-is_none-clause-unsure g c = refl
+
+pub returns-then-is_none-clause-misses : goal.returns-then-is_none-clause-misses
+returns-then-is_none-clause-misses g c = tt

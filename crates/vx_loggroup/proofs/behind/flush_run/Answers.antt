@@ -99,3 +99,24 @@ returns-clause-unsure g c = c.flush_noted.ensures.marks
 
 pub returns-clause-gives_up : goal.returns-clause-gives_up
 returns-clause-gives_up g c = c.flush_noted.ensures.gives_up
+
+pub returns-clause-goes : goal.returns-clause-goes
+returns-clause-goes g c = c.flush_noted.ensures.goes
+
+pub returns-clause-loses : goal.returns-clause-loses
+returns-clause-loses g c = c.flush_noted.ensures.loses
+
+pub returns-clause-ok : goal.returns-clause-ok
+returns-clause-ok g c = c.flush_noted.ensures.ok
+
+pub returns-clause-finds : goal.returns-clause-finds
+returns-clause-finds g c = c.flush_noted.ensures.finds
+
+pub returns-clause-trust : goal.returns-clause-trust
+returns-clause-trust g c = c.flush_noted.ensures.trust
+
+pub returns-clause-agreed : goal.returns-clause-agreed
+returns-clause-agreed g c = c.flush_noted.ensures.agreed
+
+pub returns-clause-cause : goal.returns-clause-cause
+returns-clause-cause g c = c.flush_noted.ensures.cause

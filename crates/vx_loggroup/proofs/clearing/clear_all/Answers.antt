@@ -57,3 +57,9 @@ returns-then-not-done-clause-shrink g c = shrink_then c.args.logs.now.items c.lo
 
 pub returns-clause-shrink : goal.returns-clause-shrink
 returns-clause-shrink g c = c.loop-vol.invariant.shrink
+
+pub returns-in-Err-clause-off : goal.returns-in-Err-clause-off
+returns-in-Err-clause-off g c = tt
+
+pub returns-in-Err-clause-trust : goal.returns-in-Err-clause-trust
+returns-in-Err-clause-trust g c = tt

@@ -1,5 +1,5 @@
 -- `clear_one`: clauses stands, marks and off; what the calls ask.
-use Rattle.std.proofs.Common.{Bool, false, refl, subst, sym, arith}
+use Rattle.std.proofs.Common.{Bool, false, refl, subst, sym, arith, ◌∙◌}
 use Rattle.vx_disk.specs.Shelf.{Nothing}
 use Rattle.vx_group.specs.Attaches.{region_count}
 use Rattle.vx_group.specs.Holding.{wide}
@@ -52,3 +52,33 @@ returns-then-not-is_alike-clause-shrink g c = shrink_none c.args.logs.now.items
 
 pub returns-clause-shrink : goal.returns-clause-shrink
 returns-clause-shrink g c = shrink_set c.args.vol c.args.logs.now.items c.index_mut.result.now c.clear_group.new.logs (item_of c.args.logs.now.items c.args.vol c.index_mut.result.now c.index_mut.ensures.value (index_low c.args.core.now c.args.logs.now.items c.args.alike.now false (g.S.Shelf.meaning c.args.shelf.now) c.args.vol c.requires.stands c.requires.there)) c.clear_group.ensures.stay
+
+pub returns-clause-trust : goal.returns-clause-trust
+returns-clause-trust g c = c.clear_group.ensures.trust
+
+pub returns-clause-agreed : goal.returns-clause-agreed
+returns-clause-agreed g c = c.clear_group.ensures.agreed
+
+pub returns-clause-cause : goal.returns-clause-cause
+returns-clause-cause g c = c.clear_group.ensures.cause
+
+pub returns-then-is_down-clause-stands : goal.returns-then-is_down-clause-stands
+returns-then-is_down-clause-stands g c = c.requires.stands
+
+pub returns-then-is_down-clause-off : goal.returns-then-is_down-clause-off
+returns-then-is_down-clause-off g c = tt
+
+pub returns-then-is_down-clause-trust : goal.returns-then-is_down-clause-trust
+returns-then-is_down-clause-trust g c = tt
+
+pub returns-then-is_down-clause-cause : goal.returns-then-is_down-clause-cause
+returns-then-is_down-clause-cause g c = sym c.is_down.ensures ∙ c.if-is_down.true
+
+pub returns-then-not-is_alike-clause-stands : goal.returns-then-not-is_alike-clause-stands
+returns-then-not-is_alike-clause-stands g c = c.requires.stands
+
+pub returns-then-not-is_alike-clause-trust : goal.returns-then-not-is_alike-clause-trust
+returns-then-not-is_alike-clause-trust g c = λ is. is
+
+pub returns-then-not-is_alike-clause-agreed : goal.returns-then-not-is_alike-clause-agreed
+returns-then-not-is_alike-clause-agreed g c = tt

@@ -51,3 +51,21 @@ returns-in-Ok-clause-agreed g c = tt
 
 pub returns-in-Err-clause-agreed : goal.returns-in-Err-clause-agreed
 returns-in-Err-clause-agreed g c = c.in-Err.ensures.agreed
+
+pub returns-in-Ok-clause-stands : goal.returns-in-Ok-clause-stands
+returns-in-Ok-clause-stands g c = tt
+
+pub returns-in-Ok-clause-up : goal.returns-in-Ok-clause-up
+returns-in-Ok-clause-up g c = c.in-Ok.ensures.up
+
+pub returns-in-Ok-clause-back : goal.returns-in-Ok-clause-back
+returns-in-Ok-clause-back g c = tt
+
+pub returns-in-Err-clause-up : goal.returns-in-Err-clause-up
+returns-in-Err-clause-up g c = tt
+
+pub returns-in-Err-clause-back : goal.returns-in-Err-clause-back
+returns-in-Err-clause-back g c = c.in-Err.ensures.back
+
+pub returns-in-Err-clause-tells : goal.returns-in-Err-clause-tells
+returns-in-Err-clause-tells g c = tt

@@ -216,3 +216,132 @@ returns-in-Ok-clause-since g c = c.begin_first.ensures.since
 
 pub returns-in-Err-clause-since : goal.returns-in-Err-clause-since
 returns-in-Err-clause-since g c = c.begin_first.ensures.since
+
+pub returns-in-Ok-clause-first : goal.returns-in-Ok-clause-first
+returns-in-Ok-clause-first g c = c.begin_first.ensures.first
+
+pub returns-in-Ok-clause-trust : goal.returns-in-Ok-clause-trust
+returns-in-Ok-clause-trust g c = c.in-Ok.ensures.trust
+
+pub returns-in-Ok-clause-agreed : goal.returns-in-Ok-clause-agreed
+returns-in-Ok-clause-agreed g c = tt
+
+pub returns-in-Err-clause-first : goal.returns-in-Err-clause-first
+returns-in-Err-clause-first g c = c.begin_first.ensures.first
+
+pub returns-in-Err-clause-trust : goal.returns-in-Err-clause-trust
+returns-in-Err-clause-trust g c = tt
+
+pub returns-in-Err-clause-agreed : goal.returns-in-Err-clause-agreed
+returns-in-Err-clause-agreed g c = c.in-Err.ensures.agreed
+
+pub returns-in-Err-clause-may : goal.returns-in-Err-clause-may
+returns-in-Err-clause-may g c = λ none. tt
+
+pub returns-in-Ok-clause-cause : goal.returns-in-Ok-clause-cause
+returns-in-Ok-clause-cause g c = tt
+
+pub returns-then-core-clause-stands : goal.returns-then-core-clause-stands
+returns-then-core-clause-stands g c = c.requires.stands
+
+pub returns-then-core-clause-fresh : goal.returns-then-core-clause-fresh
+returns-then-core-clause-fresh g c = c.requires.fresh
+
+pub returns-then-core-clause-trust : goal.returns-then-core-clause-trust
+returns-then-core-clause-trust g c = λ is. is
+
+pub returns-then-core-clause-agreed : goal.returns-then-core-clause-agreed
+returns-then-core-clause-agreed g c = tt
+
+pub returns-then-core-clause-cause : goal.returns-then-core-clause-cause
+returns-then-core-clause-cause g c = tt
+
+pub returns-then-core-clause-may : goal.returns-then-core-clause-may
+returns-then-core-clause-may g c = λ none. none
+
+pub returns-then-core-clause-refused : goal.returns-then-core-clause-refused
+returns-then-core-clause-refused g c = λ no is. (refl, refl, refl, refl)
+
+pub returns-then-is_some-clause-stands : goal.returns-then-is_some-clause-stands
+returns-then-is_some-clause-stands g c = c.requires.stands
+
+pub returns-then-is_some-clause-fresh : goal.returns-then-is_some-clause-fresh
+returns-then-is_some-clause-fresh g c = c.requires.fresh
+
+pub returns-then-is_some-clause-trust : goal.returns-then-is_some-clause-trust
+returns-then-is_some-clause-trust g c = λ is. is
+
+pub returns-then-is_some-clause-agreed : goal.returns-then-is_some-clause-agreed
+returns-then-is_some-clause-agreed g c = tt
+
+pub returns-then-is_some-clause-cause : goal.returns-then-is_some-clause-cause
+returns-then-is_some-clause-cause g c = tt
+
+pub returns-then-is_some-clause-may : goal.returns-then-is_some-clause-may
+returns-then-is_some-clause-may g c = λ none. none
+
+pub returns-then-is_some-clause-refused : goal.returns-then-is_some-clause-refused
+returns-then-is_some-clause-refused g c = λ no is. (refl, refl, refl, refl)
+
+pub returns-then-not-is_active-clause-stands : goal.returns-then-not-is_active-clause-stands
+returns-then-not-is_active-clause-stands g c = c.requires.stands
+
+pub returns-then-not-is_active-clause-fresh : goal.returns-then-not-is_active-clause-fresh
+returns-then-not-is_active-clause-fresh g c = c.requires.fresh
+
+pub returns-then-not-is_active-clause-trust : goal.returns-then-not-is_active-clause-trust
+returns-then-not-is_active-clause-trust g c = λ is. is
+
+pub returns-then-not-is_active-clause-agreed : goal.returns-then-not-is_active-clause-agreed
+returns-then-not-is_active-clause-agreed g c = tt
+
+pub returns-then-not-is_active-clause-cause : goal.returns-then-not-is_active-clause-cause
+returns-then-not-is_active-clause-cause g c = tt
+
+pub returns-then-not-is_active-clause-may : goal.returns-then-not-is_active-clause-may
+returns-then-not-is_active-clause-may g c = λ none. none
+
+pub returns-then-not-is_active-clause-refused : goal.returns-then-not-is_active-clause-refused
+returns-then-not-is_active-clause-refused g c = λ no is. (refl, refl, refl, refl)
+
+pub returns-then-not-takes_fresh-clause-stands : goal.returns-then-not-takes_fresh-clause-stands
+returns-then-not-takes_fresh-clause-stands g c = c.requires.stands
+
+pub returns-then-not-takes_fresh-clause-trust : goal.returns-then-not-takes_fresh-clause-trust
+returns-then-not-takes_fresh-clause-trust g c = λ is. is
+
+pub returns-then-not-takes_fresh-clause-agreed : goal.returns-then-not-takes_fresh-clause-agreed
+returns-then-not-takes_fresh-clause-agreed g c = tt
+
+pub returns-then-not-takes_fresh-clause-cause : goal.returns-then-not-takes_fresh-clause-cause
+returns-then-not-takes_fresh-clause-cause g c = tt
+
+pub returns-then-not-takes_fresh-clause-may : goal.returns-then-not-takes_fresh-clause-may
+returns-then-not-takes_fresh-clause-may g c = λ none. none
+
+pub returns-then-not-takes_fresh-clause-refused : goal.returns-then-not-takes_fresh-clause-refused
+returns-then-not-takes_fresh-clause-refused g c = λ no is. (refl, refl, refl, refl)
+
+pub returns-in-Ok-clause-goes : goal.returns-in-Ok-clause-goes
+returns-in-Ok-clause-goes g c = c.begin_first.ensures.begins.goes
+
+pub returns-in-Ok-clause-loses : goal.returns-in-Ok-clause-loses
+returns-in-Ok-clause-loses g c = c.begin_first.ensures.begins.loses
+
+pub returns-in-Ok-clause-still : goal.returns-in-Ok-clause-still
+returns-in-Ok-clause-still g c = c.begin_first.ensures.begins.still
+
+pub returns-in-Ok-clause-below : goal.returns-in-Ok-clause-below
+returns-in-Ok-clause-below g c = c.begin_first.ensures.begins.units
+
+pub returns-in-Err-clause-goes : goal.returns-in-Err-clause-goes
+returns-in-Err-clause-goes g c = c.begin_first.ensures.begins.goes
+
+pub returns-in-Err-clause-loses : goal.returns-in-Err-clause-loses
+returns-in-Err-clause-loses g c = c.begin_first.ensures.begins.loses
+
+pub returns-in-Err-clause-still : goal.returns-in-Err-clause-still
+returns-in-Err-clause-still g c = c.begin_first.ensures.begins.still
+
+pub returns-in-Err-clause-below : goal.returns-in-Err-clause-below
+returns-in-Err-clause-below g c = c.begin_first.ensures.begins.units

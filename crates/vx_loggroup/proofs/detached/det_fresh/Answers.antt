@@ -147,3 +147,36 @@ returns-in-Err-clause-said g c = λ on going same. tt
 
 pub returns-clause-said : goal.returns-clause-said
 returns-clause-said g c = λ on going same. c.det_whole.ensures.said (c.begin_before.ensures.still c.args.vol c.args.plex ∙ on) going same
+
+pub returns-clause-stands : goal.returns-clause-stands
+returns-clause-stands g c = c.det_whole.ensures.stands
+
+pub returns-clause-off : goal.returns-clause-off
+returns-clause-off g c = c.det_whole.ensures.off
+
+pub returns-in-Err-clause-stands : goal.returns-in-Err-clause-stands
+returns-in-Err-clause-stands g c = c.begin_before.ensures.stands
+
+pub returns-in-Err-clause-fresh : goal.returns-in-Err-clause-fresh
+returns-in-Err-clause-fresh g c = c.begin_before.ensures.fresh
+
+pub returns-in-Err-clause-goes : goal.returns-in-Err-clause-goes
+returns-in-Err-clause-goes g c = c.begin_before.ensures.goes
+
+pub returns-in-Err-clause-below : goal.returns-in-Err-clause-below
+returns-in-Err-clause-below g c = c.begin_before.ensures.below
+
+pub returns-in-Err-clause-begins : goal.returns-in-Err-clause-begins
+returns-in-Err-clause-begins g c = tt
+
+pub returns-in-Err-clause-off : goal.returns-in-Err-clause-off
+returns-in-Err-clause-off g c = tt
+
+pub returns-in-Err-clause-kept : goal.returns-in-Err-clause-kept
+returns-in-Err-clause-kept g c = tt
+
+pub returns-in-Err-clause-trust : goal.returns-in-Err-clause-trust
+returns-in-Err-clause-trust g c = tt
+
+pub returns-in-Err-clause-agreed : goal.returns-in-Err-clause-agreed
+returns-in-Err-clause-agreed g c = c.in-Err.ensures.agreed

@@ -303,3 +303,33 @@ returns-in-Err-clause-cause g c = λ may. c.in-Err.ensures.cause
 
 pub returns-clause-cause : goal.returns-clause-cause
 returns-clause-cause g c = λ may. det_later (g.S.Shelf.meaning c.args.shelf.now) (g.S.Shelf.meaning c.begin_early.new.shelf) (g.S.Shelf.meaning c.det_beside.new.shelf) c.begin_early.ensures.goes.disk_faults c.det_beside.result c.det_beside.ensures.cause
+
+pub returns-in-Err-clause-begins : goal.returns-in-Err-clause-begins
+returns-in-Err-clause-begins g c = tt
+
+pub returns-in-Some-clause-begins : goal.returns-in-Some-clause-begins
+returns-in-Some-clause-begins g c = tt
+
+pub returns-in-Err-clause-off : goal.returns-in-Err-clause-off
+returns-in-Err-clause-off g c = tt
+
+pub returns-in-Some-clause-off : goal.returns-in-Some-clause-off
+returns-in-Some-clause-off g c = tt
+
+pub returns-in-Err-clause-kept : goal.returns-in-Err-clause-kept
+returns-in-Err-clause-kept g c = tt
+
+pub returns-in-Some-clause-kept : goal.returns-in-Some-clause-kept
+returns-in-Some-clause-kept g c = tt
+
+pub returns-in-Err-clause-trust : goal.returns-in-Err-clause-trust
+returns-in-Err-clause-trust g c = tt
+
+pub returns-in-Some-clause-trust : goal.returns-in-Some-clause-trust
+returns-in-Some-clause-trust g c = tt
+
+pub returns-then-not-is_active-clause-agreed : goal.returns-then-not-is_active-clause-agreed
+returns-then-not-is_active-clause-agreed g c = tt
+
+pub returns-then-not-is_active-clause-stays : goal.returns-then-not-is_active-clause-stays
+returns-then-not-is_active-clause-stays g c = tt

@@ -150,3 +150,30 @@ returns-clause-unsure g c = marks_then c.args.vol c.args.core.now.inner.unsure c
 
 pub returns-clause-misses : goal.returns-clause-misses
 returns-clause-misses g c = c.begin_both.ensures.misses
+
+pub returns-in-Err-clause-few : goal.returns-in-Err-clause-few
+returns-in-Err-clause-few g c = tt
+
+pub returns-in-Err-clause-trust : goal.returns-in-Err-clause-trust
+returns-in-Err-clause-trust g c = tt
+
+pub returns-in-Err-clause-agreed : goal.returns-in-Err-clause-agreed
+returns-in-Err-clause-agreed g c = c.in-Err.ensures.agreed
+
+pub returns-then-blocks_of-eq0-clause-trust : goal.returns-then-blocks_of-eq0-clause-trust
+returns-then-blocks_of-eq0-clause-trust g c = c.in-Ok.ensures.trust
+
+pub returns-then-blocks_of-eq0-clause-agreed : goal.returns-then-blocks_of-eq0-clause-agreed
+returns-then-blocks_of-eq0-clause-agreed g c = tt
+
+pub returns-then-blocks_of-eq0-clause-misses : goal.returns-then-blocks_of-eq0-clause-misses
+returns-then-blocks_of-eq0-clause-misses g c = tt
+
+pub returns-then-not-ready-clause-trust : goal.returns-then-not-ready-clause-trust
+returns-then-not-ready-clause-trust g c = c.in-Ok.ensures.trust
+
+pub returns-then-not-ready-clause-agreed : goal.returns-then-not-ready-clause-agreed
+returns-then-not-ready-clause-agreed g c = tt
+
+pub returns-then-not-ready-clause-misses : goal.returns-then-not-ready-clause-misses
+returns-then-not-ready-clause-misses g c = tt

@@ -239,3 +239,54 @@ returns-clause-unsure g c = fell_then c.args.vol c.args.core.now.inner.unsure c.
 
 pub returns-clause-gives_up : goal.returns-clause-gives_up
 returns-clause-gives_up g c = faults_before c.args.vol c.args.core.now.inner.config c.begin_first.new.core.inner.config (g.S.Shelf.meaning c.args.shelf.now) (g.S.Shelf.meaning c.begin_first.new.shelf) (c.begin_first.ensures.begins.loses.loses.lies c.args.vol) (c.begin_first.ensures.begins.still c.args.vol) c.begin_first.ensures.begins.loses.rises c.write_whole-2.new.core.inner (g.S.Shelf.meaning c.write_whole-2.new.shelf) c.write_whole-2.result c.write_whole-2.ensures.gives_up
+
+pub returns-then-not-takes_fresh-clause-stands : goal.returns-then-not-takes_fresh-clause-stands
+returns-then-not-takes_fresh-clause-stands g c = c.write_whole.ensures.stands
+
+pub returns-then-not-takes_fresh-clause-goes : goal.returns-then-not-takes_fresh-clause-goes
+returns-then-not-takes_fresh-clause-goes g c = c.write_whole.ensures.goes
+
+pub returns-then-not-takes_fresh-clause-ok : goal.returns-then-not-takes_fresh-clause-ok
+returns-then-not-takes_fresh-clause-ok g c = c.write_whole.ensures.ok
+
+pub returns-then-not-takes_fresh-clause-loses : goal.returns-then-not-takes_fresh-clause-loses
+returns-then-not-takes_fresh-clause-loses g c = c.write_whole.ensures.loses
+
+pub returns-then-not-takes_fresh-clause-finds : goal.returns-then-not-takes_fresh-clause-finds
+returns-then-not-takes_fresh-clause-finds g c = c.write_whole.ensures.finds
+
+pub returns-then-not-takes_fresh-clause-marks : goal.returns-then-not-takes_fresh-clause-marks
+returns-then-not-takes_fresh-clause-marks g c = c.write_whole.ensures.marks
+
+pub returns-then-not-takes_fresh-clause-notes : goal.returns-then-not-takes_fresh-clause-notes
+returns-then-not-takes_fresh-clause-notes g c = c.write_whole.ensures.notes
+
+pub returns-then-not-takes_fresh-clause-begins : goal.returns-then-not-takes_fresh-clause-begins
+returns-then-not-takes_fresh-clause-begins g c = c.write_whole.ensures.begins
+
+pub returns-then-not-takes_fresh-clause-marked : goal.returns-then-not-takes_fresh-clause-marked
+returns-then-not-takes_fresh-clause-marked g c = c.write_whole.ensures.marked
+
+pub returns-then-not-takes_fresh-clause-trust : goal.returns-then-not-takes_fresh-clause-trust
+returns-then-not-takes_fresh-clause-trust g c = c.write_whole.ensures.trust
+
+pub returns-then-not-takes_fresh-clause-agreed : goal.returns-then-not-takes_fresh-clause-agreed
+returns-then-not-takes_fresh-clause-agreed g c = c.write_whole.ensures.agreed
+
+pub returns-then-not-takes_fresh-clause-cause : goal.returns-then-not-takes_fresh-clause-cause
+returns-then-not-takes_fresh-clause-cause g c = c.write_whole.ensures.cause
+
+pub returns-in-Err-clause-ok : goal.returns-in-Err-clause-ok
+returns-in-Err-clause-ok g c = tt
+
+pub returns-in-Err-clause-trust : goal.returns-in-Err-clause-trust
+returns-in-Err-clause-trust g c = tt
+
+pub returns-in-Err-clause-agreed : goal.returns-in-Err-clause-agreed
+returns-in-Err-clause-agreed g c = c.in-Err.ensures.agreed
+
+pub returns-in-Err-clause-kept : goal.returns-in-Err-clause-kept
+returns-in-Err-clause-kept g c = λ off. tt
+
+pub returns-clause-stands : goal.returns-clause-stands
+returns-clause-stands g c = c.write_whole-2.ensures.stands

@@ -209,3 +209,126 @@ returns-in-Err-make_in-clause-kept g c = subst (λ (ls : List Logs). SureKept c.
 
 pub returns-in-Ok-make_in-clause-begins : goal.returns-in-Ok-make_in-clause-begins
 returns-in-Ok-make_in-clause-begins g c = c.set_alike-in-Ok-make_in.ensures.here
+
+pub returns-in-Ok-make_in-clause-refused : goal.returns-in-Ok-make_in-clause-refused
+returns-in-Ok-make_in-clause-refused g c = c.in-Ok-make_in.ensures.refused
+
+pub returns-in-Ok-make_in-clause-stays : goal.returns-in-Ok-make_in-clause-stays
+returns-in-Ok-make_in-clause-stays g c = c.make_in.ensures.stays
+
+pub returns-in-Ok-make_in-clause-ends : goal.returns-in-Ok-make_in-clause-ends
+returns-in-Ok-make_in-clause-ends g c = c.in-Ok-make_in.ensures.ends
+
+pub returns-in-Ok-make_in-clause-parts : goal.returns-in-Ok-make_in-clause-parts
+returns-in-Ok-make_in-clause-parts g c = c.make_in.ensures.parts
+
+pub returns-in-Ok-make_in-clause-disks : goal.returns-in-Ok-make_in-clause-disks
+returns-in-Ok-make_in-clause-disks g c = c.make_in.ensures.disks
+
+pub returns-in-Ok-make_in-clause-held : goal.returns-in-Ok-make_in-clause-held
+returns-in-Ok-make_in-clause-held g c = c.in-Ok-make_in.ensures.held
+
+pub returns-in-Ok-make_in-clause-up : goal.returns-in-Ok-make_in-clause-up
+returns-in-Ok-make_in-clause-up g c = c.in-Ok-make_in.ensures.up
+
+pub returns-in-Ok-make_in-clause-newest : goal.returns-in-Ok-make_in-clause-newest
+returns-in-Ok-make_in-clause-newest g c = c.in-Ok-make_in.ensures.newest
+
+pub returns-in-Ok-make_in-clause-trust : goal.returns-in-Ok-make_in-clause-trust
+returns-in-Ok-make_in-clause-trust g c = c.in-Ok-make_in.ensures.trust
+
+pub returns-in-Ok-make_in-clause-whole : goal.returns-in-Ok-make_in-clause-whole
+returns-in-Ok-make_in-clause-whole g c = c.in-Ok-make_in.ensures.whole
+
+pub returns-in-Ok-make_in-clause-agreed : goal.returns-in-Ok-make_in-clause-agreed
+returns-in-Ok-make_in-clause-agreed g c = tt
+
+pub returns-in-Ok-make_in-clause-unmoved : goal.returns-in-Ok-make_in-clause-unmoved
+returns-in-Ok-make_in-clause-unmoved g c = c.in-Ok-make_in.ensures.unmoved
+
+pub returns-in-Err-make_in-clause-refused : goal.returns-in-Err-make_in-clause-refused
+returns-in-Err-make_in-clause-refused g c = c.in-Err-make_in.ensures.refused
+
+pub returns-in-Err-make_in-clause-stays : goal.returns-in-Err-make_in-clause-stays
+returns-in-Err-make_in-clause-stays g c = c.make_in.ensures.stays
+
+pub returns-in-Err-make_in-clause-ends : goal.returns-in-Err-make_in-clause-ends
+returns-in-Err-make_in-clause-ends g c = c.in-Err-make_in.ensures.ends
+
+pub returns-in-Err-make_in-clause-parts : goal.returns-in-Err-make_in-clause-parts
+returns-in-Err-make_in-clause-parts g c = c.make_in.ensures.parts
+
+pub returns-in-Err-make_in-clause-disks : goal.returns-in-Err-make_in-clause-disks
+returns-in-Err-make_in-clause-disks g c = c.make_in.ensures.disks
+
+pub returns-in-Err-make_in-clause-held : goal.returns-in-Err-make_in-clause-held
+returns-in-Err-make_in-clause-held g c = tt
+
+pub returns-in-Err-make_in-clause-up : goal.returns-in-Err-make_in-clause-up
+returns-in-Err-make_in-clause-up g c = tt
+
+pub returns-in-Err-make_in-clause-newest : goal.returns-in-Err-make_in-clause-newest
+returns-in-Err-make_in-clause-newest g c = tt
+
+pub returns-in-Err-make_in-clause-trust : goal.returns-in-Err-make_in-clause-trust
+returns-in-Err-make_in-clause-trust g c = tt
+
+pub returns-in-Err-make_in-clause-whole : goal.returns-in-Err-make_in-clause-whole
+returns-in-Err-make_in-clause-whole g c = tt
+
+pub returns-in-Err-make_in-clause-agreed : goal.returns-in-Err-make_in-clause-agreed
+returns-in-Err-make_in-clause-agreed g c = c.in-Err-make_in.ensures.agreed
+
+pub returns-in-Err-make_in-clause-unmoved : goal.returns-in-Err-make_in-clause-unmoved
+returns-in-Err-make_in-clause-unmoved g c = c.in-Err-make_in.ensures.unmoved
+
+pub returns-in-Err-make_in-clause-begins : goal.returns-in-Err-make_in-clause-begins
+returns-in-Err-make_in-clause-begins g c = tt
+
+pub returns-in-Err-clause-held : goal.returns-in-Err-clause-held
+returns-in-Err-clause-held g c = tt
+
+pub returns-in-Some-clause-held : goal.returns-in-Some-clause-held
+returns-in-Some-clause-held g c = tt
+
+pub returns-in-Err-clause-up : goal.returns-in-Err-clause-up
+returns-in-Err-clause-up g c = tt
+
+pub returns-in-Some-clause-up : goal.returns-in-Some-clause-up
+returns-in-Some-clause-up g c = tt
+
+pub returns-in-Err-clause-newest : goal.returns-in-Err-clause-newest
+returns-in-Err-clause-newest g c = tt
+
+pub returns-in-Some-clause-newest : goal.returns-in-Some-clause-newest
+returns-in-Some-clause-newest g c = tt
+
+pub returns-in-Err-clause-trust : goal.returns-in-Err-clause-trust
+returns-in-Err-clause-trust g c = tt
+
+pub returns-in-Some-clause-trust : goal.returns-in-Some-clause-trust
+returns-in-Some-clause-trust g c = tt
+
+pub returns-in-Err-clause-whole : goal.returns-in-Err-clause-whole
+returns-in-Err-clause-whole g c = tt
+
+pub returns-in-Some-clause-whole : goal.returns-in-Some-clause-whole
+returns-in-Some-clause-whole g c = tt
+
+pub returns-in-Err-clause-begins : goal.returns-in-Err-clause-begins
+returns-in-Err-clause-begins g c = tt
+
+pub returns-in-Some-clause-begins : goal.returns-in-Some-clause-begins
+returns-in-Some-clause-begins g c = tt
+
+pub returns-in-Err-clause-fresh : goal.returns-in-Err-clause-fresh
+returns-in-Err-clause-fresh g c = c.requires.fresh
+
+pub returns-in-Some-clause-fresh : goal.returns-in-Some-clause-fresh
+returns-in-Some-clause-fresh g c = c.requires.fresh
+
+pub returns-in-Some-clause-stands : goal.returns-in-Some-clause-stands
+returns-in-Some-clause-stands g c = c.requires.stands
+
+pub returns-in-Some-clause-ends : goal.returns-in-Some-clause-ends
+returns-in-Some-clause-ends g c = λ none. absurd (let clash : None ≡ Some c.in-Some.no = sym none ∙ sym c.refuse_volume.ensures ∙ c.in-Some.is in cc)

@@ -42,3 +42,12 @@ returns-in-Ok-clause-works g c = λ less v low. c.in-Ok.ensures.works v low
 
 pub returns-in-Err-clause-blames : goal.returns-in-Err-clause-blames
 returns-in-Err-clause-blames g c = subst (λ (why : No). BlamesVolumes (g.S.Shelf.meaning c.args.shelf.now).disks c.args.core.now.units.vols why) (sym c.refusal-no.ensures) c.in-Err.ensures.blames
+
+pub returns-in-Err-clause-stands : goal.returns-in-Err-clause-stands
+returns-in-Err-clause-stands g c = tt
+
+pub returns-in-Err-clause-works : goal.returns-in-Err-clause-works
+returns-in-Err-clause-works g c = tt
+
+pub returns-in-Ok-clause-blames : goal.returns-in-Ok-clause-blames
+returns-in-Ok-clause-blames g c = tt

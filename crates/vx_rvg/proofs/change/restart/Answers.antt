@@ -48,3 +48,12 @@ pub returns-in-Ok-clause-works : goal.returns-in-Ok-clause-works
 returns-in-Ok-clause-works g c =
     let applied = applied_by c.args.core.now.halted c.args.core.now _ (g.S.Shelf.meaning c.args.shelf.now) (g.S.Shelf.meaning c.apply_to.new.shelf) c.apply_to.new.core c.in-Ok.field-0 c.in-Ok.ensures.answers in
     works_behind c.empty.result (g.S.Shelf.meaning c.args.shelf.now) (g.S.Shelf.meaning c.apply_to.new.shelf) c.args.core.now c.apply_to.new.core c.apply_to.ensures.spends (ap (λ (k : Core). k.log) applied.1) c.empty.ensures.works
+
+pub returns-in-Err-clause-stands : goal.returns-in-Err-clause-stands
+returns-in-Err-clause-stands g c = tt
+
+pub returns-in-Err-clause-calls : goal.returns-in-Err-clause-calls
+returns-in-Err-clause-calls g c = tt
+
+pub returns-in-Err-clause-works : goal.returns-in-Err-clause-works
+returns-in-Err-clause-works g c = tt

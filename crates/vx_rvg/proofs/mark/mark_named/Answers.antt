@@ -60,3 +60,12 @@ returns-in-Err-clause-place g c = told_place (the_view c.core.inside) c.args.cor
 
 pub returns-in-Err-clause-sizes : goal.returns-in-Err-clause-sizes
 returns-in-Err-clause-sizes g c = told_sizes (the_view c.core.inside) c.args.core.now c.core.view_is c.mark_slots.new.self c.in-Err.no c.halt.new.self c.halt.ensures c.mark_slots.ensures.sizes
+
+pub returns-in-Err-clause-marked : goal.returns-in-Err-clause-marked
+returns-in-Err-clause-marked g c = tt
+
+pub returns-in-Err-clause-stands : goal.returns-in-Err-clause-stands
+returns-in-Err-clause-stands g c = tt
+
+pub returns-in-Ok-clause-blames : goal.returns-in-Ok-clause-blames
+returns-in-Ok-clause-blames g c = tt

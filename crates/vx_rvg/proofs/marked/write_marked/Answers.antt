@@ -2,6 +2,7 @@
 use Rattle.std.proofs.Common.{inl, refl, true}
 use Rattle.vx_rvg.proofs.Blaming.{blames_idle}
 use Rattle.vx_rvg.proofs.MarkedStands.{between_none, still_short}
+use Rattle.vx_disk.proofs.Spending.{spends_none}
 use Rattle.vx_rvg.proofs.marked.write_marked.Goals as goal
 
 pub returns-in-Some-clause-part : goal.returns-in-Some-clause-part
@@ -27,3 +28,39 @@ returns-in-Some-clause-blames g c = inl (blames_idle (g.S.Shelf.meaning c.args.s
 
 pub returns-then-is_down-clause-blames : goal.returns-then-is_down-clause-blames
 returns-then-is_down-clause-blames g c = inl tt
+
+pub returns-in-Some-clause-unchanged : goal.returns-in-Some-clause-unchanged
+returns-in-Some-clause-unchanged g c = λ is. refl
+
+pub returns-in-Some-clause-sound : goal.returns-in-Some-clause-sound
+returns-in-Some-clause-sound g c = c.requires.sound
+
+pub returns-in-Some-clause-marked : goal.returns-in-Some-clause-marked
+returns-in-Some-clause-marked g c = tt
+
+pub returns-in-Some-clause-least : goal.returns-in-Some-clause-least
+returns-in-Some-clause-least g c = tt
+
+pub returns-in-Some-clause-works : goal.returns-in-Some-clause-works
+returns-in-Some-clause-works g c = tt
+
+pub returns-in-Some-clause-spends : goal.returns-in-Some-clause-spends
+returns-in-Some-clause-spends g c = spends_none (g.S.Shelf.meaning c.args.shelf.now)
+
+pub returns-then-is_down-clause-unchanged : goal.returns-then-is_down-clause-unchanged
+returns-then-is_down-clause-unchanged g c = λ is. refl
+
+pub returns-then-is_down-clause-sound : goal.returns-then-is_down-clause-sound
+returns-then-is_down-clause-sound g c = c.requires.sound
+
+pub returns-then-is_down-clause-marked : goal.returns-then-is_down-clause-marked
+returns-then-is_down-clause-marked g c = tt
+
+pub returns-then-is_down-clause-least : goal.returns-then-is_down-clause-least
+returns-then-is_down-clause-least g c = tt
+
+pub returns-then-is_down-clause-works : goal.returns-then-is_down-clause-works
+returns-then-is_down-clause-works g c = tt
+
+pub returns-then-is_down-clause-spends : goal.returns-then-is_down-clause-spends
+returns-then-is_down-clause-spends g c = spends_none (g.S.Shelf.meaning c.args.shelf.now)

@@ -4,7 +4,7 @@ use Rattle.vx_model.specs.Content.{blocks_in}
 use Rattle.vx_disk.specs.Burns.{FallsShort}
 use Rattle.vx_disk.specs.Moves.{Moves, Run, Union}
 use Rattle.vx_disk.specs.Shelf.{Meaning}
-use Rattle.vx_disk.proofs.Spending.{on_always, then_spends}
+use Rattle.vx_disk.proofs.Spending.{on_always, then_spends, spends_none}
 use Rattle.vx_dcm.specs.Places.{HasRegion, IsOfSlots, IsPlaceOfSlots, Maps, MapsBetween, SlotsMarked}
 use Rattle.vx_srl.specs.Views.{Log, blocks_needed, free_of}
 use Rattle.vx_rvg.specs.Marks.{map_run}
@@ -143,3 +143,57 @@ returns-clause-spends g c = then_spends _ _ _ c.mark_named.ensures.spends c.stag
 
 pub returns-clause-works : goal.returns-clause-works
 returns-clause-works g c = works_behind c.stage_record.result (g.S.Shelf.meaning c.args.shelf.now) (g.S.Shelf.meaning c.mark_named.new.shelf) c.args.core.now c.mark_named.new.core c.mark_named.ensures.spends (log_is c.args.core.now c.mark_named.new.core c.in_default-mark_named.ensures.marks.0) c.stage_record.ensures.works
+
+pub returns-in-Some-clause-unchanged : goal.returns-in-Some-clause-unchanged
+returns-in-Some-clause-unchanged g c = λ is. refl
+
+pub returns-in-Some-clause-sound : goal.returns-in-Some-clause-sound
+returns-in-Some-clause-sound g c = c.requires.sound
+
+pub returns-in-Some-clause-marked : goal.returns-in-Some-clause-marked
+returns-in-Some-clause-marked g c = tt
+
+pub returns-in-Some-clause-least : goal.returns-in-Some-clause-least
+returns-in-Some-clause-least g c = tt
+
+pub returns-in-Some-clause-works : goal.returns-in-Some-clause-works
+returns-in-Some-clause-works g c = tt
+
+pub returns-in-Some-clause-spends : goal.returns-in-Some-clause-spends
+returns-in-Some-clause-spends g c = spends_none (g.S.Shelf.meaning c.args.shelf.now)
+
+pub returns-then-is_down-clause-unchanged : goal.returns-then-is_down-clause-unchanged
+returns-then-is_down-clause-unchanged g c = λ is. refl
+
+pub returns-then-is_down-clause-sound : goal.returns-then-is_down-clause-sound
+returns-then-is_down-clause-sound g c = c.requires.sound
+
+pub returns-then-is_down-clause-marked : goal.returns-then-is_down-clause-marked
+returns-then-is_down-clause-marked g c = tt
+
+pub returns-then-is_down-clause-least : goal.returns-then-is_down-clause-least
+returns-then-is_down-clause-least g c = tt
+
+pub returns-then-is_down-clause-works : goal.returns-then-is_down-clause-works
+returns-then-is_down-clause-works g c = tt
+
+pub returns-then-is_down-clause-spends : goal.returns-then-is_down-clause-spends
+returns-then-is_down-clause-spends g c = spends_none (g.S.Shelf.meaning c.args.shelf.now)
+
+pub returns-in-Err-clause-sound : goal.returns-in-Err-clause-sound
+returns-in-Err-clause-sound g c = c.mark_named.ensures.sound
+
+pub returns-in-Err-clause-spends : goal.returns-in-Err-clause-spends
+returns-in-Err-clause-spends g c = c.mark_named.ensures.spends
+
+pub returns-in-Err-clause-marked : goal.returns-in-Err-clause-marked
+returns-in-Err-clause-marked g c = tt
+
+pub returns-in-Err-clause-least : goal.returns-in-Err-clause-least
+returns-in-Err-clause-least g c = tt
+
+pub returns-in-Err-clause-works : goal.returns-in-Err-clause-works
+returns-in-Err-clause-works g c = tt
+
+pub returns-clause-sound : goal.returns-clause-sound
+returns-clause-sound g c = c.stage_record.ensures.sound

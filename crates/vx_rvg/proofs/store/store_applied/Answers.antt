@@ -55,3 +55,6 @@ returns-in-Err-clause-moves g c =
 
 pub returns-in-Ok-clause-spends : goal.returns-in-Ok-clause-spends
 returns-in-Ok-clause-spends g c = then_spends _ _ _ c.give_up.ensures.spends c.put_blocks-in-Ok.ensures.spends
+
+pub returns-in-Err-clause-stands : goal.returns-in-Err-clause-stands
+returns-in-Err-clause-stands g c = tt

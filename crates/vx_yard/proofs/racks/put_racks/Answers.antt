@@ -1,28 +1,9 @@
 -- `put_racks`: one rack more has its disk set.
-use Rattle.std.proofs.Common.{◌≡◌, ◌∙◌, ◌++◌, ◌∷◌, ◌<◌, [], length, length-append, ap, arith, rules, vec_len, Bool}
-use Rattle.std.specs.Prelude.{if◌then◌else◌}
+use Rattle.std.proofs.Common.{◌≡◌, ◌∙◌, ◌++◌, ◌∷◌, ◌<◌, [], length, length-append, ap, arith, rules, vec_len}
 use Rattle.std.specs.Vec.{vec_capacity}
 use Rattle.vx_diskset.specs.declared.disk_set.DiskSet.TheVariants.{Bare}
 use Rattle.vx_yard.proofs.IntoRacks.{put_all, put_more}
 use Rattle.vx_yard.proofs.racks.put_racks.Goals as goal
-
-pub loop-rack-preserved-in-Some : goal.loop-rack-preserved-in-Some
-loop-rack-preserved-in-Some g c =
-    record {
-      racks = omega (arith, c.loop-rack.invariant.racks, c.pop.ensures.capacity);
-      filled = λ none room.
-          let was = c.loop-rack.invariant.filled none room in
-          let front : c.loop-rack.racks.items ≡ c.pop.new.self.items ++ c.in-Some.rack ∷ [] = search rules in
-          let long = ap (λ rs. length rs) front in
-          let many = length-append c.pop.new.self.items (c.in-Some.rack ∷ []) in
-          let low : vec_len c.loop-rack.disk_sets < vec_capacity c.loop-rack.disk_sets = omega (arith, was.room, long, many, c.loop-rack.racks.ok) in
-          let is : c.push.new.self.items ≡ c.loop-rack.disk_sets.items ++ Bare c.in-Some.rack ∷ []
-          = c.push.ensures.items ∙ ap (λ (b : Bool). if b then c.loop-rack.disk_sets.items ++ Bare c.in-Some.rack ∷ [] else c.loop-rack.disk_sets.items) (c.push.ensures.succeeds low) in
-          record {
-            room = omega (arith, was.room, long, many, c.loop-rack.racks.ok, c.pop.new.self.ok, c.push.ensures.upper_bound, c.push.ensures.capacity);
-            whole = put_more (λ r. Bare r) c.loop-rack.disk_sets.items c.push.new.self.items c.loop-rack.racks.items c.pop.new.self.items c.in-Some.rack front is ∙ was.whole;
-          };
-    }
 
 pub loop-rack-preserved : goal.loop-rack-preserved
 loop-rack-preserved g c =
@@ -34,11 +15,22 @@ loop-rack-preserved g c =
           let long = ap (λ rs. length rs) front in
           let many = length-append c.pop.new.self.items (c.in-Some.rack ∷ []) in
           let low : vec_len c.loop-rack.disk_sets < vec_capacity c.loop-rack.disk_sets = omega (arith, was.room, long, many, c.loop-rack.racks.ok) in
-          let is : c.push.new.self.items ≡ c.loop-rack.disk_sets.items ++ Bare c.in-Some.rack ∷ []
-          = c.push.ensures.items ∙ ap (λ (b : Bool). if b then c.loop-rack.disk_sets.items ++ Bare c.in-Some.rack ∷ [] else c.loop-rack.disk_sets.items) (c.push.ensures.succeeds low) in
+          let is = c.put_rack.ensures.items low in
           record {
-            room = omega (arith, was.room, long, many, c.loop-rack.racks.ok, c.pop.new.self.ok, c.push.ensures.upper_bound, c.push.ensures.capacity);
-            whole = put_more (λ r. Bare r) c.loop-rack.disk_sets.items c.push.new.self.items c.loop-rack.racks.items c.pop.new.self.items c.in-Some.rack front is ∙ was.whole;
+            room = omega (
+              arith,
+              was.room,
+              long,
+              many,
+              c.loop-rack.racks.ok,
+              c.pop.new.self.ok,
+              c.loop-rack.disk_sets.ok,
+              c.put_rack.new.disk_sets.ok,
+              ap (λ es. length es) is,
+              length-append c.loop-rack.disk_sets.items (Bare c.in-Some.rack ∷ []),
+              c.put_rack.ensures.room,
+            );
+            whole = put_more (λ r. Bare r) c.loop-rack.disk_sets.items c.put_rack.new.disk_sets.items c.loop-rack.racks.items c.pop.new.self.items c.in-Some.rack front is ∙ was.whole;
           };
     }
 

@@ -1,12 +1,15 @@
 -- `att`: its refusals, and that the other plexes stay as they were.
 use Rattle.std.proofs.Common.{◌∙◌, sym, ◌≡◌, subst}
-use Rattle.std.specs.Prelude.{Some}
-use Rattle.vx_grouped.specs.GroupSites.{UpNoted}
-use Rattle.vx_grouped.specs.SiteEnds.{AttCalled, refuses_att}
+use Rattle.std.specs.Prelude.{Some, IfOk, IsTrue, None, false}
+use Rattle.vx_grouped.specs.GroupSites.{UpNoted, site_below, site_disks}
+use Rattle.vx_grouped.specs.SiteEnds.{AttCalled, refuses_att, RegionsOf, is_plex_on}
 use Rattle.vx_grouped.proofs.SiteCarry.{others_as}
 use Rattle.vx_grouped.proofs.VolumeLemmas.{rest_goes, site_goes}
 use Rattle.vx_disk.specs.Moves.{Nowhere}
 use Rattle.vx_grouped.specs.SiteMaps.{AttMapped}
+use Rattle.vx_watched.proofs.SinceLemmas.{since_none}
+use Rattle.vx_watched.specs.Traces.{TellsLess}
+use Rattle.vx_watched.specs.Since.{CalledSince}
 use Rattle.vx_grouped.proofs.group_site.GroupSite.att.Goals as goal
 
 pub returns-in-Up-clause-refused : goal.returns-in-Up-clause-refused
@@ -30,3 +33,33 @@ returns-in-Up-clause-volumes g c = site_goes Nowhere c.args.self.now c.in-Up.gro
 
 pub returns-in_default-clause-volumes : goal.returns-in_default-clause-volumes
 returns-in_default-clause-volumes g c = rest_goes Nowhere c.args.self.now c.replace.result c.replace.ensures.value (λ l is. c.in_default.not-Up l is)
+
+pub returns-in-Up-clause-already : goal.returns-in-Up-clause-already
+returns-in-Up-clause-already g c = λ n note it none on. c.att_site-site.ensures.already n note (subst (λ e. UpNoted n note e) (sym c.replace.ensures.value ∙ c.in-Up.is) it) (subst (λ e. refuses_att e c.args.vol c.args.plex ≡ None) (sym c.replace.ensures.value ∙ c.in-Up.is) none) (subst (λ e. IsTrue (is_plex_on e c.args.vol c.args.plex)) (sym c.replace.ensures.value ∙ c.in-Up.is) on)
+
+pub returns-in-Up-clause-count : goal.returns-in-Up-clause-count
+returns-in-Up-clause-count g c = λ off. subst (λ e. IfOk c.att_site-site.result.1 (λ k. RegionsOf e c.args.vol k)) (sym (sym c.replace.ensures.value ∙ c.in-Up.is)) (c.att_site-site.ensures.count (subst (λ e. is_plex_on e c.args.vol c.args.plex ≡ false) (sym c.replace.ensures.value ∙ c.in-Up.is) off))
+
+pub returns-in-Up-clause-on : goal.returns-in-Up-clause-on
+returns-in-Up-clause-on g c = λ off. c.att_site-site.ensures.on (subst (λ e. is_plex_on e c.args.vol c.args.plex ≡ false) (sym c.replace.ensures.value ∙ c.in-Up.is) off)
+
+pub returns-in_default-clause-count : goal.returns-in_default-clause-count
+returns-in_default-clause-count g c = λ off. tt
+
+pub returns-in_default-clause-on : goal.returns-in_default-clause-on
+returns-in_default-clause-on g c = λ off. tt
+
+pub returns-in-Up-clause-since : goal.returns-in-Up-clause-since
+returns-in-Up-clause-since g c = subst (λ e. CalledSince (site_disks e) (site_disks c.att_site-site.result.0)) (sym (sym c.replace.ensures.value ∙ c.in-Up.is)) c.att_site-site.ensures.since
+
+pub returns-in-Up-clause-told : goal.returns-in-Up-clause-told
+returns-in-Up-clause-told g c = subst (λ e. TellsLess (site_below e) (site_below c.att_site-site.result.0)) (sym (sym c.replace.ensures.value ∙ c.in-Up.is)) c.att_site-site.ensures.told
+
+pub returns-in_default-clause-others : goal.returns-in_default-clause-others
+returns-in_default-clause-others g c = tt
+
+pub returns-in_default-clause-since : goal.returns-in_default-clause-since
+returns-in_default-clause-since g c = subst (λ e. CalledSince (site_disks c.args.self.now) (site_disks e)) (sym c.replace.ensures.value) (since_none (site_disks c.args.self.now))
+
+pub returns-in_default-clause-told : goal.returns-in_default-clause-told
+returns-in_default-clause-told g c = subst (λ e. TellsLess (site_below c.args.self.now) (site_below e)) (sym c.replace.ensures.value) (λ told. told)

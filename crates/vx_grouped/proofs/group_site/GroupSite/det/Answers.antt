@@ -1,12 +1,15 @@
 -- `det`: its refusals, and that the other plexes stay as they were.
 use Rattle.std.proofs.Common.{◌∙◌, sym, ◌≡◌, subst}
 use Rattle.std.specs.Prelude.{Some}
-use Rattle.vx_grouped.specs.GroupSites.{UpNoted}
+use Rattle.vx_grouped.specs.GroupSites.{UpNoted, site_below, site_disks}
 use Rattle.vx_grouped.specs.SiteEnds.{DetCalled, refuses_det}
 use Rattle.vx_grouped.proofs.SiteCarry.{others_as}
 use Rattle.vx_grouped.proofs.VolumeLemmas.{rest_goes, site_goes}
 use Rattle.vx_disk.specs.Moves.{Nowhere}
 use Rattle.vx_grouped.specs.SiteMaps.{DetMapped}
+use Rattle.vx_watched.proofs.SinceLemmas.{since_none}
+use Rattle.vx_watched.specs.Traces.{TellsLess}
+use Rattle.vx_watched.specs.Since.{CalledSince}
 use Rattle.vx_grouped.proofs.group_site.GroupSite.det.Goals as goal
 
 pub returns-in-Up-clause-refused : goal.returns-in-Up-clause-refused
@@ -30,3 +33,24 @@ returns-in-Up-clause-volumes g c = site_goes Nowhere c.args.self.now c.in-Up.gro
 
 pub returns-in_default-clause-volumes : goal.returns-in_default-clause-volumes
 returns-in_default-clause-volumes g c = rest_goes Nowhere c.args.self.now c.replace.result c.replace.ensures.value (λ l is. c.in_default.not-Up l is)
+
+pub returns-in-Up-clause-off : goal.returns-in-Up-clause-off
+returns-in-Up-clause-off g c = c.det_site-site.ensures.off
+
+pub returns-in_default-clause-off : goal.returns-in_default-clause-off
+returns-in_default-clause-off g c = tt
+
+pub returns-in-Up-clause-since : goal.returns-in-Up-clause-since
+returns-in-Up-clause-since g c = subst (λ e. CalledSince (site_disks e) (site_disks c.det_site-site.result.0)) (sym (sym c.replace.ensures.value ∙ c.in-Up.is)) c.det_site-site.ensures.since
+
+pub returns-in-Up-clause-told : goal.returns-in-Up-clause-told
+returns-in-Up-clause-told g c = subst (λ e. TellsLess (site_below e) (site_below c.det_site-site.result.0)) (sym (sym c.replace.ensures.value ∙ c.in-Up.is)) c.det_site-site.ensures.told
+
+pub returns-in_default-clause-others : goal.returns-in_default-clause-others
+returns-in_default-clause-others g c = tt
+
+pub returns-in_default-clause-since : goal.returns-in_default-clause-since
+returns-in_default-clause-since g c = subst (λ e. CalledSince (site_disks c.args.self.now) (site_disks e)) (sym c.replace.ensures.value) (since_none (site_disks c.args.self.now))
+
+pub returns-in_default-clause-told : goal.returns-in_default-clause-told
+returns-in_default-clause-told g c = subst (λ e. TellsLess (site_below c.args.self.now) (site_below e)) (sym c.replace.ensures.value) (λ told. told)

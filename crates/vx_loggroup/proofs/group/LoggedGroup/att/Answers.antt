@@ -47,3 +47,39 @@ returns-clause-kept g c = c.att_held.ensures.kept
 
 pub returns-clause-tests : goal.returns-clause-tests
 returns-clause-tests g c = c.att_held.ensures.tests
+
+pub returns-clause-refused : goal.returns-clause-refused
+returns-clause-refused g c = c.att_held.ensures.refused
+
+pub returns-clause-already : goal.returns-clause-already
+returns-clause-already g c = c.att_held.ensures.already
+
+pub returns-clause-count : goal.returns-clause-count
+returns-clause-count g c = c.att_held.ensures.count
+
+pub returns-clause-attaches : goal.returns-clause-attaches
+returns-clause-attaches g c = c.att_held.ensures.attaches
+
+pub returns-clause-ends : goal.returns-clause-ends
+returns-clause-ends g c = c.att_held.ensures.ends
+
+pub returns-clause-regains : goal.returns-clause-regains
+returns-clause-regains g c = c.att_held.ensures.regains
+
+pub returns-clause-held : goal.returns-clause-held
+returns-clause-held g c = c.att_held.ensures.held
+
+pub returns-clause-follows : goal.returns-clause-follows
+returns-clause-follows g c = c.att_held.ensures.follows
+
+pub returns-clause-trust : goal.returns-clause-trust
+returns-clause-trust g c = c.att_held.ensures.trust
+
+pub returns-clause-finds : goal.returns-clause-finds
+returns-clause-finds g c = c.att_held.ensures.finds
+
+pub returns-clause-free : goal.returns-clause-free
+returns-clause-free g c = c.att_held.ensures.free
+
+pub returns-clause-cause : goal.returns-clause-cause
+returns-clause-cause g c = c.att_held.ensures.cause

@@ -50,3 +50,48 @@ returns-clause-kept g c = ok_from c.det_fresh.result (says_losses c.args.self.no
 
 pub returns-clause-said : goal.returns-clause-said
 returns-clause-said g c = c.det_fresh.ensures.said
+
+pub returns-clause-refused : goal.returns-clause-refused
+returns-clause-refused g c = c.det_fresh.ensures.refused
+
+pub returns-clause-goes : goal.returns-clause-goes
+returns-clause-goes g c = c.det_fresh.ensures.goes
+
+pub returns-clause-parts : goal.returns-clause-parts
+returns-clause-parts g c = c.det_fresh.ensures.parts
+
+pub returns-clause-disks : goal.returns-clause-disks
+returns-clause-disks g c = c.det_fresh.ensures.disks
+
+pub returns-clause-frames : goal.returns-clause-frames
+returns-clause-frames g c = c.det_fresh.ensures.frames
+
+pub returns-clause-below : goal.returns-clause-below
+returns-clause-below g c = c.det_fresh.ensures.below
+
+pub returns-clause-on : goal.returns-clause-on
+returns-clause-on g c = c.det_fresh.ensures.on
+
+pub returns-clause-begins : goal.returns-clause-begins
+returns-clause-begins g c = c.det_fresh.ensures.begins
+
+pub returns-clause-off : goal.returns-clause-off
+returns-clause-off g c = c.det_fresh.ensures.off
+
+pub returns-clause-others : goal.returns-clause-others
+returns-clause-others g c = c.det_fresh.ensures.others
+
+pub returns-clause-maps : goal.returns-clause-maps
+returns-clause-maps g c = c.det_fresh.ensures.maps
+
+pub returns-clause-trust : goal.returns-clause-trust
+returns-clause-trust g c = c.det_fresh.ensures.trust
+
+pub returns-clause-agreed : goal.returns-clause-agreed
+returns-clause-agreed g c = c.det_fresh.ensures.agreed
+
+pub returns-clause-finds : goal.returns-clause-finds
+returns-clause-finds g c = c.det_fresh.ensures.finds
+
+pub returns-clause-cause : goal.returns-clause-cause
+returns-clause-cause g c = c.det_fresh.ensures.cause

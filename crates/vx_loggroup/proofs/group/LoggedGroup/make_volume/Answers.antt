@@ -49,3 +49,48 @@ returns-clause-flags g c = c.make_fresh.ensures.flags
 
 pub returns-clause-kept : goal.returns-clause-kept
 returns-clause-kept g c = says_losses c.args.self.now.core c.make_fresh.new.core c.args.self.now.logs.items c.make_fresh.new.logs.items c.make_fresh.ensures.kept
+
+pub returns-clause-refused : goal.returns-clause-refused
+returns-clause-refused g c = c.make_fresh.ensures.refused
+
+pub returns-clause-stays : goal.returns-clause-stays
+returns-clause-stays g c = c.make_fresh.ensures.stays
+
+pub returns-clause-below : goal.returns-clause-below
+returns-clause-below g c = c.make_fresh.ensures.below
+
+pub returns-clause-ends : goal.returns-clause-ends
+returns-clause-ends g c = c.make_fresh.ensures.ends
+
+pub returns-clause-parts : goal.returns-clause-parts
+returns-clause-parts g c = c.make_fresh.ensures.parts
+
+pub returns-clause-disks : goal.returns-clause-disks
+returns-clause-disks g c = c.make_fresh.ensures.disks
+
+pub returns-clause-held : goal.returns-clause-held
+returns-clause-held g c = c.make_fresh.ensures.held
+
+pub returns-clause-up : goal.returns-clause-up
+returns-clause-up g c = c.make_fresh.ensures.up
+
+pub returns-clause-newest : goal.returns-clause-newest
+returns-clause-newest g c = c.make_fresh.ensures.newest
+
+pub returns-clause-trust : goal.returns-clause-trust
+returns-clause-trust g c = c.make_fresh.ensures.trust
+
+pub returns-clause-whole : goal.returns-clause-whole
+returns-clause-whole g c = c.make_fresh.ensures.whole
+
+pub returns-clause-agreed : goal.returns-clause-agreed
+returns-clause-agreed g c = c.make_fresh.ensures.agreed
+
+pub returns-clause-finds : goal.returns-clause-finds
+returns-clause-finds g c = c.make_fresh.ensures.finds
+
+pub returns-clause-unmoved : goal.returns-clause-unmoved
+returns-clause-unmoved g c = c.make_fresh.ensures.unmoved
+
+pub returns-clause-begins : goal.returns-clause-begins
+returns-clause-begins g c = c.make_fresh.ensures.begins
