@@ -33,7 +33,7 @@ module _ {R : Type 0} {g : Ghosts R} where
   small_site Gone c is = absurd (cc)
 
   -- the configuration that disks have in memory
-  pub small_set : (e : DiskSet R g) (c : Config) → config_in e ≡ Some c → FitsViews c
+  small_set : (e : DiskSet R g) (c : Config) → config_in e ≡ Some c → FitsViews c
   small_set (Bare rack) c is = absurd (cc)
   small_set (Spoiled rack) c is = absurd (cc)
   small_set (RaisedSet rvg) c is = absurd (cc)

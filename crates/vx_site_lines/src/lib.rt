@@ -24,5 +24,5 @@ pub use make::{make_raw, make_site};
 pub use read::{read_line, show_line};
 pub use recover::recover_line;
 pub use status::{full_at, status_line};
-pub use views::{ViewRoom, views_of};
+pub use views::ViewRoom;
 pub use write::{put_line, write_line};

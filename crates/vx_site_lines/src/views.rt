@@ -29,7 +29,7 @@ impl ViewRoom {
 }
 
 /// The disks and volumes of a configuration; none where there is no configuration.
-pub fn views_of(config: Option<&Config>, room: ViewRoom) -> (DiskViews, VolumeViews)
+pub(crate) fn views_of(config: Option<&Config>, room: ViewRoom) -> (DiskViews, VolumeViews)
     requires disks { room.disks ≡ [] }
     requires volumes { room.volumes ≡ [] }
     requires few { IsSmall (option_copied config) }
