@@ -75,14 +75,14 @@ other_strays d line fails said last (SettlesOther p s middle line_is moves ends)
     between_strays (site_number d.world p) (site_number d.world s) d middle fails said last ends ∙ moves.strayed
 
 pub link_strays : (told : Type 0) (d : Doubted) (line : ScriptLine) (fails : Fails) (said : Said) (new : Doubted) → LinkEnds told d line fails said new → StraysAs d new
-link_strays told d line fails said new (LinksDone last runs none no says left) = left.strayed ∙ runs_strays (link_events d.world line) d last runs
+link_strays told d line fails said new (LinksDone last runs none failed says left) = left.strayed ∙ runs_strays (link_events d.world line) d last runs
 link_strays told d line fails said new (LinksHalt e site disk middle comes names one says left) = left.strayed ∙ runs_strays comes.before d middle comes.runs
 link_strays told d line fails said new (AppliesPart before rest site count reached disk last split runs none names one says left) =
     left.strayed ∙ runs_strays (before ++ Fault site disk ∷ []) d last runs
-link_strays told d line fails said new (AppliesCut before rest site count reached kept taken middle split runs none most opens fused no says left) = left.strayed ∙ runs_strays before d middle runs
+link_strays told d line fails said new (AppliesCut before rest site count reached kept taken middle split runs none most opens fused failed says left) = left.strayed ∙ runs_strays before d middle runs
 link_strays told d line fails said new (LinksCut e site kept taken middle comes fused none says left) = left.strayed ∙ runs_strays comes.before d middle comes.runs
 link_strays told d line fails said new (LogUnread before rest e site disk middle split reads runs none names one says left) = left.strayed ∙ runs_strays before d middle runs
-link_strays told d line fails said new (NoHeader before rest e site middle split takes runs none most no says left) = left.strayed ∙ runs_strays before d middle runs
+link_strays told d line fails said new (NoHeader before rest e site middle split takes runs none most failed says left) = left.strayed ∙ runs_strays before d middle runs
 link_strays told d line fails said new (LinksFind untold last finds left) = left.strayed ∙ other_strays d line fails said last finds
 
 kind_strays : (links : Bool) (told : Type 0) (d : Doubted) (line : ScriptLine) (fails : Fails) (said : Said) (new : Doubted) → EndsBy links told d line fails said new → StraysAs d new
