@@ -212,7 +212,7 @@ module _ {R : Type 0} {g : Ghosts R} (d : Doubted) (s kept : ℕ) (taken : Bool)
         (λ as_noted. ⊎_elim
         (λ found. held_unfound_for import_units NoConfig found (held_same h.loosens h.dims note as_noted))
         (λ nothing. held_unknown import_units NoConfig tt nothing)
-        (none_found (IsTold new) (IsTrue (site_disks (site_in p)).tells) false s note (fails import_units) (λ no. let e : false ≡ true = no in absurd (cc)) (tells_lit as_noted) never))
+        (none_found (IsTold new) (IsTrue (site_disks (site_in p)).tells) false s note (fails import_units) (λ off. let e : false ≡ true = off in absurd (cc)) (tells_lit as_noted) never))
         (λ nothing. held_unknown import_units NoConfig tt nothing)
         (noted_or (ap (λ (x : Stop). stops_early x) is))
       where
@@ -222,7 +222,7 @@ module _ {R : Type 0} {g : Ghosts R} (d : Doubted) (s kept : ℕ) (taken : Bool)
     -- what no disk that tells its contents has
     pub held_strange : (why : No) → stop ≡ StopsBy why → stops_early (StopsBy why) ≡ true → FailsOrNone (fails 0) s why → (IsTrue (site_disks (site_in p)).tells → ⊥) → RaisesFor d (Recover name) s kept taken (Refused why) old new
     held_strange why is early because never = ⊎_elim
-        (λ as_noted. held_unknown 0 why because (knows_none (IsTold new) false note (λ no. let e : false ≡ true = no in absurd (cc)) (λ told bright. never (tells_lit as_noted told bright))))
+        (λ as_noted. held_unknown 0 why because (knows_none (IsTold new) false note (λ off. let e : false ≡ true = off in absurd (cc)) (λ told bright. never (tells_lit as_noted told bright))))
         (λ nothing. held_unknown 0 why because nothing)
         (noted_or (ap (λ (x : Stop). stops_early x) is ∙ early))
 
