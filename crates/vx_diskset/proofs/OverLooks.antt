@@ -94,7 +94,7 @@ module _ {R : Type 0} {g : Ghosts R} where
         ap (λ (k : Option CutWrite). cut_value k) same ∙ noted.1,
         noted.2,
         noted.3,
-        up_named (below_rvg (worked n)) note (units_of n) (site_in s) up_new,
+        up_named (below_rvg (worked n)) note (units_of n) (length (entries_noted note)) (site_in s) up_new,
       )
 
       -- the crash behind a disk that failed, where the write is cut still

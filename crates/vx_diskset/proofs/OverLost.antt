@@ -118,7 +118,7 @@ module _ {R : Type 0} {g : Ghosts R} (racks : (s : Shade R) → IsRack (shade_me
     some : (x : Config) × (finds (laid_disks mid) j ≡ Found x)
     some = found_some (finds (laid_disks mid) j) (kept.finds j j_each)
 
-    pub above : Image
+    abbrev pub above : Image
     above = shown c some.0 j
 
     above_now : (laid_volumes mid).now above

@@ -1,12 +1,12 @@
 -- How the note of a site moves in a call on the replicated volume group over its group, up to the crash behind it.
-use Rattle.std.proofs.Common.{◌≡◌, ◌∙◌, ◌⊎◌, inl, inr, ℕ, Bool, true, false, List, [], ap, refl, subst, sym}
+use Rattle.std.proofs.Common.{◌≡◌, ◌∙◌, ◌⊎◌, inl, inr, ℕ, Bool, true, false, List, [], ap, length, refl, subst, sym}
 use Rattle.std.specs.Prelude.{Err, IsFalse, IsTrue, Ok, Option, Result, Some}
 use Rattle.vx_config.specs.Forms.{Reading}
 use Rattle.vx_config.specs.Table.{config}
 use Rattle.vx_config.specs.declared.config.Config.{Config}
 use Rattle.vx_disk.specs.declared.shelf.Shelf.{Ghosts}
 use Rattle.vx_events.specs.GroupViews.{config_of, read_front}
-use Rattle.vx_events.specs.RvgFits.{config_rvg, rvg_noted}
+use Rattle.vx_events.specs.RvgFits.{config_rvg, entries_noted, rvg_noted}
 use Rattle.vx_history.specs.Groups.{GroupNode}
 use Rattle.vx_history.specs.Steps.{crashed}
 use Rattle.vx_history.specs.Stops.{IsFused}
@@ -84,12 +84,12 @@ module _ {R : Type 0} {g : Ghosts R} where
   up_noted k note Gone it = absurd it
 
   -- of one that is up nothing is said of imports
-  pub up_named : (k : Node) (note : GroupNode) (units : Units) {count : ℕ} (e : GroupSite R g) → UpNoted k note e → RestsNamed units count e
-  up_named k note units {count} (Up laid) it = tt
-  up_named k note units {count} (Deported idle) it = absurd it
-  up_named k note units {count} (Down idle) it = absurd it
-  up_named k note units {count} (Marked rack) it = absurd it
-  up_named k note units {count} Gone it = absurd it
+  pub up_named : (k : Node) (note : GroupNode) (units : Units) (count : ℕ) (e : GroupSite R g) → UpNoted k note e → RestsNamed units count e
+  up_named k note units count (Up laid) it = tt
+  up_named k note units count (Deported idle) it = absurd it
+  up_named k note units count (Down idle) it = absurd it
+  up_named k note units count (Marked rack) it = absurd it
+  up_named k note units count Gone it = absurd it
 
   up_running : (k : Node) (note : GroupNode) (e : GroupSite R g) → UpNoted k note e → IsTrue (site_disks e).down → ⊥
   up_running k note (Up laid) it down = it.at.up down
@@ -177,7 +177,7 @@ module _ {R : Type 0} {g : Ghosts R} (beside : KeptBeside) (n : Node) (note : Gr
     where
       by : (UpNoted (below_rvg after) next (site_in new) × AgreesStill note next (site_disks (site_in old)) (site_disks (site_in new))) ⊎ (CutNoted (below_rvg after) next (site_in new) × IsFused n.fuse)
           → (SiteNoted after next (Over new) × AgreesStill note next (site_disks (site_in old)) (site_disks (site_in new))) ⊎ (SiteNoted (crashed after 0) next (Over new) × IsFused n.fuse)
-      by (inl it) = inl ((up_noted (below_rvg after) next (site_in new) it.0, cut_so new refl, inside_so, tidy_so, up_named (below_rvg after) next (units_of after) (site_in new) it.0), it.1)
+      by (inl it) = inl ((up_noted (below_rvg after) next (site_in new) it.0, cut_so new refl, inside_so, tidy_so, up_named (below_rvg after) next (units_of after) (length (entries_noted next)) (site_in new) it.0), it.1)
       by (inr it) = absurd (let clash : true ≡ false = sym (cut_down (below_rvg after) next (site_in new) it.0) ∙ running in cc)
 
   notes_fallen : (s : OverSet R g) → IsTrue (site_disks (site_in new)).down → OverFalls new s → NotesMoved n note (site_in old) (Over old) (site_in s) (Over s)

@@ -142,18 +142,53 @@ stands_alone : (n : Node) (links : List KeptLink) → is_origin n.role ≡ true 
 stands_alone n links origin none quiet =
     alone_by (is_origin n.role) (has_no_links links) (is_idle_phase n.phase) origin (ap (λ (ls : List KeptLink). has_no_links ls) none) (ap (λ (p : SPhase). is_idle_phase p) quiet)
 
+-- ---- disks by themselves
+
+agreed_told : {R : Type 0} (meaning : R → Meaning) (agreed : Bool) (s : Shade R) → IsTrue (shade_meaning meaning (ready_of agreed s)).tells → agreed ≡ true
+agreed_told meaning true s is = refl
+agreed_told meaning false (Bright rack) is = absurd (let clash : false ≡ true = is in cc)
+agreed_told meaning false (Dark rack) is = absurd (let clash : false ≡ true = is in cc)
+
+bright_told : {R : Type 0} (meaning : R → Meaning) (s : Shade R) → IsTrue (shade_meaning meaning s).tells → is_dark s ≡ false
+bright_told meaning (Bright rack) is = refl
+bright_told meaning (Dark rack) is = absurd (let clash : false ≡ true = is in cc)
+
+-- disks that tell nothing, by a note of before
+held_down : (n : Node) (note : GroupNode) (was below : Bool) (old : Meaning) → GroupDown n note was below old → (loosens dims told agreed : Bool) (m : Meaning) → (loosens ≡ false → agreed ≡ true) → TellsNone m → AreStopped m → m.units ≡ old.units → ((u : ℕ) → m.size u ≡ old.size u)
+    → IsLit (note_held loosens dims note) told m → GroupDown (record n { group = Some (note_held loosens dims note) }) (note_held loosens dims note) agreed told m
+held_down n note was below old it loosens dims told agreed m agrees none stopped units size lit =
+    let lies = dark_away n note it.last old m units size none it.away.lies in
+    record {
+      noted = record { is = refl; none = record { role = it.noted.none.role; volumes = it.noted.none.volumes; log = it.noted.none.log; safe = it.noted.none.safe; running = it.noted.none.running } };
+      lit = lit;
+      agrees = λ tight. agrees (or_first loosens note.loose tight);
+      unfused = it.unfused;
+      stopped = stopped;
+      last = it.last;
+      spells = it.spells;
+      away = record {
+        state = it.away.state;
+        config = it.away.config;
+        found = none_noted (note_held loosens dims note) it.last m none.leaves;
+        runs = λ bright. it.away.runs (or_second dims note.dark bright);
+        some = some_as n (record n { group = Some (note_held loosens dims note) }) it.last refl refl it.away.some;
+        lies = record {
+          units = lies.units;
+          size = lies.size;
+          can = λ tight. none_can m none;
+          sizes = lies.sizes;
+          finds = λ i each. absurd (none.leaves 0 0 (i 0 0) (each 0 0));
+          volumes = λ i x each is. absurd (none.leaves 0 0 (i 0 0) (each 0 0));
+          has = λ i x each is. absurd (none.leaves 0 0 (i 0 0) (each 0 0));
+        };
+      };
+    }
+
+agrees_down : (note next : GroupNode) (old mid new : Meaning) → ((d : ℕ) → new.disk_faults d ≡ mid.disk_faults d) → AgreesStill note next old mid → AgreesStill note next old new
+agrees_down note next old mid new counts (inl keeps) = inl keeps
+agrees_down note next old mid new counts (inr some) = inr (record { disk = some.disk; rose = subst (λ (x : ℕ). Rose (old.disk_faults some.disk) x) (sym (counts some.disk)) some.rose })
+
 module _ {R : Type 0} {g : Ghosts R} where
-  -- ---- disks by themselves
-
-  agreed_told : (agreed : Bool) (s : Shade R) → IsTrue (shade_meaning g.meaning (ready_of agreed s)).tells → agreed ≡ true
-  agreed_told true s is = refl
-  agreed_told false (Bright rack) is = absurd (let clash : false ≡ true = is in cc)
-  agreed_told false (Dark rack) is = absurd (let clash : false ≡ true = is in cc)
-
-  bright_told : (s : Shade R) → IsTrue (shade_meaning g.meaning s).tells → is_dark s ≡ false
-  bright_told (Bright rack) is = refl
-  bright_told (Dark rack) is = absurd (let clash : false ≡ true = is in cc)
-
   -- by another node, with a write that is cut
   down_for : (a k : Node) (note : GroupNode) (c : Option Write) (idle : Idle R g) → NotesGroup k (record note { cut = c }) → k.state ≡ IsDown → k.fuse ≡ NoFuse → a.disks ≡ k.disks → a.blocks ≡ k.blocks → DownNoted a note (Down idle) → DownNoted k (record note { cut = c }) (Down idle)
   down_for a k note c idle noted state unfused disks blocks it =
@@ -175,41 +210,6 @@ module _ {R : Type 0} {g : Ghosts R} where
           lies = record { units = lies.units; size = lies.size; can = lies.can; sizes = lies.sizes; finds = lies.finds; volumes = lies.volumes; has = lies.has };
         };
       }
-
-  -- disks that tell nothing, by a note of before
-  held_down : (n : Node) (note : GroupNode) (was below : Bool) (old : Meaning) → GroupDown n note was below old → (loosens dims told agreed : Bool) (m : Meaning) → (loosens ≡ false → agreed ≡ true) → TellsNone m → AreStopped m → m.units ≡ old.units → ((u : ℕ) → m.size u ≡ old.size u)
-      → IsLit (note_held loosens dims note) told m → GroupDown (record n { group = Some (note_held loosens dims note) }) (note_held loosens dims note) agreed told m
-  held_down n note was below old it loosens dims told agreed m agrees none stopped units size lit =
-      let lies = dark_away n note it.last old m units size none it.away.lies in
-      record {
-        noted = record { is = refl; none = record { role = it.noted.none.role; volumes = it.noted.none.volumes; log = it.noted.none.log; safe = it.noted.none.safe; running = it.noted.none.running } };
-        lit = lit;
-        agrees = λ tight. agrees (or_first loosens note.loose tight);
-        unfused = it.unfused;
-        stopped = stopped;
-        last = it.last;
-        spells = it.spells;
-        away = record {
-          state = it.away.state;
-          config = it.away.config;
-          found = none_noted (note_held loosens dims note) it.last m none.leaves;
-          runs = λ bright. it.away.runs (or_second dims note.dark bright);
-          some = some_as n (record n { group = Some (note_held loosens dims note) }) it.last refl refl it.away.some;
-          lies = record {
-            units = lies.units;
-            size = lies.size;
-            can = λ tight. none_can m none;
-            sizes = lies.sizes;
-            finds = λ i each. absurd (none.leaves 0 0 (i 0 0) (each 0 0));
-            volumes = λ i x each is. absurd (none.leaves 0 0 (i 0 0) (each 0 0));
-            has = λ i x each is. absurd (none.leaves 0 0 (i 0 0) (each 0 0));
-          };
-        };
-      }
-
-  agrees_down : (note next : GroupNode) (old mid new : Meaning) → ((d : ℕ) → new.disk_faults d ≡ mid.disk_faults d) → AgreesStill note next old mid → AgreesStill note next old new
-  agrees_down note next old mid new counts (inl keeps) = inl keeps
-  agrees_down note next old mid new counts (inr some) = inr (record { disk = some.disk; rose = subst (λ (x : ℕ). Rose (old.disk_faults some.disk) x) (sym (counts some.disk)) some.rose })
 
 -- ---- a site that is down, as its note has it
 
@@ -282,7 +282,7 @@ module _ {R : Type 0} {g : Ghosts R} (racks : (s : Shade R) → IsRack (shade_me
     held_late : stops_early stop ≡ false → HeldStill beside n note (Down idle) s stop
     held_late late =
         let none : TellsNone (idle_disks now) = by.dark late in
-        let under = ready_under now.agreed now.rack in
+        let under = ready_under {R = R} {g = g} now.agreed now.rack in
         record {
           loosens = false;
           dims = true;
@@ -320,7 +320,7 @@ module _ {R : Type 0} {g : Ghosts R} (racks : (s : Shade R) → IsRack (shade_me
     config : ConfigReturns ready middle (idle_ready idle) (Up laid)
     config = recovered.3
 
-    came : CameGroup n note (Down idle) laid
+    abbrev came : CameGroup n note (Down idle) laid
     came = record { middle = middle; returns = returns; config = config; up = recovered.2; from = λ k. by.since.counts k }
 
     brings : BringsSite (idle_ready idle) laid
@@ -377,7 +377,7 @@ module _ {R : Type 0} {g : Ghosts R} (racks : (s : Shade R) → IsRack (shade_me
       rested = some_in idle.rested by.known
 
       bright : not idle.agreed ≡ false
-      bright = ap not (agreed_told idle.agreed idle.rack was_told)
+      bright = ap not (agreed_told g.meaning idle.agreed idle.rack was_told)
 
       inside_middle : InsideOf (units_of n) middle
       inside_middle = λ v disk. ap (λ (f : ℕ → Bool). f v) returns.inside ∙ inside v disk
@@ -477,7 +477,7 @@ module _ {R : Type 0} {g : Ghosts R} (racks : (s : Shade R) → IsRack (shade_me
         fell_told = fell.is.stopped.tells ∙ since.tells ∙ told
 
         agreed_is : last.agreed ≡ fell.fell.agreed
-        agreed_is = fell.agreed (bright_told fell.fell.rack fell_told)
+        agreed_is = fell.agreed (bright_told g.meaning fell.fell.rack fell_told)
 
         ready_is : idle_ready last ≡ idle_ready fell.fell
         ready_is = ap (λ (b : Bool). shade_meaning g.meaning (ready_of b last.rack)) agreed_is ∙ ap (λ (x : Shade R). shade_meaning g.meaning (ready_of fell.fell.agreed x)) fell.rack
@@ -647,7 +647,7 @@ module _ {R : Type 0} {g : Ghosts R} (racks : (s : Shade R) → IsRack (shade_me
 
         why_untold : (x : Stop) → TriedOn u laid mid x → ImportWhy (IsTrue (idle_disks last).tells) (KnownAway (IsTrue (idle_disks last).tells) ready) (idle_ready idle) (idle_disks last) x
         why_untold (Refused why) it =
-            why_tried u laid mid (idle_ready idle) (idle_disks last) (λ d. let same = (imported_same (Down idle)).counts d in let le = by.since.counts d in omega (arith, same, le)) counts_last (IsTrue (idle_disks last).tells) (KnownAway (IsTrue (idle_disks last).tells) ready)
+            why_tried u laid mid (idle_ready idle) (idle_disks last) (λ d. let same = (imported_same {R = R} {g = g} (Down idle)).counts d in let le = by.since.counts d in omega (arith, same, le)) counts_last (IsTrue (idle_disks last).tells) (KnownAway (IsTrue (idle_disks last).tells) ready)
             (λ told. never_both (idle_disks last).tells told last_tells) (λ sure. never_both (idle_disks last).tells sure.0 last_tells) why (λ is. off_never (off_tried u laid mid why (ap (λ (x : No). stops_down (Refused x)) is) it)) it
         why_untold OutOfMemory it = tt
 
@@ -664,10 +664,10 @@ module _ {R : Type 0} {g : Ghosts R} (racks : (s : Shade R) → IsRack (shade_me
               (ap (λ (x : Shade R). (shade_meaning g.meaning x).units) fell.rack ∙ fell.is.stopped.units ∙ went.since.units ∙ by.since.units)
               (λ v. ap (λ (x : Shade R). (shade_meaning g.meaning x).size v) fell.rack ∙ fell.is.stopped.size v ∙ went.since.size v ∙ by.since.size v)
               (λ lit below. absurd (untold (group_here.lit (returns.dark ∙ lit) (below_laid below)))))
-              (record { each = λ i x each is. absurd (none.leaves 0 0 (i 0 0) ((ready_under last.agreed last.rack).leaves 0 0 (i 0 0) (each 0 0))) });
+              (record { each = λ i x each is. absurd (none.leaves 0 0 (i 0 0) ((ready_under {R = R} {g = g} last.agreed last.rack).leaves 0 0 (i 0 0) (each 0 0))) });
           stands = as_rest (note_held (not last.agreed) (not idle.agreed) note) s
               (fell_dim beside n (Some (note_held (not last.agreed) (not idle.agreed) note)) (sym same_units) (λ is. never_none is) (λ c. FellOver c beside n (idle_ready idle)) (idle_ready idle) rests over last
-              (λ told. never_both (idle_disks last).tells ((ready_under last.agreed last.rack).tells told) last_tells) laws s (fell_site s.site last at));
+              (λ told. never_both (idle_disks last).tells ((ready_under {R = R} {g = g} last.agreed last.rack).tells told) last_tells) laws s (fell_site s.site last at));
         }
 
     -- ---- by what came of it
