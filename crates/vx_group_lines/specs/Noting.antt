@@ -1,5 +1,5 @@
 -- What a yard keeps where the tests of a line see something else of one site.
-use Rattle.std.specs.Prelude.{◌≡◌, ℕ, Some, None, slice_get, slice_set, Result, Ok, Err}
+use Rattle.std.specs.Prelude.{◌≡◌, ℕ, Option, Some, None, slice_get, slice_set, Result, Ok, Err}
 use Rattle.vx_config.specs.declared.config.Config.{Config}
 use Rattle.vx_disk.specs.declared.shelf.Shelf.{Ghosts}
 use Rattle.vx_model.specs.declared.errors.OutOfMemory.{OutOfMemory}
@@ -23,6 +23,11 @@ use Rattle.vx_yard.specs.declared.yard.Yard.{Yard}
 -- what the tests see of a site that comes up as a group of this configuration, with this replicated volume group over it
 abbrev pub made_facts : Core → Config → SiteFacts → SiteFacts
 made_facts core c f = up_facts core.log.header.state (last_of core) core.log.ring (group_up_facts (kinds_by c.rvg c.volumes) f)
+
+-- and where one may stand over it
+abbrev pub core_shown : Option Core → SiteFacts → SiteFacts
+core_shown None f = f
+core_shown (Some core) f = up_facts core.log.header.state (last_of core) core.log.ring f
 
 module _ {R : Type 0} {g : Ghosts R} where
   -- all but what the tests see of its sites, and what these put together

@@ -2,6 +2,7 @@
 ghost use Rattle.std.specs.Prelude.{◌≡◌, ◌<◌, [], length, map, option_copied, slice_get, slice_set, None, Some, true};
 ghost use Rattle.vx_config.specs.Checks.{is_sound};
 ghost use Rattle.vx_config.specs.declared.config.Config.{Config as ConfigValue};
+ghost use Rattle.vx_diskset.specs.GroupCalls.{core_in};
 ghost use Rattle.vx_events.specs.GroupViews.{plain_fact};
 ghost use Rattle.vx_events.specs.RvgViews.{kinds_by, kinds_of};
 ghost use Rattle.vx_events.specs.declared.said.Said.TheVariants.{Refused};
@@ -11,7 +12,7 @@ ghost use Rattle.vx_yard.specs.Changes.{up_facts};
 ghost use Rattle.vx_yard.specs.GroupFacts.{group_up_facts, with_table};
 ghost use Rattle.vx_yard.specs.Loads.{LetGoBy};
 ghost use Rattle.vx_yard.specs.Writes.{below_facts};
-ghost use Rattle.vx_group_lines.specs.Noting.{HasConfig, HasCore, HasNoCore, KeepsRest, made_facts, reply_noted};
+ghost use Rattle.vx_group_lines.specs.Noting.{HasConfig, HasCore, HasNoCore, KeepsRest, core_shown, made_facts, reply_noted};
 
 use std::alloc::Global;
 use vx_config::Config;
@@ -20,7 +21,7 @@ use vx_diskset::DiskSet;
 use vx_events::Said;
 use vx_group_facts::{kinds_seen, volumes_seen};
 use vx_model::{No, OutOfMemory, Stop};
-use vx_order::{VolumeRoom, VolumeTable};
+use vx_order::{SiteFacts, VolumeRoom, VolumeTable};
 use vx_yard::Yard;
 use vx_yard::facts::come_up;
 use vx_yard::group_facts::{come_up_group, set_volumes};
@@ -104,7 +105,20 @@ pub(crate) fn note_volumes<R: Rack>(yard: &mut Yard<R>, site: usize, room: Volum
     set_volumes(&mut yard.facts[site], volumes);
 }
 
-// The tests see the replicated volume group of a site that has one over its group.
+// The tests see the replicated volume group that such a site has over its group, if it has one.
+fn show_rvg<R: Rack>(facts: &mut SiteFacts, disk_set: &DiskSet<R>)
+    ensures { facts.new ≡ core_shown (core_in disk_set.now) facts.old }
+{
+    match disk_set {
+        DiskSet::Over(over) => match over.core() {
+            Some(core) => come_up(facts, core.state(), core.head(), core.ring()),
+            None => {}
+        },
+        _ => {}
+    }
+}
+
+// So they do of this site.
 fn note_rvg<R: Rack>(yard: &mut Yard<R>, site: usize)
     requires facts { site < length yard.old.facts.items }
     requires disk_set { site < length yard.old.disk_sets.items }
@@ -115,16 +129,5 @@ fn note_rvg<R: Rack>(yard: &mut Yard<R>, site: usize)
     ensures assemblies { yard.new.assemblies ≡ yard.old.assemblies }
     ensures same { KeepsRest yard.old yard.new }
 {
-    match &yard.disk_sets[site] {
-        DiskSet::Over(over) => match over.core() {
-            Some(core) => come_up(
-                &mut yard.facts[site],
-                core.state(),
-                core.head(),
-                core.ring(),
-            ),
-            None => {}
-        },
-        _ => {}
-    }
+    show_rvg(&mut yard.facts[site], &yard.disk_sets[site]);
 }
