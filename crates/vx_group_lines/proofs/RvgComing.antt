@@ -1,6 +1,6 @@
 -- What a line leaves of a site that was down, with a replicated volume group over its group of disks.
-use Rattle.std.proofs.Common.{◌≡◌, ◌∙◌, ◌<◌, ℕ, true, false, List, [], length, ap, sym, subst, refl, arith}
-use Rattle.std.specs.Prelude.{eqb, is_some, not, Option, Some, None, slice_get, slice_set}
+use Rattle.std.proofs.Common.{◌≡◌, ◌∙◌, ◌<◌, ℕ, true, false, List, [], length, ap, sym, subst, refl}
+use Rattle.std.specs.Prelude.{eqb, is_some, not, Option, Some, None, slice_set}
 use Rattle.vx_model.specs.Sites.{is_origin}
 use Rattle.vx_model.proofs.Tests.{and_right}
 use Rattle.vx_model.specs.declared.site.SiteState.{SiteState}
@@ -23,23 +23,20 @@ use Rattle.vx_diskset.specs.declared.disk_set.DiskSet.TheVariants.{Over}
 use Rattle.vx_diskset.specs.declared.over_set.OverSet.{OverSet}
 use Rattle.vx_diskset.specs.declared.over_set.OverSite.{OverSite}
 use Rattle.vx_diskset.specs.declared.over_set.OverSite.TheVariants.{Origin as OriginSite, Receiver as ReceiverSite, Deported as OverAway, Down as OverFell, Gone as NoOver}
-use Rattle.vx_events.proofs.OverSeats.{fact_apart}
 use Rattle.vx_events.proofs.Places.{never_some}
-use Rattle.vx_events.proofs.RvgEvents.{rvg_apart}
 use Rattle.vx_events.specs.GroupNotes.{note_at}
 use Rattle.vx_events.specs.LinkedFacts.{linked_fact, links_by, links_of_site}
 use Rattle.vx_events.specs.RvgViews.{is_over_rvg}
 use Rattle.vx_events.specs.StepsOver.{fact_of_group, fact_over}
-use Rattle.vx_yard.proofs.Carrying.{LetsGo, SameLoad, carries_at, carries_let, feeds_none}
+use Rattle.vx_yard.proofs.Carrying.{SameLoad, carries_at, feeds_none}
 use Rattle.vx_yard.proofs.FailsStay.{fails_then}
 use Rattle.vx_yard.proofs.FuseStays.{fused_none}
-use Rattle.vx_yard.proofs.NamedSite.{fact_of}
 use Rattle.vx_yard.proofs.OneSite.{Changed, Comes, stands_at, told_by}
 use Rattle.vx_yard.proofs.OverGroup.{both_ways}
 use Rattle.vx_yard.specs.Carries.{Carries}
 use Rattle.vx_yard.specs.Standing.{BeginsFirst, StandsFor}
 use Rattle.vx_yard.specs.declared.yard.Yard.{Yard}
-use Rattle.vx_above.proofs.OverSites.{note_is, site_named, site_noted}
+use Rattle.vx_above.proofs.OverSites.{site_named, site_noted}
 use Rattle.vx_group_lines.specs.Noting.{made_facts}
 use Rattle.vx_group_lines.proofs.Arriving.{Arrives}
 
@@ -101,9 +98,6 @@ module _ {R : Type 0} {g : Ghosts R} where
     pub rest_named : IsNamed (b.world.nodes s)
     rest_named = site_named b old s o call.stands call.below call.changed.there
 
-    pub rest_group : (b.world.nodes s).group ≡ Some (note_at (b.world.nodes s))
-    rest_group = note_is n call.over
-
     pub rest_sure : b.after s ≡ None
     rest_sure = none_after b.world s (b.after s) rest_stood.0.1
 
@@ -121,10 +115,6 @@ module _ {R : Type 0} {g : Ghosts R} where
 
     pub rest_unfused : (b.world.nodes s).fuse ≡ NoFuse
     rest_unfused = fell_unfused n (below_rvg n) note (beside_of b s) o.site rest_stood.1 call.down rest_noted.0
-
-    -- what the tests saw of it
-    pub rest_fact : slice_get old.facts.items s ≡ Some (linked_fact b.world s)
-    rest_fact = fact_of b old s call.stands call.below ∙ ap (λ (f : SiteFacts). Some f) (fact_apart b.world s (rvg_apart n call.over))
 
     -- ---- such a site behind the line
 
@@ -151,12 +141,6 @@ module _ {R : Type 0} {g : Ghosts R} where
         carries_at s b e old new carries load (record { site = arrives.site; packets = arrives.packets; gathering = arrives.gathering })
         (feeds_none n (e.world.nodes s) (λ up receives. never (ap (λ (x : Node). x.state) (sym arrives.node) ∙ up) (ap (λ (x : Node). is_origin x.role) (sym arrives.node) ∙ receives)))
         (told_by old new s (Over o) after call.changed)
-
-    -- and where it let go what it had in assembly, and is down
-    pub carries_gone : (e : Doubted) (m : Node) → Arrives b e s m None → m.state ≡ IsDown → LetsGo old new s → Carries b old → Carries e new
-    carries_gone e m arrives off lets carries =
-        carries_let s b e old new lets (omega (arith, call.below, call.stands.disk_sets.few)) arrives.site arrives.packets arrives.gathering
-        (λ up. let w : IsDown ≡ IsUp = sym off ∙ ap (λ (x : Node). x.state) (sym arrives.node) ∙ up in absurd (cc)) (told_by old new s (Over o) after call.changed) carries
 
     pub never_receives : (m : Node) → is_origin m.role ≡ true → m.state ≡ IsUp → is_origin m.role ≡ false → ⊥
     never_receives m origin up receives = both_ways origin receives
