@@ -53,12 +53,6 @@ returns-in_err-write_group-clause-blames g c =
     let p = err_from_is_err_and c.from_residual.result c.from_residual.ensures.1 in
     rw (p.1, p.2) c.in_err-write_group.ensures.blames
 
-pub returns-in_err-write_group-clause-stamp : goal.returns-in_err-write_group-clause-stamp
-returns-in_err-write_group-clause-stamp g c = let p = err_from_is_err_and c.from_residual.result c.from_residual.ensures.1 in rw (p.1, p.2) tt
-
-pub returns-in_err-write_group-clause-group : goal.returns-in_err-write_group-clause-group
-returns-in_err-write_group-clause-group g c = let p = err_from_is_err_and c.from_residual.result c.from_residual.ensures.1 in rw (p.1, p.2) c.in_err-write_group.ensures.group
-
 pub returns-clause-group : goal.returns-clause-group
 returns-clause-group g c = c.in_ok-write_group.ensures.group
 
