@@ -285,31 +285,3 @@ fn regions_of_bytes_are_joined(rt: HostRuntime) -> Result<(), Fail> {
     assert!(rt; left(alloc, &mut shelf, 2) == Some(3));
     Ok(())
 }
-
-// Reads the maps, and joins the regions that a byte has to one of them.
-fn joined<S: Shelf>(alloc: Global, shelf: &mut S, slot: u32, vol: u32, bytes: &[u8]) -> Told {
-    match loaded(alloc, shelf, &units()) {
-        Ok(mut dcm) => {
-            if !dcm.takes(slot, vol, bytes.len()) {
-                return Told::Other;
-            }
-            said(dcm.join(shelf, slot, vol, bytes))
-        }
-        Err(_) => Told::Other,
-    }
-}
-
-// A byte has all regions of a volume, and its further bits count for nothing. Marks that were there stay.
-#[test]
-fn regions_of_bytes_are_joined(rt: HostRuntime) -> Result<(), Fail> {
-    let alloc = rt.alloc();
-    let mut shelf = fitted(alloc, &[])?;
-    assert!(rt; marked(alloc, &mut shelf, 2, 1, 1, true) == Told::Done);
-    assert!(rt; joined(alloc, &mut shelf, 2, 1, &[0xd9]) == Told::Done);
-    assert!(rt; byte_of(&mut shelf, 5, 0) == 0x0b);
-    assert!(rt; joined(alloc, &mut shelf, 2, 1, &[0x01, 0x00]) == Told::Other);
-    assert!(rt; joined(alloc, &mut shelf, 8, 1, &[0x01]) == Told::Other);
-    assert!(rt; joined(alloc, &mut shelf, 2, 2, &[0x01]) == Told::Other);
-    assert!(rt; left(alloc, &mut shelf, 2) == Some(3));
-    Ok(())
-}
