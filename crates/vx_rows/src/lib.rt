@@ -28,8 +28,6 @@ mod loss;
 #[cfg(test)]
 mod outages;
 #[cfg(test)]
-mod over_groups;
-#[cfg(test)]
 mod recovery;
 #[cfg(test)]
 mod replies;

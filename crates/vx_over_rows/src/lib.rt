@@ -1,0 +1,17 @@
+//! Tests of sites with a replicated volume group over a group of disks, from the words to the replies.
+#![tactic(auto)]
+
+#[cfg(test)]
+mod cut;
+#[cfg(test)]
+mod failing;
+#[cfg(test)]
+mod kept;
+#[cfg(test)]
+mod lines;
+#[cfg(test)]
+mod open;
+#[cfg(test)]
+mod over_groups;
+#[cfg(test)]
+mod scripts;
