@@ -123,7 +123,7 @@ returns-in_ok-room-in-Read-clause-leads g c = λ d stands goes closed carries go
     let shut = subst (λ line. is_open d.world line ≡ false) c.in-Read.is closed in
     subst (λ line. WorksIs d line c.args.yard.now c.read_line.new.yard (Ok c.read_line.result)) (sym c.in-Read.is)
     (works_either d _ c.args.yard.now c.read_line.new.yard tt shut (Ok c.read_line.result) apart (λ off. c.read_line.ensures.leads d stands apart off)
-    (λ over. c.read_line.ensures.above d stands over (open_data (d.world.nodes (site_number d.world c.in-Read.site.now)) c.in-Read.volume.now over shut)))
+    (λ over. c.read_line.ensures.above d stands over (open_data (d.world.nodes (site_number d.world c.in-Read.site)) c.in-Read.volume over shut)))
 
 pub returns-in_ok-room-in-Read-clause-asked : goal.returns-in_ok-room-in-Read-clause-asked
 returns-in_ok-room-in-Read-clause-asked g c = λ d stands goes off links. subst (λ line. AsAsked d.world line c.args.yard.now c.read_line.new.yard) (sym c.in-Read.is) (c.read_line.ensures.asked d stands (subst (λ line. goes_to_group d.world line ≡ false) c.in-Read.is goes) (subst (λ line. is_for_rvg d.world line ≡ false) c.in-Read.is off))
@@ -134,7 +134,7 @@ returns-in_ok-room-in-Show-clause-leads g c = λ d stands goes closed carries go
     let shut = subst (λ line. is_open d.world line ≡ false) c.in-Show.is closed in
     subst (λ line. WorksIs d line c.args.yard.now c.show_line.new.yard (Ok c.show_line.result)) (sym c.in-Show.is)
     (works_either d _ c.args.yard.now c.show_line.new.yard tt shut (Ok c.show_line.result) apart (λ off. c.show_line.ensures.leads d stands apart off)
-    (λ over. c.show_line.ensures.above d stands over (open_data (d.world.nodes (site_number d.world c.in-Show.site.now)) c.in-Show.volume.now over shut)))
+    (λ over. c.show_line.ensures.above d stands over (open_data (d.world.nodes (site_number d.world c.in-Show.site)) c.in-Show.volume over shut)))
 
 pub returns-in_ok-room-in-Show-clause-asked : goal.returns-in_ok-room-in-Show-clause-asked
 returns-in_ok-room-in-Show-clause-asked g c = λ d stands goes off links. subst (λ line. AsAsked d.world line c.args.yard.now c.show_line.new.yard) (sym c.in-Show.is) (c.show_line.ensures.asked d stands (subst (λ line. goes_to_group d.world line ≡ false) c.in-Show.is goes) (subst (λ line. is_for_rvg d.world line ≡ false) c.in-Show.is off))
@@ -167,7 +167,7 @@ returns-in-Recover-clause-leads g c = λ d stands goes closed carries good.
 
 pub returns-in-Recover-clause-asked : goal.returns-in-Recover-clause-asked
 returns-in-Recover-clause-asked g c = λ d stands goes off links.
-    let apart = neither (over_group_at d.world c.in-Recover.site.now) (over_rvg_at d.world c.in-Recover.site.now) (subst (λ line. goes_to_group d.world line ≡ false) c.in-Recover.is goes) in
+    let apart = neither (over_group_at d.world c.in-Recover.site) (over_rvg_at d.world c.in-Recover.site) (subst (λ line. goes_to_group d.world line ≡ false) c.in-Recover.is goes) in
     subst (λ line. AsAsked d.world line c.args.yard.now c.recover.new.yard) (sym c.in-Recover.is) (c.recover.ensures.asked d stands apart.0)
 
 pub returns-in-Recover-clause-called : goal.returns-in-Recover-clause-called
@@ -179,7 +179,7 @@ returns-in_ok-bytes-in-Write-clause-leads g c = λ d stands goes closed carries 
     let shut = subst (λ line. is_open d.world line ≡ false) c.in-Write.is closed in
     subst (λ line. WorksIs d line c.args.yard.now c.write_line.new.yard (Ok c.write_line.result)) (sym c.in-Write.is)
     (works_either d _ c.args.yard.now c.write_line.new.yard tt shut (Ok c.write_line.result) apart (λ off. c.write_line.ensures.leads d stands apart off)
-    (λ over. c.write_line.ensures.above d stands over (open_inside (d.world.nodes (site_number d.world c.in-Write.site.now)) c.in-Write.volume.now shut over)))
+    (λ over. c.write_line.ensures.above d stands over (open_inside (d.world.nodes (site_number d.world c.in-Write.site)) c.in-Write.volume shut over)))
 
 pub returns-in_ok-bytes-in-Write-clause-asked : goal.returns-in_ok-bytes-in-Write-clause-asked
 returns-in_ok-bytes-in-Write-clause-asked g c = λ d stands goes off links. subst (λ line. AsAsked d.world line c.args.yard.now c.write_line.new.yard) (sym c.in-Write.is) (c.write_line.ensures.asked d stands (subst (λ line. goes_to_group d.world line ≡ false) c.in-Write.is goes) (subst (λ line. is_for_rvg d.world line ≡ false) c.in-Write.is off))
@@ -211,7 +211,7 @@ returns-in-Put-clause-leads g c = λ d stands goes closed carries good.
     let shut = subst (λ line. is_open d.world line ≡ false) c.in-Put.is closed in
     subst (λ line. WorksIs d line c.args.yard.now c.put_line.new.yard (Ok c.put_line.result)) (sym c.in-Put.is)
     (works_either d _ c.args.yard.now c.put_line.new.yard tt shut (Ok c.put_line.result) apart (λ off. c.put_line.ensures.leads d stands apart off)
-    (λ over. c.put_line.ensures.above d stands over (open_inside (d.world.nodes (site_number d.world c.in-Put.site.now)) c.in-Put.volume.now shut over)))
+    (λ over. c.put_line.ensures.above d stands over (open_inside (d.world.nodes (site_number d.world c.in-Put.site)) c.in-Put.volume shut over)))
 
 pub returns-in-Put-clause-asked : goal.returns-in-Put-clause-asked
 returns-in-Put-clause-asked g c = λ d stands goes off links. subst (λ line. AsAsked d.world line c.args.yard.now c.put_line.new.yard) (sym c.in-Put.is) (c.put_line.ensures.asked d stands (subst (λ line. goes_to_group d.world line ≡ false) c.in-Put.is goes) (subst (λ line. is_for_rvg d.world line ≡ false) c.in-Put.is off))
