@@ -1,5 +1,5 @@
 -- A replicated volume group that was found over a group of disks of which nothing is told: it stands by itself.
-use Rattle.std.proofs.Common.{◌≡◌, ◌∙◌, ◌⊎◌, inl, inr, ℕ, ◌<◌, ◌≤◌, true, false, List, length, IsFalse, IsTrue, ap, arith, refl, subst, sym}
+use Rattle.std.proofs.Common.{◌≡◌, ◌∙◌, ◌⊎◌, inl, inr, ℕ, ◌<◌, ◌≤◌, true, false, List, [], length, IsFalse, IsTrue, ap, arith, refl, subst, sym}
 use Rattle.std.specs.Prelude.{◌&&◌, None, Option, Some}
 use Rattle.std.proofs.lemmas.Bool.{and_parts}
 use Rattle.vx_config.specs.Configs.{HasSpelling}
@@ -147,7 +147,7 @@ module _ {R : Type 0} {g : Ghosts R} (laws : (s : Shade R) → Lawful (shade_mea
 
   inside_so : InsideOf u next
   inside_so v (inl same) = or_left (inside_of u v) (middle.inside v) (subst (λ (w : ℕ). inside_of u w ≡ true) (sym same) (log_inside u))
-  inside_so v (inr (w, low, same)) = or_left (inside_of u v) (middle.inside v) (subst (λ (j : ℕ). inside_of u j ≡ true) (sym same) (vol_inside u w low))
+  inside_so v (inr (w, (low, same))) = or_left (inside_of u v) (middle.inside v) (subst (λ (j : ℕ). inside_of u j ≡ true) (sym same) (vol_inside u w low))
 
   alone : (is_origin started.core.log.header.state.role ≡ true) × (started.core.log.header.state.phase ≡ Quiet)
   alone = alone_parts started.core.log.header.state started.alone

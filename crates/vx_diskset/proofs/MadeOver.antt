@@ -204,7 +204,7 @@ module _ {R : Type 0} {g : Ghosts R} (rackful : (s : R) → IsRack (g.meaning s)
 
   inside_so : InsideOf u gained
   inside_so j (inl same) = or_left (inside_of u j) (settled.inside j) (subst (λ (w : ℕ). inside_of u w ≡ true) (sym same) (log_inside u))
-  inside_so j (inr (v, low, same)) = or_left (inside_of u j) (settled.inside j) (subst (λ (w : ℕ). inside_of u w ≡ true) (sym same) (vol_inside u v low))
+  inside_so j (inr (v, (low, same))) = or_left (inside_of u j) (settled.inside j) (subst (λ (w : ℕ). inside_of u w ≡ true) (sym same) (vol_inside u v low))
 
   -- ---- the replicated volume group
 

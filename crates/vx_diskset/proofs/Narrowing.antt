@@ -53,22 +53,22 @@ inside_there u m placed k is = named_there u m placed k (k == u.srl) (k == u.map
 
 -- ---- a value of a block: one that is told, or else the one that is noted
 
-chosen : (m : Meaning) → Lawful m → (t : Bool) → m.tells ≡ t → List ℕ → ℕ → ℕ → List ℕ
-chosen m law true is noted v b = (law.some is v b).0
-chosen m law false is noted v b = noted
+abbrev pub value_or : (m : Meaning) → Lawful m → (t : Bool) → m.tells ≡ t → List ℕ → ℕ → ℕ → List ℕ
+value_or m law true is noted v b = (law.some is v b).0
+value_or m law false is noted v b = noted
 
-chosen_left : (m : Meaning) (law : Lawful m) (t : Bool) (is : m.tells ≡ t) (noted : List ℕ) (v b : ℕ) → t ≡ true → m.leaves v b (chosen m law t is noted v b)
+chosen_left : (m : Meaning) (law : Lawful m) (t : Bool) (is : m.tells ≡ t) (noted : List ℕ) (v b : ℕ) → t ≡ true → m.leaves v b (value_or m law t is noted v b)
 chosen_left m law true is noted v b told = law.shown v b (law.some is v b).0 (law.some is v b).1
 chosen_left m law false is noted v b told = absurd (let clash : false ≡ true = told in cc)
 
 -- it is one that a crash may leave, or it is noted
-chosen_may : (m : Meaning) (law : Lawful m) (note : GroupNode) (t : Bool) (is : m.tells ≡ t) (v b : ℕ) → ((y : List ℕ) → m.leaves v b y → BlockMay note v b y) → BlockMay note v b (chosen m law t is (note.bytes.block v b) v b)
+chosen_may : (m : Meaning) (law : Lawful m) (note : GroupNode) (t : Bool) (is : m.tells ≡ t) (v b : ℕ) → ((y : List ℕ) → m.leaves v b y → BlockMay note v b y) → BlockMay note v b (value_or m law t is (note.bytes.block v b) v b)
 chosen_may m law note true is v b has = has (law.some is v b).0 (law.shown v b (law.some is v b).0 (law.some is v b).1)
 chosen_may m law note false is v b has = inr (inl refl)
 
 module _ (m : Meaning) (law : Lawful m) (u : Units) (w : MissedNote) (note : GroupNode) where
   abbrev pub block_chosen : ℕ → ℕ → List ℕ
-  block_chosen v b = chosen m law m.tells refl (note.bytes.block v b) v b
+  block_chosen v b = value_or m law m.tells refl (note.bytes.block v b) v b
 
   abbrev pub note_narrowed : GroupNode
   note_narrowed = record note {

@@ -158,7 +158,7 @@ pub rack_rests : (m : Meaning) → IsRack m → IsTrue m.down → IsTrue m.tells
 rack_rests m rack down tells = record { one = λ u b x y left right. latest u b x left ∙ sym (latest u b y right) }
   where
     latest : (u b : ℕ) (x : List ℕ) → m.leaves u b x → x ≡ rack.told.latest u b
-    latest u b x left = rack.latest tells u b x (rack.at_rest down u b x left)
+    latest u b x left = rack.latest tells down u b x (rack.at_rest down u b x left)
 
 pub alike_rests : (m new : Meaning) → Alike m new → AtRest m → AtRest new
 alike_rests m new alike rest = record { one = λ u b x y left right. rest.one u b x y (alike.contents.leaves u b x left) (alike.contents.leaves u b y right) }

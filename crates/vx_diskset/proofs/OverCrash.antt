@@ -1,5 +1,5 @@
 -- What a crash leaves of a site whose group of disks has a replicated volume group.
-use Rattle.std.proofs.Common.{◌≡◌, ◌∙◌, ◌⊎◌, inl, inr, ⊎_elim, ℕ, ◌<◌, ◌≤◌, Bool, true, false, List, [], length, take, drop, IsTrue, arith, refl, subst, sym}
+use Rattle.std.proofs.Common.{◌≡◌, ◌∙◌, ◌⊎◌, inl, inr, ⊎_elim, ℕ, ◌<◌, ◌≤◌, Bool, true, false, List, [], length, take, drop, IsTrue, ap, arith, refl, subst, sym}
 use Rattle.std.specs.Prelude.{None, Option, Some}
 use Rattle.std.proofs.lemmas.List.{length-take}
 use Rattle.vx_config.specs.Checks.{blocks_of}
@@ -31,8 +31,8 @@ use Rattle.vx_grouped.specs.declared.laid.Laid.{Laid}
 use Rattle.vx_diskset.specs.DiskSets.{CrashedAt, fell_to}
 use Rattle.vx_diskset.specs.Holds.{HasDoubted, HasWrites, KeptBeside, KeptSite, itself, most_with, state_with, sure_of}
 use Rattle.vx_diskset.specs.Lasts.{FoundWith}
-use Rattle.vx_diskset.specs.Layouts.{IsLaidBy, LiesOn, units_of}
-use Rattle.vx_diskset.specs.Stands.{FellOver, IsHeldAt, IsOverSite, RestsOver, SameGround, idle_ready, FellSettles}
+use Rattle.vx_diskset.specs.Layouts.{IsLaidBy, LiesOn, units_by, units_of}
+use Rattle.vx_diskset.specs.Stands.{FellOver, IsHeldAt, IsOverSite, RestsOver, RvgSettles, SameGround, idle_ready, FellSettles}
 use Rattle.vx_diskset.specs.declared.disk_set.DiskSet.TheVariants.{Over}
 use Rattle.vx_diskset.specs.declared.group_set.CutWrite.{CutWrite}
 use Rattle.vx_diskset.specs.declared.over_set.OverSite.TheVariants.{Down as GroupFell}
@@ -51,10 +51,12 @@ module _ (c x : Config) (j : Image) where
   value_by v b (inr out) = []
 
   by_here : (v b : ℕ) → Inside c v b → (t : Inside c v b ⊎ (Inside c v b → ⊥)) → value_by v b t ≡ j (place x v (chosen x v) b).0 (place x v (chosen x v) b).1
+  unfolding value_by
   by_here v b in_it (inl held) = refl
   by_here v b in_it (inr out) = absurd (out in_it)
 
   by_beyond : (v b : ℕ) → (Inside c v b → ⊥) → (t : Inside c v b ⊎ (Inside c v b → ⊥)) → value_by v b t ≡ []
+  unfolding value_by
   by_beyond v b out (inl held) = absurd (out held)
   by_beyond v b out (inr not) = refl
 
@@ -62,6 +64,7 @@ module _ (c x : Config) (j : Image) where
   shown v b = value_by v b (inside c v b)
 
   pub shows : Shows c x j shown
+  unfolding shown value_by
   shows = record { here = λ v b in_it. by_here v b in_it (inside c v b); beyond = λ v b out. by_beyond v b out (inside c v b) }
 
   -- there is no other
@@ -91,12 +94,12 @@ pub record IsUnder (r m : Meaning) : Type 0 where
   pub tells : IsTrue r.tells → IsTrue m.tells
   pub leaves : (u b : ℕ) (v : List ℕ) → r.leaves u b v → m.leaves u b v
 
-module _ {R : Type 0} {g : Ghosts R} where
-  pub ready_under : (agreed : Bool) (s : Shade R) → IsUnder (shade_meaning g.meaning (ready_of agreed s)) (shade_meaning g.meaning s)
-  ready_under true s = record { units = refl; size = λ u. refl; tells = λ is. is; leaves = λ u b v left. left }
-  ready_under false (Bright r) = record { units = refl; size = λ u. refl; tells = λ is. absurd (let e : false ≡ true = is in cc); leaves = λ u b v left. absurd left }
-  ready_under false (Dark r) = record { units = refl; size = λ u. refl; tells = λ is. absurd (let e : false ≡ true = is in cc); leaves = λ u b v left. absurd left }
+pub ready_under : {R : Type 0} (g : Ghosts R) (agreed : Bool) (s : Shade R) → IsUnder (shade_meaning g.meaning (ready_of agreed s)) (shade_meaning g.meaning s)
+ready_under g true s = record { units = refl; size = λ u. refl; tells = λ is. is; leaves = λ u b v left. left }
+ready_under g false (Bright r) = record { units = refl; size = λ u. refl; tells = λ is. absurd (let e : false ≡ true = is in cc); leaves = λ u b v left. absurd left }
+ready_under g false (Dark r) = record { units = refl; size = λ u. refl; tells = λ is. absurd (let e : false ≡ true = is in cc); leaves = λ u b v left. absurd left }
 
+module _ {R : Type 0} {g : Ghosts R} where
   -- ---- the site, or what it may be besides
 
   module _ (k : KeptSite) (n : Node) (l : Laid R g) (idle : Idle R g) (good : ℕ → Type 0) (same : SameGround k.node n) (stop : Stopped (laid_disks l) (idle_disks idle)) (law : Lawful (idle_disks idle)) (rack : IsRack (idle_disks idle))
@@ -115,7 +118,7 @@ module _ {R : Type 0} {g : Ghosts R} where
     c = (wide l.core).config
 
     under : IsUnder r m'
-    under = ready_under idle.agreed idle.rack
+    under = ready_under g idle.agreed idle.rack
 
     up_leaves : (i : Image) → Each r.leaves i → Each m.leaves i
     up_leaves i each u b = stop.leaves u b (i u b) (under.leaves u b (i u b) (each u b))
@@ -132,6 +135,9 @@ module _ {R : Type 0} {g : Ghosts R} where
         (laid_sized (units_of k.node) k.node.ring k.node.volumes k.node.base.size (fold_writes k.node.base (drop k.node.safe (take count k.node.log))).size (laid_volumes l)
         (folded_size k.node.base (drop k.node.safe (take count k.node.log))) (laid_in k.node (laid_volumes l) lies))
 
+    fell_units : (count : ℕ) → units_of n ≡ units_of (fell_to n k.node count)
+    fell_units count = ap (λ (d : ℕ). units_by n.group d) (sym same.disks)
+
     rests : (count : ℕ) → k.node.safe ≤ count → count ≤ length k.node.log
         → (IsTrue r.tells → (i : Image) (x : Config) (above : Image) → Each r.leaves i → finds r i ≡ Found x → Shows c x i above
         → FoundWith (units_of k.node) k.node.ring (state_with k.node k.links) k.node.session (most_with (sure_of k) k.node count) above (take count k.node.log) (fold_writes k.node.base (drop k.node.safe (take count k.node.log))))
@@ -139,15 +145,15 @@ module _ {R : Type 0} {g : Ghosts R} where
     rests count least most found = record {
       config = c;
       sure = refl;
-      lies = lies_down count;
-      there = there;
+      lies = subst (λ (u : Units). IsLaidBy u k.node.ring k.node.volumes (fold_writes k.node.base (drop k.node.safe (take count k.node.log))).size (blocks_of c.volumes)) (fell_units count) (lies_down count);
+      there = λ u is. there u (subst (λ (w : Units). inside_of w u ≡ true) (sym (fell_units count)) is);
       low = low;
       logged = omega (arith, length-take count k.node.log, most);
       begun = λ tells. begun (told_up tells);
       left = λ tells. record {
         extends = λ i x each is. (kept.kin i x (up_leaves i each) (up_finds i x is)).shape;
         found = λ i x above each is shows.
-            subst (λ (u : Units). FoundWith u k.node.ring (state_with k.node k.links) k.node.session (most_with (sure_of k) k.node count) above (take count k.node.log) (fold_writes k.node.base (drop k.node.safe (take count k.node.log)))) same.units
+            subst (λ (u : Units). FoundWith u k.node.ring (state_with k.node k.links) k.node.session (most_with (sure_of k) k.node count) above (take count k.node.log) (fold_writes k.node.base (drop k.node.safe (take count k.node.log)))) (same.units ∙ fell_units count)
             (found tells i x above each is shows);
       };
     }
@@ -210,7 +216,7 @@ module _ {R : Type 0} {g : Ghosts R} where
 
     fell_by : (b : Bool) → (idle_ready idle).tells ≡ b → FellShown beside n idle
     fell_by true tells =
-        let it = law.image ((ready_under idle.agreed idle.rack).tells tells) in
+        let it = law.image ((ready_under g idle.agreed idle.rack).tells tells) in
         let j : Image = it.0 in
         let each : Each (laid_disks l).leaves j = λ u b. stop.leaves u b (j u b) (law.within j it.1 u b) in
         let some = found_some (finds (laid_disks l) j) (kept.finds j each) in
@@ -246,6 +252,6 @@ module _ {R : Type 0} {g : Ghosts R} where
               it.links,
               it.role,
             ),
-            (refl, refl, it.rests, settles),
+            (refl, refl, it.rests, λ r is. subst (λ (u : Units). RvgSettles u (idle_ready idle)) (ap (λ (d : ℕ). units_by n.group d) (sym it.ground.disks)) (settles r is)),
           );
         }

@@ -116,24 +116,24 @@ module _ (beside : KeptBeside) (n : Node) (m m' : Meaning) (less : LeavesLess m 
             (seen_less m.tells m'.tells opened m.leaves m'.leaves (λ told. sym less.tells ∙ told) less.leaves) (it.left i x opened readable (before i each) (was_found i x is) opens);
       })
 
-origin_of : Core → Above
+abbrev origin_of : Core → Above
 origin_of core = Origin core
 
-receiver_of : Core → List Update → Above
+abbrev receiver_of : Core → List Update → Above
 receiver_of core waiting = Receiver core waiting
 
-module _ {R : Type 0} {g : Ghosts R} where
-  -- whether imports of them agree or not
-  ready_less : (agreed : Bool) (s s' : Shade R) → Alike (shade_meaning g.meaning s) (shade_meaning g.meaning s') → LeavesLess (shade_meaning g.meaning (ready_of agreed s)) (shade_meaning g.meaning (ready_of agreed s'))
-  ready_less true s s' alike = less_alike (shade_meaning g.meaning s) (shade_meaning g.meaning s') alike
-  ready_less false (Bright r) (Bright r') alike = record { units = alike.contents.units; size = alike.contents.size; tells = refl; leaves = λ u b v left. absurd left }
-  ready_less false (Bright r) (Dark r') alike = record { units = alike.contents.units; size = alike.contents.size; tells = refl; leaves = λ u b v left. absurd left }
-  ready_less false (Dark r) (Bright r') alike = record { units = alike.contents.units; size = alike.contents.size; tells = refl; leaves = λ u b v left. absurd left }
-  ready_less false (Dark r) (Dark r') alike = record { units = alike.contents.units; size = alike.contents.size; tells = refl; leaves = λ u b v left. absurd left }
+-- whether imports of them agree or not
+ready_less : {R : Type 0} (g : Ghosts R) (agreed : Bool) (s s' : Shade R) → Alike (shade_meaning g.meaning s) (shade_meaning g.meaning s') → LeavesLess (shade_meaning g.meaning (ready_of agreed s)) (shade_meaning g.meaning (ready_of agreed s'))
+ready_less g true s s' alike = less_alike (shade_meaning g.meaning s) (shade_meaning g.meaning s') alike
+ready_less g false (Bright r) (Bright r') alike = record { units = alike.contents.units; size = alike.contents.size; tells = refl; leaves = λ u b v left. absurd left }
+ready_less g false (Bright r) (Dark r') alike = record { units = alike.contents.units; size = alike.contents.size; tells = refl; leaves = λ u b v left. absurd left }
+ready_less g false (Dark r) (Bright r') alike = record { units = alike.contents.units; size = alike.contents.size; tells = refl; leaves = λ u b v left. absurd left }
+ready_less g false (Dark r) (Dark r') alike = record { units = alike.contents.units; size = alike.contents.size; tells = refl; leaves = λ u b v left. absurd left }
 
+module _ {R : Type 0} {g : Ghosts R} where
   pub idle_less : (idle new : Idle R g) → new.agreed ≡ idle.agreed → Alike (idle_disks idle) (idle_disks new) → LeavesLess (idle_ready idle) (idle_ready new)
   idle_less idle new agreed alike =
-      subst (λ (b : Bool). LeavesLess (idle_ready idle) (shade_meaning g.meaning (ready_of b new.rack))) (sym agreed) (ready_less idle.agreed idle.rack new.rack alike)
+      subst (λ (b : Bool). LeavesLess (idle_ready idle) (shade_meaning g.meaning (ready_of b new.rack))) (sym agreed) (ready_less g idle.agreed idle.rack new.rack alike)
 
   -- ---- the group below by its parts
 

@@ -73,7 +73,7 @@ module _ {R : Type 0} {g : Ghosts R} where
     named_by n note units lies spells named true agreed = record {
       each = λ i x each is.
           let sure : is_sure l.core ≡ true = sym it.agreed ∙ agreed in
-          let under : IsUnder (idle_ready idle) (idle_disks idle) = ready_under idle.agreed idle.rack in
+          let under : IsUnder (idle_ready idle) (idle_disks idle) = ready_under g idle.agreed idle.rack in
           let was : Each (laid_disks l).leaves i = (λ u b. it.stopped.leaves u b (i u b) (under.leaves u b (i u b) (each u b))) in
           let found_was : found (laid_disks l) i ≡ Found x = sym (found_same (laid_disks l) (idle_ready idle) (under.units ∙ it.stopped.units) (λ u. under.size u ∙ it.stopped.size u) (λ u. true) i) ∙ is in
           let one : at_serial 0 x ≡ at_serial 0 (wide l.core).config = (lies.images.newest (sure_kept l.core.inner.committed l.core.held sure)).each i x was found_was in

@@ -1,10 +1,11 @@
 -- A replicated volume group over the volumes of a group of which others changed, or were made.
-use Rattle.std.proofs.Common.{◌≡◌, ◌∙◌, ◌⊎◌, inl, ⊎_elim, ℕ, zero, suc, ◌<◌, Bool, true, false, List, [], ◌∷◌, length, drop, ltb, Option, Some, None, MatchOption, IsTrue, ap, subst, sym, refl, arith}
+use Rattle.std.proofs.Common.{◌≡◌, ◌∙◌, ◌⊎◌, inl, ⊎_elim, ℕ, zero, suc, ◌*◌, ◌<◌, Bool, true, false, List, [], ◌∷◌, length, drop, map, ltb, Option, Some, None, MatchOption, IsTrue, ap, subst, sym, refl, arith}
 use Rattle.std.proofs.lemmas.Bool.{cases_lt, le-ltb}
 use Rattle.std.proofs.lemmas.List.Sums.{sum_by-cons}
 use Rattle.std.specs.List.{sum_by}
 use Rattle.std.specs.Prelude.{◌&&◌, IsFalse, if◌then◌else◌, slice_index}
 use Rattle.vx_model.specs.Sizes.{map_blocks, ring_of}
+use Rattle.vx_model.specs.declared.limits.TheConstants.{BLOCK, LINK_PLACES}
 use Rattle.vx_model.specs.declared.site.SiteState.TheVariants.{Up as IsUp, Down as IsDown, Deported as IsDeported}
 use Rattle.vx_model.specs.declared.units.Units.{Units}
 use Rattle.vx_history.specs.Groups.{GroupNode}
@@ -62,6 +63,12 @@ sum_kept f h (u ∷ us) same =
     let front' = sum_by-cons f u us in
     omega (arith, front, front', here, sum_kept f h us (λ v low. same (suc v) (omega (arith, low))))
 
+sizes_kept : (f h : ℕ → ℕ) (us : List ℕ) → ((v : ℕ) → v < length us → h (slice_index us v) ≡ f (slice_index us v)) → map f us ≡ map h us
+sizes_kept f h [] same = refl
+sizes_kept f h (u ∷ us) same =
+    let here : h u ≡ f u = same zero (omega arith) in
+    ap (λ (n : ℕ). n ∷ map f us) (sym here) ∙ ap (λ (ns : List ℕ). h u ∷ ns) (sizes_kept f h us (λ v low. same (suc v) (omega (arith, low))))
+
 match_on : (m m' : Meaning) (o : Option (List ℕ)) (u b : ℕ) (y : List ℕ) → (Keeps m u b y → Keeps m' u b y) → MatchOption o (Keeps m u b y) (λ bytes. bytes ≡ y) → MatchOption o (Keeps m' u b y) (λ bytes. bytes ≡ y)
 match_on m m' (Some bytes) u b y still is = is
 match_on m m' None u b y still keeps = still keeps
@@ -94,6 +101,12 @@ module _ (c : Core) (m m' : Meaning) (mine : Blocks) (goes : VolumesGo mine m m'
       maps_aside = sound.placed.maps_aside;
       distinct = sound.placed.distinct;
       maps_fit = omega (arith, maps_kept, goes.size c.units.maps sound.placed.maps_exist, sound.placed.maps_fit);
+    };
+    maps = record {
+      unit = sound.maps.unit;
+      first = sound.maps.first;
+      long = sound.maps.long ∙ ap (λ (n : ℕ). BLOCK * (LINK_PLACES * n)) (sym maps_kept);
+      sizes = sound.maps.sizes ∙ sizes_kept m.size m'.size c.units.vols vol_size;
     };
     log_unit = sound.log_unit;
     lies = record { exists = omega (arith, goes.units, sound.lies.exists); within = omega (arith, goes.size c.log.unit sound.lies.exists, sound.lies.within) };
@@ -128,6 +141,7 @@ module _ (c : Core) (m m' : Meaning) (mine : Blocks) (goes : VolumesGo mine m m'
         size = (let least = stands.maps.size in let same = goes.size c.units.maps sound.placed.maps_exist in omega (arith, least, same));
         each = λ b bytes there. keeps_on c.units.maps b bytes sound.placed.maps_exist (maps_aside b) (stands.maps.each b bytes there);
       };
+      marks = stands.marks;
       ready = record {
         ring = record {
           is_log = on.is_log;
@@ -196,7 +210,7 @@ module _ (n : Node) (c : Core) (m m' : Meaning) (mine : Blocks) (goes : VolumesG
       lies_over n.group n n.base.size m' over
       (subst (λ (u : Units). IsLaidBy u n.ring n.volumes n.base.size m'.size) units (laid_kept (subst (λ (u : Units). IsLaidBy u n.ring n.volumes n.base.size m.size) (sym units) (laid_in n m lies)))) (λ k is. (let low = over_there n m over lies k is in let more = goes.units in omega (arith, low, more)))
 
-module _ {beside : KeptBeside} (n : Node) (c : Core) (m m' : Meaning) (mine : Blocks) (goes : VolumesGo mine m m') (sound : IsSound c m) (over : n.group ≡ None → ⊥) (running : n.halted ≡ None) (after : Lawful m') (log_aside : (b : ℕ) → mine c.units.srl b → ⊥)
+module _ (beside : KeptBeside) (n : Node) (c : Core) (m m' : Meaning) (mine : Blocks) (goes : VolumesGo mine m m') (sound : IsSound c m) (over : n.group ≡ None → ⊥) (running : n.halted ≡ None) (after : Lawful m') (log_aside : (b : ℕ) → mine c.units.srl b → ⊥)
     (maps_aside : (b : ℕ) → mine c.units.maps b → ⊥) (vols_aside : (v b : ℕ) → v < length c.units.vols → mine (unit_of c.units.vols v) b → ⊥) where
   -- what a crash leaves then, where the reads of before are given
   abbrev rested : Meaning
@@ -272,7 +286,7 @@ module _ {beside : KeptBeside} (n : Node) (c : Core) (m m' : Meaning) (mine : Bl
 pub receiver_behind : {beside : KeptBeside} (n : Node) (c : Core) (us : List Update) (m m' : Meaning) (mine : Blocks) → VolumesGo mine m m' → IsSound c m → (n.group ≡ None → ⊥) → n.halted ≡ None → Lawful m → Lawful m' → ((b : ℕ) → mine c.units.srl b → ⊥)
     → ((b : ℕ) → mine c.units.maps b → ⊥) → ((v b : ℕ) → v < length c.units.vols → mine (unit_of c.units.vols v) b → ⊥) → IsReceiverAt beside n c us m → IsHeldAt beside n m'
 receiver_behind {beside} n c us m m' mine goes sound over running lawful after log_aside maps_aside vols_aside r =
-    as_held n m' (r.sure running) (omega (arith, r.least, r.most)) (frame_held (durable_of n) c m m' mine goes sound over running after log_aside maps_aside vols_aside (receiver_up n c us m r running lawful sound.log_unit))
+    as_held n m' (r.sure running) (omega (arith, r.least, r.most)) (frame_held beside (durable_of n) c m m' mine goes sound over running after log_aside maps_aside vols_aside (receiver_up n c us m r running lawful sound.log_unit))
 
 pub frame_receiver : {beside : KeptBeside} (n : Node) (c : Core) (us : List Update) (m m' : Meaning) (mine : Blocks) → VolumesGo mine m m' → IsSound c m → (n.group ≡ None → ⊥) → n.halted ≡ None → Lawful m → Lawful m' → IsFalse m'.down → FuseOn (burned n.fuse) m'
     → ((b : ℕ) → mine c.units.srl b → ⊥) → ((b : ℕ) → mine c.units.maps b → ⊥) → ((v b : ℕ) → v < length c.units.vols → mine (unit_of c.units.vols v) b → ⊥) → IsReceiverAt beside n c us m → IsReceiverAt beside (worked n) c us m'

@@ -104,7 +104,7 @@ module _ {R : Type 0} {g : Ghosts R} (laws : (s : Shade R) → Lawful (shade_mea
   held_mid : (beside : KeptBeside) (n : Node) (a : Above) (old new : Laid R g) → VolumesGo mine (laid_seen old) (laid_seen new) → AboveStays a (Up old) → IsAside mine a → (n.group ≡ None → ⊥) → n.halted ≡ None
       → OverUp beside n a (Up old) → IsHeldAt beside n (laid_volumes new)
   held_mid beside n Nothing old new goes sound aside over running it = absurd it
-  held_mid beside n (Origin core) old new goes sound aside over running it = frame_held n core (laid_volumes old) (laid_volumes new) mine goes sound over running (law new) aside.log aside.maps aside.vols it
+  held_mid beside n (Origin core) old new goes sound aside over running it = frame_held beside n core (laid_volumes old) (laid_volumes new) mine goes sound over running (law new) aside.log aside.maps aside.vols it
   held_mid beside n (Receiver core waiting) old new goes sound aside over running it =
       receiver_behind n core waiting (laid_volumes old) (laid_volumes new) mine goes sound.0 over running (law old) (law new) aside.log aside.maps aside.vols it
 

@@ -106,7 +106,7 @@ module _ {R : Type 0} {g : Ghosts R} (racks : (s : Shade R) → IsRack (shade_me
     kept : KeptFact c (Member (wide mid.core).good (laid_disks mid)) (laid_disks mid)
     kept = mid.stands.group.stands.kept
 
-    image : (i : Image) × (idle_disks fell).now i
+    pub image : (i : Image) × (idle_disks fell).now i
     image = (laws fell.rack).image fell_tells
 
     abbrev j : Image
@@ -115,7 +115,7 @@ module _ {R : Type 0} {g : Ghosts R} (racks : (s : Shade R) → IsRack (shade_me
     j_each : Each (laid_disks mid).leaves j
     j_each = λ u b. is.stopped.leaves u b (j u b) ((laws fell.rack).within j image.1 u b)
 
-    some : (x : Config) × (finds (laid_disks mid) j ≡ Found x)
+    pub some : (x : Config) × (finds (laid_disks mid) j ≡ Found x)
     some = found_some (finds (laid_disks mid) j) (kept.finds j j_each)
 
     abbrev pub above : Image
@@ -161,7 +161,7 @@ module _ {R : Type 0} {g : Ghosts R} (racks : (s : Shade R) → IsRack (shade_me
       k = rest_in session w n
 
       under : IsUnder (idle_ready fell) (idle_disks fell)
-      under = ready_under fell.agreed fell.rack
+      under = ready_under g fell.agreed fell.rack
 
       up_each : (i : Image) → Each (idle_ready fell).leaves i → Each (laid_disks mid).leaves i
       up_each i each u b = is.stopped.leaves u b (i u b) (under.leaves u b (i u b) (each u b))

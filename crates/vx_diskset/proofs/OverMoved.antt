@@ -81,4 +81,5 @@ module _ {R : Type 0} {g : Ghosts R} where
 
     -- with this configuration, and what its commits say of imports
     pub moved_is : next ≡ note_ground (noted_config new.core.inner.config) new.core middle
+    unfolding moved
     moved_is = next_is (came_with fuse middle n) middle u laid new racks up ground since less moves inside

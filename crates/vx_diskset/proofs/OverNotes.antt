@@ -88,9 +88,11 @@ module _ {R : Type 0} {g : Ghosts R} (n : Node) (note : GroupNode) (units : Unit
   over_notes = by_down (laid_disks new).down refl
 
   by_next : (t : Bool) (is : (laid_disks new).down ≡ t) → (by_down t is).0 ≡ next
+  unfolding by_down
   by_next false is = refl
   by_next true is = refl
 
   -- to this one
   pub next_is : over_notes.0 ≡ next
+  unfolding over_notes
   next_is = by_next (laid_disks new).down refl

@@ -127,9 +127,6 @@ never_both b is not_so = let clash : true ≡ false = sym is ∙ not_so in cc
 never_none : {A : Type 0} {x : A} → Some x ≡ None → ⊥
 never_none e = cc
 
-never_ok : (stop : Stop) → ◌≡◌ {A = Result (Unit {0}) Stop} (Ok tt) (Err stop) → ⊥
-never_ok stop is = cc
-
 -- ---- a site that stands by itself
 
 alone_by : (a b c : Bool) → a ≡ true → b ≡ true → c ≡ true → (a && (b && c)) ≡ true
@@ -282,7 +279,7 @@ module _ {R : Type 0} {g : Ghosts R} (racks : (s : Shade R) → IsRack (shade_me
     held_late : stops_early stop ≡ false → HeldStill beside n note (Down idle) s stop
     held_late late =
         let none : TellsNone (idle_disks now) = by.dark late in
-        let under = ready_under {R = R} {g = g} now.agreed now.rack in
+        let under = ready_under g now.agreed now.rack in
         record {
           loosens = false;
           dims = true;
@@ -664,10 +661,10 @@ module _ {R : Type 0} {g : Ghosts R} (racks : (s : Shade R) → IsRack (shade_me
               (ap (λ (x : Shade R). (shade_meaning g.meaning x).units) fell.rack ∙ fell.is.stopped.units ∙ went.since.units ∙ by.since.units)
               (λ v. ap (λ (x : Shade R). (shade_meaning g.meaning x).size v) fell.rack ∙ fell.is.stopped.size v ∙ went.since.size v ∙ by.since.size v)
               (λ lit below. absurd (untold (group_here.lit (returns.dark ∙ lit) (below_laid below)))))
-              (record { each = λ i x each is. absurd (none.leaves 0 0 (i 0 0) ((ready_under {R = R} {g = g} last.agreed last.rack).leaves 0 0 (i 0 0) (each 0 0))) });
+              (record { each = λ i x each is. absurd (none.leaves 0 0 (i 0 0) ((ready_under g last.agreed last.rack).leaves 0 0 (i 0 0) (each 0 0))) });
           stands = as_rest (note_held (not last.agreed) (not idle.agreed) note) s
               (fell_dim beside n (Some (note_held (not last.agreed) (not idle.agreed) note)) (sym same_units) (λ is. never_none is) (λ c. FellOver c beside n (idle_ready idle)) (idle_ready idle) rests over last
-              (λ told. never_both (idle_disks last).tells ((ready_under {R = R} {g = g} last.agreed last.rack).tells told) last_tells) laws s (fell_site s.site last at));
+              (λ told. never_both (idle_disks last).tells ((ready_under g last.agreed last.rack).tells told) last_tells) laws s (fell_site s.site last at));
         }
 
     -- ---- by what came of it

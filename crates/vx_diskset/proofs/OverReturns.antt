@@ -65,14 +65,14 @@ module _ {R : Type 0} {g : Ghosts R} (racks : (s : Shade R) → IsRack (shade_me
 
     fell_up : IsUpAt beside (came_with fuse note n) started.core (laid_volumes started.laid)
     fell_up =
-        over_came n note fuse (laid_volumes laid) (laid_volumes started.laid) started.core units rests.low rests.logged rests.sure (rests.begun fell_told)
+        over_came beside n note fuse (laid_volumes laid) (laid_volumes started.laid) started.core units rests.low rests.logged rests.sure (rests.begun fell_told)
         (fell_laid n (idle_ready idle) first laid.core (laid_disks laid) brings.revived brings.brings first_rests rests settled told) (fell_there n (idle_ready idle) first laid.core (laid_disks laid) brings.revived brings.brings first_rests rests settled told)
         (fell_left n (idle_ready idle) first laid.core (laid_disks laid) brings.revived brings.brings first_rests rests settled told) does.0 does.1 does.2 does.3 here on
 
     -- there was a further session
     pub fell_session : n.session < most_number
     fell_session =
-        over_session {beside} n note fuse (laid_volumes laid) (laid_volumes started.laid) started.core units rests.low rests.logged rests.sure (rests.begun fell_told)
+        over_session beside n note fuse (laid_volumes laid) (laid_volumes started.laid) started.core units rests.low rests.logged rests.sure (rests.begun fell_told)
         (fell_laid n (idle_ready idle) first laid.core (laid_disks laid) brings.revived brings.brings first_rests rests settled told) (fell_there n (idle_ready idle) first laid.core (laid_disks laid) brings.revived brings.brings first_rests rests settled told)
         (fell_left n (idle_ready idle) first laid.core (laid_disks laid) brings.revived brings.brings first_rests rests settled told) does.0 does.1 does.2 does.3 here on (started.starts.since.tells ∙ told)
 

@@ -81,7 +81,7 @@ module _ (units : Units) (c : Config) (good : ℕ → Type 0) (m r : Meaning) (u
 module _ {R : Type 0} {g : Ghosts R} (l : Laid R g) (n : Node) (idle : Idle R g) (stop : Stopped (laid_disks l) (idle_disks idle)) (lacking : (r : Rested) → idle.rested ≡ Some r → LacksCommit l.core.inner → ⊥)
     (there : (v : ℕ) → inside_of (units_of n) v ≡ true → v < length (wide l.core).config.volumes) where
   under_crash : IsUnder (idle_ready idle) (laid_disks l)
-  under_crash = let it = ready_under {R = R} {g = g} idle.agreed idle.rack in record {
+  under_crash = let it = ready_under g idle.agreed idle.rack in record {
     units = it.units ∙ stop.units;
     size = λ u. it.size u ∙ stop.size u;
     tells = λ told. sym stop.tells ∙ it.tells told;

@@ -1,6 +1,7 @@
 -- What is left of a start of a replicated volume group over a group that came up.
 use Rattle.std.proofs.Common.{◌≡◌, Bool, refl, subst, sym}
-use Rattle.std.specs.Prelude.{Err, Option, Result}
+use Rattle.std.specs.Prelude.{Err, None, Ok, Option, Result, Some}
+use Rattle.std.proofs.lemmas.Option.{none-some}
 use Rattle.vx_disk.specs.declared.shelf.Shelf.{Ghosts}
 use Rattle.vx_ground.specs.Accounts.{GroundSince, ground_state}
 use Rattle.vx_ground.specs.Lifted.{laid_volumes}
@@ -17,7 +18,7 @@ use Rattle.vx_model.specs.declared.units.Units.{Units}
 use Rattle.vx_rvg.specs.Views.{Core}
 use Rattle.vx_watched.specs.Since.{CalledSince}
 use Rattle.vx_watched.specs.Traces.{TellsLess}
-use Rattle.vx_diskset.specs.OverStarts.{PlainBack, PlainStarts, PlainTried, StartsOn, WithPlain, WithRvg}
+use Rattle.vx_diskset.specs.OverStarts.{PlainBack, PlainStarts, PlainTried, PlainUnits, StartsOn, WithPlain, WithRvg, WithUnits}
 use Rattle.vx_diskset.specs.Works.{DoesStart}
 use Rattle.vx_diskset.specs.declared.disk_set.DiskSet.{DiskSet}
 use Rattle.vx_diskset.specs.declared.disk_set.DiskSet.TheVariants.{Bare, Spoiled, Up as UpSet, Receives, Down as DownSet, OfGroup, Over, Gone as GoneSet}
@@ -42,6 +43,16 @@ module _ {R : Type 0} {g : Ghosts R} where
       subst (λ (x : Result (Unit {0}) Stop). PlainStarts away rested units old cut (OfGroup s) x) (sym back.2) (record { mid = mid; tried = tried; fell = back.0; cut_is = back.1 })
   plain_fails away rested units old mid cut stop (Over s) r tried back = absurd back
   plain_fails away rested units old mid cut stop GoneSet r tried back = absurd back
+
+  -- ---- a group without one
+
+  pub units_none : (o : Option Units) (laid : Laid R g) (cut : Option CutWrite) → o ≡ None → WithUnits o laid cut (let s : GroupSet R g = record { site = Up laid; cut = None } in OfGroup s) (Ok tt)
+  units_none None laid cut is = (refl, refl)
+  units_none (Some units) laid cut is = absurd (none-some units (sym is))
+
+  pub plain_units_none : (away : Bool) (rested : Option Rested) (o : Option Units) (laid : Laid R g) (cut : Option CutWrite) → o ≡ None → PlainUnits away rested o laid cut (let s : GroupSet R g = record { site = Up laid; cut = None } in OfGroup s) (Ok tt)
+  plain_units_none away rested None laid cut is = (refl, refl)
+  plain_units_none away rested (Some units) laid cut is = absurd (none-some units (sym is))
 
   -- ---- a site that did not come up
 

@@ -38,7 +38,7 @@ use Rattle.vx_diskset.proofs.OverFrames.{OverUp, over_from}
 use Rattle.vx_diskset.proofs.Sessions.{found_below_most, next_below}
 use Rattle.vx_diskset.proofs.StaysUp.{not_true, writes_found}
 
-module _ {beside : KeptBeside} (n : Node) (note : GroupNode) (fuse : Fuse) (v new : Meaning) (core : Core) (units : config_units (config_of note.config) ≡ units_of n) (low : n.low ≡ 1) (logged : length n.log ≡ n.safe) (sure : beside.doubt ≡ None)
+module _ (beside : KeptBeside) (n : Node) (note : GroupNode) (fuse : Fuse) (v new : Meaning) (core : Core) (units : config_units (config_of note.config) ≡ units_of n) (low : n.low ≡ 1) (logged : length n.log ≡ n.safe) (sure : beside.doubt ≡ None)
     (begun : 0 < n.session) (laid : IsLaid (units_of n) n.ring n.volumes n.base.size v) (there : (k : ℕ) → inside_of (units_of n) k ≡ true → k < v.units)
     (left : LeftWith (units_of n) n.ring (state_with n beside.links) n.session (most_header beside n) n.log n.base v) (moves : OnlyLog (units_of n) v new) (sound : IsSound core new) (started : IsStarted (units_of n) v core new) (up : IsTrue new.down → ⊥)
     (after : Lawful new) (on : FuseOn fuse new) where
@@ -75,7 +75,7 @@ module _ {beside : KeptBeside} (n : Node) (note : GroupNode) (fuse : Fuse) (v ne
   on_ring = started.ring_is ∙ ring_here
 
   found_at : (i : Image) → new.now i → HasWrites beside k i
-  found_at i now = writes_found k core i on_units on_ring has.0 has.1 (omega (arith, has.2)) logged (stands_with core n.log n.base new i sound.log_unit after stood now)
+  found_at i now = writes_found {beside = beside} k core i on_units on_ring has.0 has.1 (omega (arith, has.2)) logged (stands_with core n.log n.base new i sound.log_unit after stood now)
 
   pub over_came : IsUpAt beside k core new
   over_came = record {

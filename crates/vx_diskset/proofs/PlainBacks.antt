@@ -128,6 +128,10 @@ fused_back (FuseLit most) it = tt
 pub never_down : (stop : Stop) → stops_down stop ≡ false → stop ≡ Refused IsOff → ⊥
 never_down stop up is = let clash : false ≡ true = sym up ∙ ap (λ (s : Stop). stops_down s) is in cc
 
+tells_not : {R : Type 0} (meaning : R → Meaning) (s : Shade R) → is_dark s ≡ true → (shade_meaning meaning s).tells ≡ false
+tells_not meaning (Bright rack) is = absurd (let clash : false ≡ true = is in cc)
+tells_not meaning (Dark rack) is = refl
+
 module _ {R : Type 0} {g : Ghosts R} where
   -- ---- the disks
 
@@ -193,15 +197,11 @@ module _ {R : Type 0} {g : Ghosts R} where
   early_dark units laid mid stop (inl it) early = it.0
   early_dark units laid mid stop (inr it) early = absurd (let clash : false ≡ true = sym (ap (λ (s : Stop). stops_early s) it.1) ∙ early in cc)
 
-  tells_not : (s : Shade R) → is_dark s ≡ true → (shade_meaning g.meaning s).tells ≡ false
-  tells_not (Bright rack) is = absurd (let clash : false ≡ true = is in cc)
-  tells_not (Dark rack) is = refl
-
   lit_back : (note middle : GroupNode) (units : Units) (laid mid : Laid R g) (stop : Stop) (m : Meaning) (told : Bool) → middle.dark ≡ note.dark → IsLit middle (laid_below laid).tells (laid_disks laid) → PlainTried units laid mid stop → Back mid m told
       → (t : Bool) → stops_early stop ≡ t → IsLit (note_dimmed (not t) note) told m
   lit_back note middle units laid mid stop m told dark lit tried back true early =
       λ bright tells.
-      absurd (let clash : false ≡ true = sym (tells_not laid.shelf (early_dark units laid mid stop tried early)) ∙ lit (dark ∙ bright) ((went_by units laid mid stop tried).told (back.less tells)) in cc)
+      absurd (let clash : false ≡ true = sym (tells_not g.meaning laid.shelf (early_dark units laid mid stop tried early)) ∙ lit (dark ∙ bright) ((went_by units laid mid stop tried).told (back.less tells)) in cc)
   lit_back note middle units laid mid stop m told dark lit tried back false early = lit_dimmed note told m
 
   -- ---- why it was refused

@@ -38,6 +38,9 @@ use Rattle.vx_diskset.proofs.OverImports.{rises_alone, rises_on, tried_rises, tr
 use Rattle.vx_diskset.proofs.PlainBacks.{plain_away_mapped, plain_down_mapped, plain_imports, plain_recovers}
 use Rattle.vx_diskset.proofs.StaysUp.{not_true}
 
+never_ok : (stop : Stop) → ◌≡◌ {A = Result (Unit {0}) Stop} (Ok tt) (Err stop) → ⊥
+never_ok stop is = cc
+
 module _ {R : Type 0} {g : Ghosts R} where
   -- ---- the import, and what is behind it
 
@@ -391,9 +394,6 @@ module _ {R : Type 0} {g : Ghosts R} where
       group_site : (e : DiskSet R g) → e ≡ (let x : GroupSet R g = record { site = Up laid; cut = None } in OfGroup x) → site_of e ≡ Up laid
       group_site e same = ap (λ (x : DiskSet R g). site_of x) same
   plain_rvg rested away (Some units) laid cut s is it = plain_starts_none rested away units laid cut s it
-
-  never_ok : (stop : Stop) → ◌≡◌ {A = Result (Unit {0}) Stop} (Ok tt) (Err stop) → ⊥
-  never_ok stop is = cc
 
   plain_behind : (rested : Option Rested) (away : Bool) (mid : GroupSite R g) (cut : Option CutWrite) (s : GroupSet R g) (answer : Result (Unit {0}) Stop) → BehindPlain away rested mid cut (OfGroup s) answer (Ok tt) → (x : Laid R g) × (s.site ≡ Up x) × (x.core.inner.config.rvg ≡ None)
   plain_behind rested away (Up laid) cut s (Ok done) behind = plain_rvg rested away laid.core.inner.config.rvg laid cut s refl behind

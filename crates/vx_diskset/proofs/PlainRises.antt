@@ -1,5 +1,5 @@
 -- A replicated volume group that a recovery or an import finds over a group that had none, where nothing is known of what the disks hold.
-use Rattle.std.proofs.Common.{◌≡◌, ◌∙◌, ◌⊎◌, inl, inr, Bool, true, false, IsTrue, refl, subst, sym}
+use Rattle.std.proofs.Common.{◌≡◌, ◌∙◌, ◌⊎◌, inl, inr, Bool, true, false, [], IsTrue, refl, subst, sym}
 use Rattle.std.specs.Prelude.{◌||◌, Err, None, Ok, Option, Result, Some}
 use Rattle.vx_disk.specs.Shelf.{Lawful}
 use Rattle.vx_disk.specs.declared.shelf.Shelf.{Ghosts}

@@ -1,9 +1,9 @@
 -- The volumes of a replicated volume group lie on the group whose configuration has it.
-use Rattle.std.proofs.Common.{◌≡◌, ◌∙◌, ◌<◌, ◌≤◌, ℕ, zero, suc, Bool, true, false, List, [], ◌∷◌, ap, arith, length, refl, subst, sym}
+use Rattle.std.proofs.Common.{◌≡◌, ◌∙◌, inl, inr, ◌<◌, ◌≤◌, ℕ, zero, suc, Bool, true, false, List, [], ◌∷◌, ap, arith, length, refl, subst, sym}
 use Rattle.std.specs.Prelude.{Contains, Option, Some, ◌&&◌, ◌*◌, get_or, nat_le, nat_lt, not, slice_get, sum_by}
 use Rattle.std.specs.List.{AllByRecursion, list_all}
 use Rattle.std.proofs.lemmas.Bool.{and_parts, eq-eqb, leb-true, ltb-true}
-use Rattle.std.proofs.lemmas.Option.{slice_get_within}
+use Rattle.std.proofs.lemmas.Option.{slice_get_cases}
 use Rattle.vx_config.specs.Checks.{blocks_of, group_or_none, is_group, is_sound, map_blocks_of, other_than, pairwise}
 use Rattle.vx_config.specs.declared.config.Config.{Config}
 use Rattle.vx_config.specs.declared.entry.VolumeEntry.{VolumeEntry}
@@ -68,12 +68,18 @@ module _ (vs : List VolumeEntry) (u : Units) (is : is_group vs u ≡ true) where
       and_parts (nat_le 1 (length u.vols)) (nat_le (length u.vols) MOST_DATA_VOLUMES)
       (and_parts (nat_le 1 (length u.vols) && nat_le (length u.vols) MOST_DATA_VOLUMES) (list_all (λ n. nat_lt n (length vs)) (names_of u)) apart.0).0
 
+  volume_there : (x : ℕ) → x < length vs → HasVolume vs x
+  volume_there x low = elim (slice_get_cases vs x).1 [
+    | inl at ↦ (at.0, at.2)
+    | inr past ↦ absurd (let far = past.0 in omega (arith, low, far))
+  ]
+
   -- its log, its maps and its data volumes are volumes of the group
   has_each : (xs : List ℕ) → list_all (λ n. nat_lt n (length vs)) xs ≡ true → AllByRecursion (HasVolume vs) xs
   has_each [] all = tt
   has_each (x ∷ xs) all =
       let parts = and_parts (nat_lt x (length vs)) (list_all (λ n. nat_lt n (length vs)) xs) all in
-      (slice_get_within vs x (ltb-true x (length vs) parts.0), has_each xs parts.1)
+      (volume_there x (ltb-true x (length vs) parts.0), has_each xs parts.1)
 
   pub units_has : HasUnits vs u
   units_has = let all = has_each (names_of u) below in record { srl = all.0; vols = all.1.1 }

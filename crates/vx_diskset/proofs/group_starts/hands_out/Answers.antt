@@ -5,7 +5,7 @@ use Rattle.vx_diskset.specs.OverStarts.{HandsOut}
 use Rattle.vx_diskset.proofs.group_starts.hands_out.Goals as goal
 
 pub returns-in-Ok : goal.returns-in-Ok
-returns-in-Ok g c = subst (λ r. HandsOut c.args.cut r (Ok c.args.cut)) (sym c.in-Ok.is) refl
+returns-in-Ok c = subst (λ r. HandsOut c.args.cut r (Ok c.args.cut)) (sym c.in-Ok.is) refl
 
 pub returns-in-Err : goal.returns-in-Err
-returns-in-Err g c = subst (λ r. HandsOut c.args.cut r (Err c.in-Err.stop)) (sym c.in-Err.is) refl
+returns-in-Err c = subst (λ r. HandsOut c.args.cut r (Err c.in-Err.stop)) (sym c.in-Err.is) refl

@@ -6,8 +6,8 @@ use Rattle.vx_diskset.specs.GroupSets.{cut_value}
 use Rattle.vx_diskset.proofs.OverImports.{above_refused, brought_as, raises_done, raises_stopped}
 use Rattle.vx_diskset.proofs.group_starts.raise_over.Goals as goal
 
-pub of-requires : goal.of-requires
-of-requires g c =
+pub of-requires-after_bounds : goal.of-requires-after_bounds
+of-requires-after_bounds g c = λ κs lives.
     above_refused c.parts-site.result.1 c.parts-site.result.0 c.import-site.result.0 c.in-Err.stop (subst (λ r. ComesUp c.parts-site.result.0 c.import-site.result.0 r) c.in-Err.is c.import-site.ensures.comes) c.parts-site.ensures.stays
 
 pub returns-in-Ok : goal.returns-in-Ok

@@ -14,11 +14,11 @@ use Rattle.vx_diskset.proofs.OverLooks.{looks_done, looks_lost, up_old}
 use Rattle.vx_diskset.proofs.OverPlain.{carried_site}
 use Rattle.vx_diskset.proofs.group_starts.stand_over.Goals as goal
 
-pub of-requires : goal.of-requires
-of-requires g c = site_stays Nowhere c.parts-site.result.1 c.parts-site.result.0 c.look_kept.new.site c.look_kept.ensures.volumes c.parts-site.ensures.stays
+pub of-requires-after_bounds : goal.of-requires-after_bounds
+of-requires-after_bounds g c = λ κs lives. site_stays Nowhere c.parts-site.result.1 c.parts-site.result.0 c.look_kept.new.site c.look_kept.ensures.volumes c.parts-site.ensures.stays
 
-pub of-requires-in-Err : goal.of-requires-in-Err
-of-requires-in-Err g c = site_stays Nowhere c.parts-site.result.1 c.parts-site.result.0 c.look_kept.new.site c.look_kept.ensures.volumes c.parts-site.ensures.stays
+pub of-requires-in-Err-after_bounds : goal.of-requires-in-Err-after_bounds
+of-requires-in-Err-after_bounds g c = λ κs lives. site_stays Nowhere c.parts-site.result.1 c.parts-site.result.0 c.look_kept.new.site c.look_kept.ensures.volumes c.parts-site.ensures.stays
 
 pub returns-in-Ok-clause-stands : goal.returns-in-Ok-clause-stands
 returns-in-Ok-clause-stands g c = λ beside n note stands state running noted none.

@@ -8,13 +8,21 @@ use Rattle.vx_diskset.proofs.MakeStepping.{alone_log, logged_after, may_then, re
 use Rattle.vx_diskset.proofs.OverMaking.{since_both}
 use Rattle.vx_diskset.proofs.over_group.log_named.Goals as goal
 
-pub log_over-laid-requires : goal.log_over-laid-requires
-log_over-laid-requires g c = record { placed = c.requires.placed; large = c.requires.large }
+pub log_over-laid-requires-clause-placed : goal.log_over-laid-requires-clause-placed
+log_over-laid-requires-clause-placed g c = λ κs lives. c.requires.placed
 
-pub name_log-requires : goal.name_log-requires
-name_log-requires g c =
+pub log_over-laid-requires-clause-large : goal.log_over-laid-requires-clause-large
+log_over-laid-requires-clause-large g c = λ κs lives. c.requires.large
+
+pub name_log-requires-clause-sound : goal.name_log-requires-clause-sound
+name_log-requires-clause-sound g c = λ κs lives.
     let made = subst (λ r. DoesMake c.args.units.now (first_state c.args.site) (laid_volumes c.args.laid) (laid_volumes c.log_over-laid.result.0) r) c.in-Ok.is c.log_over-laid.ensures.does in
-    record { sound = made.1; may = may_then c.args.units.now c.args.laid c.log_over-laid.result.0 made.0.units made.0.size c.requires.may }
+    made.1
+
+pub name_log-requires-clause-may : goal.name_log-requires-clause-may
+name_log-requires-clause-may g c = λ κs lives.
+    let made = subst (λ r. DoesMake c.args.units.now (first_state c.args.site) (laid_volumes c.args.laid) (laid_volumes c.log_over-laid.result.0) r) c.in-Ok.is c.log_over-laid.ensures.does in
+    may_then c.args.units.now c.args.laid c.log_over-laid.result.0 made.0.units made.0.size c.requires.may
 
 pub returns-in-Ok-clause-sound : goal.returns-in-Ok-clause-sound
 returns-in-Ok-clause-sound g c = c.name_log.ensures.sound

@@ -6,8 +6,8 @@ use Rattle.vx_diskset.specs.Works.{DoesMake}
 use Rattle.vx_diskset.proofs.MakeGroup.{first_spells}
 use Rattle.vx_diskset.proofs.over_group.log_over.Goals as goal
 
-pub work_over-requires : goal.work_over-requires
-work_over-requires g c = (c.requires.placed, c.requires.large, first_spells c.args.site c.first-state.result c.first-state.ensures)
+pub work_over-requires-after_bounds : goal.work_over-requires-after_bounds
+work_over-requires-after_bounds g c = λ κs lives. (c.requires.placed, c.requires.large, first_spells c.args.site c.first-state.result c.first-state.ensures)
 
 pub returns-clause-does : goal.returns-clause-does
 returns-clause-does g c = subst (λ (x : State). DoesMake c.args.units.now x (laid_volumes c.args.laid) (laid_volumes c.work_over.result.0) c.work_over.result.1) c.first-state.ensures c.work_over.ensures.does

@@ -16,13 +16,11 @@ use Rattle.vx_diskset.proofs.MakeSites.{make_done, make_refused, may_here, never
 use Rattle.vx_diskset.proofs.OverMaking.{since_in, told_in}
 use Rattle.vx_diskset.proofs.over_group.make_in.Goals as goal
 
-pub make_over-below-requires : goal.make_over-below-requires
-make_over-below-requires g c = record {
-  may = ap (λ (k : GroupCore). is_group k.inner.config.volumes c.args.units.now) c.can_name-laid.ensures.core ∙ sym c.can_name-laid.ensures.is ∙ c.if-not-may.false;
-}
+pub make_over-below-requires-clause-may : goal.make_over-below-requires-clause-may
+make_over-below-requires-clause-may g c = λ κs lives. ap (λ (k : GroupCore). is_group k.inner.config.volumes c.args.units.now) c.can_name-laid.ensures.core ∙ sym c.can_name-laid.ensures.is ∙ c.if-not-may.false
 
-pub of-requires : goal.of-requires
-of-requires g c = subst (λ r. IfOk r (λ k. AboveStays (Origin k) c.make_over-below.result.0)) c.in-Ok.is c.make_over-below.ensures.sound
+pub of-requires-after_bounds : goal.of-requires-after_bounds
+of-requires-after_bounds g c = λ κs lives. subst (λ r. IfOk r (λ k. AboveStays (Origin k) c.make_over-below.result.0)) c.in-Ok.is c.make_over-below.ensures.sound
 
 pub returns-then-not-may-clause-made : goal.returns-then-not-may-clause-made
 returns-then-not-may-clause-made g c = λ n note config noted up first has none may.

@@ -10,15 +10,17 @@ use Rattle.vx_diskset.proofs.MakeStepping.{alone_as, made_after, may_then, refus
 use Rattle.vx_diskset.proofs.OverMaking.{large_then, placed_then, since_both}
 use Rattle.vx_diskset.proofs.over_group.make_over.Goals as goal
 
-pub rewrite_over-laid-requires : goal.rewrite_over-laid-requires
-rewrite_over-laid-requires g c = record { may = c.requires.may }
+pub rewrite_over-laid-requires-clause-may : goal.rewrite_over-laid-requires-clause-may
+rewrite_over-laid-requires-clause-may g c = λ κs lives. c.requires.may
 
-pub log_named-requires : goal.log_named-requires
-log_named-requires g c = record {
-  placed = placed_then c.args.laid c.args.units.now c.requires.may (laid_volumes c.rewrite_over-laid.result.0) c.rewrite_over-laid.ensures.does.goes.units c.rewrite_over-laid.ensures.does.goes.size;
-  large = large_then c.args.laid c.args.units.now c.requires.may (laid_volumes c.rewrite_over-laid.result.0) c.rewrite_over-laid.ensures.does.goes.units c.rewrite_over-laid.ensures.does.goes.size;
-  may = may_then c.args.units.now c.args.laid c.rewrite_over-laid.result.0 c.rewrite_over-laid.ensures.does.goes.units c.rewrite_over-laid.ensures.does.goes.size c.requires.may;
-}
+pub log_named-requires-clause-placed : goal.log_named-requires-clause-placed
+log_named-requires-clause-placed g c = λ κs lives. placed_then c.args.laid c.args.units.now c.requires.may (laid_volumes c.rewrite_over-laid.result.0) c.rewrite_over-laid.ensures.does.goes.units c.rewrite_over-laid.ensures.does.goes.size
+
+pub log_named-requires-clause-large : goal.log_named-requires-clause-large
+log_named-requires-clause-large g c = λ κs lives. large_then c.args.laid c.args.units.now c.requires.may (laid_volumes c.rewrite_over-laid.result.0) c.rewrite_over-laid.ensures.does.goes.units c.rewrite_over-laid.ensures.does.goes.size
+
+pub log_named-requires-clause-may : goal.log_named-requires-clause-may
+log_named-requires-clause-may g c = λ κs lives. may_then c.args.units.now c.args.laid c.rewrite_over-laid.result.0 c.rewrite_over-laid.ensures.does.goes.units c.rewrite_over-laid.ensures.does.goes.size c.requires.may
 
 pub returns-in-Ok-clause-sound : goal.returns-in-Ok-clause-sound
 returns-in-Ok-clause-sound g c = c.log_named.ensures.sound

@@ -7,8 +7,8 @@ use Rattle.vx_diskset.proofs.OverMaking.{placed_then}
 use Rattle.vx_diskset.proofs.Rewriting.{is_there}
 use Rattle.vx_diskset.proofs.over_group.rewrite_over.Goals as goal
 
-pub work_over-requires : goal.work_over-requires
-work_over-requires g c = λ u among.
+pub work_over-requires-after_bounds : goal.work_over-requires-after_bounds
+work_over-requires-after_bounds g c = λ κs lives. λ u among.
     let placed = placed_then c.args.laid c.args.units.now c.requires.may (laid_volumes c.args.laid) refl (λ v. refl) in
     is_there c.args.units.now.vols (laid_volumes c.args.laid).units placed.exist u (subst (λ (xs : List ℕ). Contains xs u) c.as_slice-volumes.ensures.units among)
 

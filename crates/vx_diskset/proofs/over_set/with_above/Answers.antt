@@ -6,11 +6,14 @@ use Rattle.vx_diskset.specs.Aboves.{IsAboveOn}
 use Rattle.vx_diskset.specs.declared.above.Above.TheVariants.{Origin, Receiver}
 use Rattle.vx_diskset.proofs.over_set.with_above.Goals as goal
 
-pub together-founded-requires : goal.together-founded-requires
-together-founded-requires g c = subst (λ a. IsAboveOn a (laid_volumes c.args.laid)) c.in-Origin.is c.requires
+pub together-founded-requires-after_bounds : goal.together-founded-requires-after_bounds
+together-founded-requires-after_bounds g c = λ κs lives. subst (λ a. IsAboveOn a (laid_volumes c.args.laid)) c.in-Origin.is c.requires
 
-pub together-founded-in-Receiver-requires : goal.together-founded-in-Receiver-requires
-together-founded-in-Receiver-requires g c = let both = subst (λ a. IsAboveOn a (laid_volumes c.args.laid)) c.in-Receiver.is c.requires in record { sound = both.0; waits = both.1 }
+pub together-founded-requires-in-Receiver-clause-sound : goal.together-founded-requires-in-Receiver-clause-sound
+together-founded-requires-in-Receiver-clause-sound g c = λ κs lives. let both = subst (λ a. IsAboveOn a (laid_volumes c.args.laid)) c.in-Receiver.is c.requires in both.0
+
+pub together-founded-requires-in-Receiver-clause-waits : goal.together-founded-requires-in-Receiver-clause-waits
+together-founded-requires-in-Receiver-clause-waits g c = λ κs lives. let both = subst (λ a. IsAboveOn a (laid_volumes c.args.laid)) c.in-Receiver.is c.requires in both.1
 
 pub returns-in-Origin-clause-site : goal.returns-in-Origin-clause-site
 returns-in-Origin-clause-site g c = ap (λ l. Up l) c.together-founded.ensures.laid

@@ -11,8 +11,8 @@ use Rattle.vx_diskset.proofs.over_starts.maps_over.Goals as goal
 pub loop-k-init : goal.loop-k-init
 loop-k-init g c = (refl, omega arith)
 
-pub size-blocks-requires : goal.size-blocks-requires
-size-blocks-requires g c = c.requires.exist c.loop-k.k c.loop-k-test.true
+pub size-blocks-requires-after_bounds : goal.size-blocks-requires-after_bounds
+size-blocks-requires-after_bounds g c = λ κs lives. c.requires.exist c.loop-k.k c.loop-k-test.true
 
 pub overflow_add-total : goal.overflow_add-total
 overflow_add-total g c = omega (arith, c.loop-k.invariant.1, c.loop-k-test.true, c.requires.few, c.map_blocks-maps.ensures.few)

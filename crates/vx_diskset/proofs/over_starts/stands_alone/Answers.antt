@@ -5,7 +5,7 @@ use Rattle.vx_diskset.specs.OverStarts.{has_no_links}
 use Rattle.vx_diskset.proofs.over_starts.stands_alone.Goals as goal
 
 pub returns : goal.returns
-returns g c =
+returns c =
     let s = c.args.state.now in
     c.all_three.ensures
     ∙ ap (λ (b : Bool). b && (c.is_unlinked-unlinked.result && c.is_idle-idle.result)) c.is_origin-origin.ensures

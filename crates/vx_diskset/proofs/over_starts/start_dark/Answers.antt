@@ -4,11 +4,14 @@ use Rattle.vx_diskset.specs.OverStarts.{StartsIn}
 use Rattle.vx_diskset.proofs.OverStarting.{plain_fails}
 use Rattle.vx_diskset.proofs.over_starts.start_dark.Goals as goal
 
-pub start_in-laid-requires : goal.start_in-laid-requires
-start_in-laid-requires g c = record { there = c.requires.there; large = c.requires.large }
+pub start_in-laid-requires-clause-there : goal.start_in-laid-requires-clause-there
+start_in-laid-requires-clause-there g c = λ κs lives. c.requires.there
 
-pub of-requires : goal.of-requires
-of-requires g c =
+pub start_in-laid-requires-clause-large : goal.start_in-laid-requires-clause-large
+start_in-laid-requires-clause-large g c = λ κs lives. c.requires.large
+
+pub of-requires-after_bounds : goal.of-requires-after_bounds
+of-requires-after_bounds g c = λ κs lives.
     let it = subst (λ r. StartsIn c.args.units.now c.args.laid c.start_in-laid.result.0 r) c.in-Ok.is c.start_in-laid.ensures.starts in
     it.0.does.1
 

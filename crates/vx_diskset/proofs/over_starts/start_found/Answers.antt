@@ -3,8 +3,11 @@ use Rattle.std.proofs.Common.{◌∙◌, inr, refl, sym}
 use Rattle.vx_diskset.proofs.OverStarting.{plain_fails}
 use Rattle.vx_diskset.proofs.over_starts.start_found.Goals as goal
 
-pub start_dark-requires : goal.start_dark-requires
-start_dark-requires g c = record { there = c.requires.there; large = c.requires.large }
+pub start_dark-requires-clause-there : goal.start_dark-requires-clause-there
+start_dark-requires-clause-there g c = λ κs lives. c.requires.there
+
+pub start_dark-requires-clause-large : goal.start_dark-requires-clause-large
+start_dark-requires-clause-large g c = λ κs lives. c.requires.large
 
 pub returns-then-is_dark : goal.returns-then-is_dark
 returns-then-is_dark g c = record { starts = c.start_dark.ensures.starts (sym c.is_dark.ensures ∙ c.if-is_dark.true) }

@@ -5,8 +5,8 @@ use Rattle.vx_diskset.specs.OverStarts.{is_alone}
 use Rattle.vx_diskset.proofs.OverStarting.{starts_as}
 use Rattle.vx_diskset.proofs.over_starts.start_with.Goals as goal
 
-pub work_over-laid-requires : goal.work_over-laid-requires
-work_over-laid-requires g c = (c.requires.there, c.requires.large, c.requires.room, c.requires.maps)
+pub work_over-laid-requires-after_bounds : goal.work_over-laid-requires-after_bounds
+work_over-laid-requires-after_bounds g c = λ κs lives. (c.requires.there, c.requires.large, c.requires.room, c.requires.maps)
 
 pub returns-then-stands_alone : goal.returns-then-stands_alone
 returns-then-stands_alone g c = record {

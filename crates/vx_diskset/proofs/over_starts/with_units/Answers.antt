@@ -1,7 +1,7 @@
 -- A group that came up, with its replicated volume group where it has one.
-use Rattle.std.proofs.Common.{◌∙◌, ap, refl, subst, sym}
-use Rattle.std.specs.Prelude.{Ok}
+use Rattle.std.proofs.Common.{◌∙◌, ap, subst, sym}
 use Rattle.vx_diskset.specs.OverStarts.{WithUnits}
+use Rattle.vx_diskset.proofs.OverStarting.{units_none}
 use Rattle.vx_diskset.proofs.UnitsLie.{laid_large, laid_placed}
 use Rattle.vx_diskset.proofs.over_starts.with_units.Goals as goal
 
@@ -17,4 +17,4 @@ returns-in-Some g c = record {
 }
 
 pub returns-in-None : goal.returns-in-None
-returns-in-None g c = record { over = subst (λ o. WithUnits o c.args.laid c.args.cut _ (Ok tt)) (sym c.in-None.is ∙ c.units_in.ensures ∙ ap (λ k. k.rvg) c.config.ensures) (refl, refl) }
+returns-in-None g c = record { over = units_none c.args.laid.core.inner.config.rvg c.args.laid c.args.cut (sym (ap (λ k. k.rvg) c.config.ensures) ∙ sym c.units_in.ensures ∙ c.in-None.is) }

@@ -5,11 +5,11 @@ use Rattle.vx_diskset.specs.Founded.{LaidFails}
 use Rattle.vx_diskset.proofs.OverDisks.{carried_laid, laid_sound}
 use Rattle.vx_diskset.proofs.founded.Founded.fail.Goals as goal
 
-pub fail-laid-requires : goal.fail-laid-requires
-fail-laid-requires g c = subst (λ l. c.args.disk < (laid_disks l).units) (sym c.apart-laid.ensures.laid) c.requires.there
+pub fail-laid-requires-after_bounds : goal.fail-laid-requires-after_bounds
+fail-laid-requires-after_bounds g c = λ κs lives. subst (λ l. c.args.disk < (laid_disks l).units) (sym c.apart-laid.ensures.laid) c.requires.there
 
-pub together-requires : goal.together-requires
-together-requires g c = laid_sound c.apart-laid.result.1 c.apart-laid.result.0 c.fail-laid.result c.fail-laid.ensures.volumes c.fail-laid.ensures.down c.apart-laid.ensures.sound
+pub together-requires-after_bounds : goal.together-requires-after_bounds
+together-requires-after_bounds g c = λ κs lives. laid_sound c.apart-laid.result.1 c.apart-laid.result.0 c.fail-laid.result c.fail-laid.ensures.volumes c.fail-laid.ensures.down c.apart-laid.ensures.sound
 
 pub returns : goal.returns
 returns g c = record {

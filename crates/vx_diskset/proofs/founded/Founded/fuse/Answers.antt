@@ -4,8 +4,8 @@ use Rattle.vx_diskset.specs.Founded.{LaidFuses}
 use Rattle.vx_diskset.proofs.OverDisks.{carried_laid, laid_sound}
 use Rattle.vx_diskset.proofs.founded.Founded.fuse.Goals as goal
 
-pub together-requires : goal.together-requires
-together-requires g c = laid_sound c.apart-laid.result.1 c.apart-laid.result.0 c.fuse-laid.result c.fuse-laid.ensures.volumes c.fuse-laid.ensures.down c.apart-laid.ensures.sound
+pub together-requires-after_bounds : goal.together-requires-after_bounds
+together-requires-after_bounds g c = λ κs lives. laid_sound c.apart-laid.result.1 c.apart-laid.result.0 c.fuse-laid.result c.fuse-laid.ensures.volumes c.fuse-laid.ensures.down c.apart-laid.ensures.sound
 
 pub returns : goal.returns
 returns g c = record {

@@ -7,8 +7,8 @@ use Rattle.vx_diskset.proofs.FoundedWork.{founded_works}
 use Rattle.vx_diskset.proofs.OverWorks.{carried_core}
 use Rattle.vx_diskset.proofs.founded.Founded.write.Goals as goal
 
-pub work_over-laid-requires : goal.work_over-laid-requires
-work_over-laid-requires g c = record {
+pub work_over-laid-requires-after_bounds : goal.work_over-laid-requires-after_bounds
+work_over-laid-requires-after_bounds g c = λ κs lives. record {
   sound = c.apart-laid.ensures.sound;
   there = subst (λ (x : Core). c.args.volume < length x.units.vols) (sym c.apart-laid.ensures.core) c.requires.volume;
   some = c.requires.some;
@@ -16,8 +16,8 @@ work_over-laid-requires g c = record {
   whole = c.requires.whole;
 }
 
-pub together-requires : goal.together-requires
-together-requires g c = c.work_over-laid.ensures.does.keeps.sound
+pub together-requires-after_bounds : goal.together-requires-after_bounds
+together-requires-after_bounds g c = λ κs lives. c.work_over-laid.ensures.does.keeps.sound
 
 pub returns-clause-wrote : goal.returns-clause-wrote
 returns-clause-wrote g c =

@@ -5,14 +5,14 @@ use Rattle.vx_diskset.specs.Founded.{LaidFails}
 use Rattle.vx_diskset.proofs.OverDisks.{carried_laid, laid_sound, laid_waits}
 use Rattle.vx_diskset.proofs.founded.FoundedReceiver.fail.Goals as goal
 
-pub fail-laid-requires : goal.fail-laid-requires
-fail-laid-requires g c = subst (λ l. c.args.disk < (laid_disks l).units) (sym c.apart-laid.ensures.laid) c.requires.there
+pub fail-laid-requires-after_bounds : goal.fail-laid-requires-after_bounds
+fail-laid-requires-after_bounds g c = λ κs lives. subst (λ l. c.args.disk < (laid_disks l).units) (sym c.apart-laid.ensures.laid) c.requires.there
 
 pub together-requires-clause-sound : goal.together-requires-clause-sound
-together-requires-clause-sound g c = laid_sound c.apart-laid.result.1 c.apart-laid.result.0 c.fail-laid.result c.fail-laid.ensures.volumes c.fail-laid.ensures.down c.apart-laid.ensures.sound
+together-requires-clause-sound g c = λ κs lives. laid_sound c.apart-laid.result.1 c.apart-laid.result.0 c.fail-laid.result c.fail-laid.ensures.volumes c.fail-laid.ensures.down c.apart-laid.ensures.sound
 
 pub together-requires-clause-waits : goal.together-requires-clause-waits
-together-requires-clause-waits g c = laid_waits c.apart-laid.result.1 c.apart-laid.result.0 c.fail-laid.result c.fail-laid.ensures.volumes c.fail-laid.ensures.down c.apart-laid.result.2 c.apart-laid.ensures.waits
+together-requires-clause-waits g c = λ κs lives. laid_waits c.apart-laid.result.1 c.apart-laid.result.0 c.fail-laid.result c.fail-laid.ensures.volumes c.fail-laid.ensures.down c.apart-laid.result.2 c.apart-laid.ensures.waits
 
 pub returns : goal.returns
 returns g c = record {

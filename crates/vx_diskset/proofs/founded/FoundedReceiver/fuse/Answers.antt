@@ -5,10 +5,10 @@ use Rattle.vx_diskset.proofs.OverDisks.{carried_laid, laid_sound, laid_waits}
 use Rattle.vx_diskset.proofs.founded.FoundedReceiver.fuse.Goals as goal
 
 pub together-requires-clause-sound : goal.together-requires-clause-sound
-together-requires-clause-sound g c = laid_sound c.apart-laid.result.1 c.apart-laid.result.0 c.fuse-laid.result c.fuse-laid.ensures.volumes c.fuse-laid.ensures.down c.apart-laid.ensures.sound
+together-requires-clause-sound g c = λ κs lives. laid_sound c.apart-laid.result.1 c.apart-laid.result.0 c.fuse-laid.result c.fuse-laid.ensures.volumes c.fuse-laid.ensures.down c.apart-laid.ensures.sound
 
 pub together-requires-clause-waits : goal.together-requires-clause-waits
-together-requires-clause-waits g c = laid_waits c.apart-laid.result.1 c.apart-laid.result.0 c.fuse-laid.result c.fuse-laid.ensures.volumes c.fuse-laid.ensures.down c.apart-laid.result.2 c.apart-laid.ensures.waits
+together-requires-clause-waits g c = λ κs lives. laid_waits c.apart-laid.result.1 c.apart-laid.result.0 c.fuse-laid.result c.fuse-laid.ensures.volumes c.fuse-laid.ensures.down c.apart-laid.result.2 c.apart-laid.ensures.waits
 
 pub returns : goal.returns
 returns g c = record {

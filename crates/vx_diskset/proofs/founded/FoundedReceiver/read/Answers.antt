@@ -9,8 +9,8 @@ use Rattle.vx_diskset.proofs.Receiving.{wait_core}
 use Rattle.vx_diskset.proofs.OverWorks.{carried_core}
 use Rattle.vx_diskset.proofs.founded.FoundedReceiver.read.Goals as goal
 
-pub work_over-laid-requires : goal.work_over-laid-requires
-work_over-laid-requires g c = record {
+pub work_over-laid-requires-after_bounds : goal.work_over-laid-requires-after_bounds
+work_over-laid-requires-after_bounds g c = λ κs lives. record {
   sound = c.apart-laid.ensures.sound;
   there = subst (λ (x : Core). c.args.volume < length x.units.vols) (sym c.apart-laid.ensures.core) c.requires.volume;
   some = c.requires.some;
@@ -18,11 +18,11 @@ work_over-laid-requires g c = record {
   whole = c.requires.whole;
 }
 
-pub together-requires : goal.together-requires
-together-requires g c = record {
-  sound = c.work_over-laid.ensures.does.keeps.sound;
-  waits = wait_core c.apart-laid.result.1 c.work_over-laid.result.1.0 (laid_volumes c.apart-laid.result.0) (laid_volumes c.work_over-laid.result.0) c.apart-laid.result.2 c.work_over-laid.ensures.does.same c.work_over-laid.ensures.does.keeps.moves.size c.apart-laid.ensures.waits;
-}
+pub together-requires-clause-sound : goal.together-requires-clause-sound
+together-requires-clause-sound g c = λ κs lives. c.work_over-laid.ensures.does.keeps.sound
+
+pub together-requires-clause-waits : goal.together-requires-clause-waits
+together-requires-clause-waits g c = λ κs lives. wait_core c.apart-laid.result.1 c.work_over-laid.result.1.0 (laid_volumes c.apart-laid.result.0) (laid_volumes c.work_over-laid.result.0) c.apart-laid.result.2 c.work_over-laid.ensures.does.same c.work_over-laid.ensures.does.keeps.moves.size c.apart-laid.ensures.waits
 
 pub returns-clause-read : goal.returns-clause-read
 returns-clause-read g c = λ beside n up can.

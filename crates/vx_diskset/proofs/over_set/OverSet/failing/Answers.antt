@@ -9,17 +9,17 @@ use Rattle.vx_diskset.proofs.over_set.OverSet.failing.Goals as goal
 none_below : {n : ℕ} → n < 0 → ⊥
 none_below low = omega (arith, low)
 
-pub fail-founded-requires : goal.fail-founded-requires
-fail-founded-requires g c = subst (λ s. c.args.disk < (site_disks (below_site s)).units) c.in-Origin.is c.requires.there
+pub fail-founded-requires-clause-there : goal.fail-founded-requires-clause-there
+fail-founded-requires-clause-there g c = λ κs lives. subst (λ s. c.args.disk < (site_disks (below_site s)).units) c.in-Origin.is c.requires.there
 
-pub fail-founded-in-Receiver-requires : goal.fail-founded-in-Receiver-requires
-fail-founded-in-Receiver-requires g c = subst (λ s. c.args.disk < (site_disks (below_site s)).units) c.in-Receiver.is c.requires.there
+pub fail-founded-requires-in-Receiver-clause-there : goal.fail-founded-requires-in-Receiver-clause-there
+fail-founded-requires-in-Receiver-clause-there g c = λ κs lives. subst (λ s. c.args.disk < (site_disks (below_site s)).units) c.in-Receiver.is c.requires.there
 
-pub fail-idle-requires : goal.fail-idle-requires
-fail-idle-requires g c = subst (λ s. c.args.disk < (site_disks (below_site s)).units) c.in-Deported.is c.requires.there
+pub fail-idle-requires-after_bounds : goal.fail-idle-requires-after_bounds
+fail-idle-requires-after_bounds g c = λ κs lives. subst (λ s. c.args.disk < (site_disks (below_site s)).units) c.in-Deported.is c.requires.there
 
-pub fail-idle-in-Down-requires : goal.fail-idle-in-Down-requires
-fail-idle-in-Down-requires g c = subst (λ s. c.args.disk < (site_disks (below_site s)).units) c.in-Down.is c.requires.there
+pub fail-idle-requires-in-Down-after_bounds : goal.fail-idle-requires-in-Down-after_bounds
+fail-idle-requires-in-Down-after_bounds g c = λ κs lives. subst (λ s. c.args.disk < (site_disks (below_site s)).units) c.in-Down.is c.requires.there
 
 pub returns-in-Origin-clause-stands : goal.returns-in-Origin-clause-stands
 returns-in-Origin-clause-stands g c = origin_fails c.args.self.site c.in-Origin.founded c.fail-founded.result c.in-Origin.is c.fail-founded.ensures.fails.0 c.args.disk c.args.on c.fail-founded.ensures.fails.1

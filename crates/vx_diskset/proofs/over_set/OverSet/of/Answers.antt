@@ -5,8 +5,8 @@ use Rattle.vx_diskset.specs.OverKeeps.{StaysAbove}
 use Rattle.vx_diskset.specs.declared.above.Above.TheVariants.{Nothing}
 use Rattle.vx_diskset.proofs.over_set.OverSet.of.Goals as goal
 
-pub with_above-site-requires : goal.with_above-site-requires
-with_above-site-requires g c = subst (λ e. AboveStays c.args.above e) c.in-Up.is c.requires
+pub with_above-site-requires-after_bounds : goal.with_above-site-requires-after_bounds
+with_above-site-requires-after_bounds g c = λ κs lives. subst (λ e. AboveStays c.args.above e) c.in-Up.is c.requires
 
 pub returns-in-Up-clause-cut : goal.returns-in-Up-clause-cut
 returns-in-Up-clause-cut g c = refl
@@ -44,11 +44,11 @@ returns-in-Marked-clause-site g c = absurd (subst (λ e. AboveStays c.args.above
 pub returns-in-Marked-clause-above : goal.returns-in-Marked-clause-above
 returns-in-Marked-clause-above g c = absurd (subst (λ e. AboveStays c.args.above e) c.in-Marked.is c.requires)
 
-pub returns-in-Gone-clause-cut : goal.returns-in-Gone-clause-cut
-returns-in-Gone-clause-cut g c = refl
+pub returns-clause-cut : goal.returns-clause-cut
+returns-clause-cut g c = refl
 
-pub returns-in-Gone-clause-site : goal.returns-in-Gone-clause-site
-returns-in-Gone-clause-site g c = sym c.in-Gone.is
+pub returns-clause-site : goal.returns-clause-site
+returns-clause-site g c = sym c.in-Gone.is
 
-pub returns-in-Gone-clause-above : goal.returns-in-Gone-clause-above
-returns-in-Gone-clause-above g c = subst (λ e. StaysAbove c.args.above e Nothing) (sym c.in-Gone.is) tt
+pub returns-clause-above : goal.returns-clause-above
+returns-clause-above g c = subst (λ e. StaysAbove c.args.above e Nothing) (sym c.in-Gone.is) tt
