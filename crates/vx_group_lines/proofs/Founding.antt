@@ -296,10 +296,10 @@ module _ {R : Type 0} {g : Ghosts R} where
         abbrev left : Doubted
         left = found_left d d (Recover name) s false old new before p (burned n.fuse) call
 
-        sits : RvgOver (beside_of (found_left d d (Recover name) s false old new before p (burned (d.world.nodes s).fuse) call) s) here.node here.next (Over p)
+        sits : RvgOver (beside_of (found_left d d (Recover name) s false old new before p (burned (d.world.nodes s).fuse) call) s) call.over.node call.over.next (Over p)
         sits = found_sits d d (Recover name) s false old new before p (burned n.fuse) call
 
-        arrives : Arrives d (found_left d d (Recover name) s false old new before p (burned (d.world.nodes s).fuse) call) s here.node (d.world.gathering s)
+        arrives : Arrives d (found_left d d (Recover name) s false old new before p (burned (d.world.nodes s).fuse) call) s call.over.node (d.world.gathering s)
         arrives = found_arrives d d (Recover name) s false old new before p (burned n.fuse) call
 
         -- nothing is seen of links at a bare site
@@ -343,7 +343,7 @@ module _ {R : Type 0} {g : Ghosts R} where
             shown : view ≡ over_disks (left.world.nodes s) (note_at (left.world.nodes s)) (linked_view left.world s)
             shown =
                 shows left (made_facts sits.core sits.config (linked_fact d.world s)) now_stands (omega (arith, site.below, arrives.site.sites))
-                (ap (λ (x : Node). is_over_rvg x) arrives.node ∙ over_rvg (beside_of d s) here.node p here.stands) there bare_links
+                (ap (λ (x : Node). is_over_rvg x) arrives.node ∙ over_rvg (beside_of d s) call.over.node p call.over.stands) there bare_links
 
       -- whatever came up
       pub found_came : (view : SiteView) → FindsIs s (d.world.nodes s) before after (Ok (tt {0}))

@@ -67,7 +67,7 @@ grouped_by : (w : World) (s : ℕ) (b : Bool) → (seen_by w s b).grouped ≡ (b
 grouped_by w s true = refl
 grouped_by w s false = refl
 
-pub shown_table : Node → Bool → List VolumeFacts
+abbrev pub shown_table : Node → Bool → List VolumeFacts
 shown_table n b = if b then over_table n (note_at n) else map volume_fact n.volumes
 
 rvg_alone : (n : Node) (b : Bool) → is_over_rvg n ≡ b → (b && not (starts_with_data (shown_table n b))) ≡ false

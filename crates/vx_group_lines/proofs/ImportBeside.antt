@@ -219,7 +219,7 @@ module _ {R : Type 0} {g : Ghosts R} where
             (stands.fuses s before call.at.below call.changed.there);
       }
 
-      sits : RvgOver (beside_of (found_left d d (GroupImport name) s false old new before p (burned (d.world.nodes s).fuse) rests) s) here.node here.next (Over p)
+      sits : RvgOver (beside_of (found_left d d (GroupImport name) s false old new before p (burned (d.world.nodes s).fuse) rests) s) rests.over.node rests.over.next (Over p)
       sits = found_sits d d (GroupImport name) s false old new before p (burned n.fuse) rests
 
       over_leads : SameLoad old new

@@ -30,18 +30,18 @@ use Rattle.vx_group_lines.proofs.Raising.{Begins, RaisedTo}
 use Rattle.vx_group_lines.proofs.RecoverFound.{found_risen}
 use Rattle.vx_group_lines.proofs.Recovering.{came_down, came_up}
 
+-- ---- what is handed out
+
+-- a recovery that was answered so was answered so in its import
+hands_ok : (cut was : Option CutWrite) (answer : Result (Unit {0}) Stop) → HandsOut was answer (Ok cut) → (answer ≡ Ok tt) × (cut ≡ was)
+hands_ok cut was (Ok done) it = (refl, cc)
+hands_ok cut was (Err stop) it = absurd (let clash : Ok cut ≡ Err stop = it in cc)
+
+hands_err : (was : Option CutWrite) (answer : Result (Unit {0}) Stop) (stop : Stop) → HandsOut was answer (Err stop) → answer ≡ Ok tt → ⊥
+hands_err was (Ok done) stop it ok = let clash : Err stop ≡ Ok was = it in cc
+hands_err was (Err other) stop it ok = cc
+
 module _ {R : Type 0} {g : Ghosts R} where
-  -- ---- what is handed out
-
-  -- a recovery that was answered so was answered so in its import
-  hands_ok : (cut was : Option CutWrite) (answer : Result (Unit {0}) Stop) → HandsOut was answer (Ok cut) → (answer ≡ Ok tt) × (cut ≡ was)
-  hands_ok cut was (Ok done) it = (refl, cc)
-  hands_ok cut was (Err stop) it = absurd (let clash : Ok cut ≡ Err stop = it in cc)
-
-  hands_err : (was : Option CutWrite) (answer : Result (Unit {0}) Stop) (stop : Stop) → HandsOut was answer (Err stop) → answer ≡ Ok tt → ⊥
-  hands_err was (Ok done) stop it ok = let clash : Err stop ≡ Ok was = it in cc
-  hands_err was (Err other) stop it ok = cc
-
   module _ (old mid new : Yard R g) (s : ℕ) (before between : DiskSet R g) (first : RaisedTo old mid s before between) (e : Doubted) (begin : Begins e s old) where
     at : GroupAt e old [] s before
     at = group_by e old [] s before begin.stands begin.below begin.over first.there

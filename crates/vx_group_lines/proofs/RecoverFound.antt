@@ -59,9 +59,16 @@ use Rattle.vx_group_lines.proofs.RvgFacts.{up_seen}
 use Rattle.vx_group_lines.proofs.RvgFound.{FoundCall, found_arrives, found_carries, found_ends, found_fails, found_left, found_raises, found_rose, found_says, found_stands_by, found_worked}
 use Rattle.vx_group_lines.proofs.RvgStanding.{RvgOver, rvg_over}
 
+-- a world that comes to rest, from the one in which the line begins
+rest_down_as : (d e : Doubted) (s : ℕ) → ComesDown d e s → e ≡ rests_world d s 0 false
+rest_down_as d e s comes = ⊎_elim
+    (λ (down : ((d.world.nodes s).state ≡ IsDown) × (e ≡ d)). down.1 ∙ sym (ap (λ (t : SiteState). run_as false d (fall_first t s 0)) down.0))
+    (λ (up : ((d.world.nodes s).state ≡ IsUp) × (e ≡ happened d (CrashAt s 0) false)). up.1 ∙ sym (ap (λ (t : SiteState). run_as false d (fall_first t s 0)) up.0))
+    comes.how
+
 module _ {R : Type 0} {g : Ghosts R} where
   -- of a site with a replicated volume group
-  pub over_call : (d : Doubted) (name : List ℕ) (s kept : ℕ) (taken : Bool) (old new : Yard R g) (o q : OverSet R g) (lit : Fuse) → lit ≡ NoFuse → RestsSo d s kept taken → DownCall (rests_as d s kept taken) old new s o (Over q)
+  abbrev pub over_call : (d : Doubted) (name : List ℕ) (s kept : ℕ) (taken : Bool) (old new : Yard R g) (o q : OverSet R g) (lit : Fuse) → lit ≡ NoFuse → RestsSo d s kept taken → DownCall (rests_as d s kept taken) old new s o (Over q)
       → (here : FoundOver (beside_of (rests_as d s kept taken) s) ((rests_as d s kept taken).world.nodes s) lit q)
       → KnowsLess (note_at ((rests_as d s kept taken).world.nodes s)) here.next (site_in q)
       → FoundCall d (rests_world d s kept taken) (Recover name) s taken old new (Over o) q lit
@@ -84,7 +91,7 @@ module _ {R : Type 0} {g : Ghosts R} where
       }
 
   -- of a site over a group without one, which is down in the world e
-  pub plain_call : (d e : Doubted) (name : List ℕ) (s : ℕ) (old new : Yard R g) (before : DiskSet R g) (q : OverSet R g) (lit : Fuse) → lit ≡ NoFuse → Begins e s old → (call : Called e old new [] s before (Over q))
+  abbrev pub plain_call : (d e : Doubted) (name : List ℕ) (s : ℕ) (old new : Yard R g) (before : DiskSet R g) (q : OverSet R g) (lit : Fuse) → lit ≡ NoFuse → Begins e s old → (call : Called e old new [] s before (Over q))
       → note_at (e.world.nodes s) ≡ note_at (d.world.nodes s) → DownNoted (e.world.nodes s) (note_at (e.world.nodes s)) call.at.set.site
       → (here : FoundOver (beside_of e s) (e.world.nodes s) lit q) → KnowsLess (note_at (e.world.nodes s)) here.next (site_in q)
       → FoundCall d e (Recover name) s false old new before q lit
@@ -212,13 +219,6 @@ module _ {R : Type 0} {g : Ghosts R} where
               (ap (λ (t : SiteState). links_by t (links_of_site b.world s)) at.down)
 
   -- ---- of a site over a group without one
-
-  -- a world that comes to rest, from the one in which the line begins
-  rest_down_as : (d e : Doubted) (s : ℕ) → ComesDown d e s → e ≡ rests_world d s 0 false
-  rest_down_as d e s comes = ⊎_elim
-      (λ (down : ((d.world.nodes s).state ≡ IsDown) × (e ≡ d)). down.1 ∙ sym (ap (λ (t : SiteState). run_as false d (fall_first t s 0)) down.0))
-      (λ (up : ((d.world.nodes s).state ≡ IsUp) × (e ≡ happened d (CrashAt s 0) false)). up.1 ∙ sym (ap (λ (t : SiteState). run_as false d (fall_first t s 0)) up.0))
-      comes.how
 
   pub found_risen : (e : Doubted) (s : ℕ) (old mid new : Yard R g) (before between : DiskSet R g) (first : RaisedTo old mid s before between) (begin : Begins e s old)
       (cut : Option CutWrite) (result : Result Said OutOfMemory) (st : StoodUp s cut mid new result) (x : OverSet R g) → between ≡ Over x → cut ≡ None

@@ -173,7 +173,7 @@ knows_nothing told tells note lit less =
 
 module _ {R : Type 0} {g : Ghosts R} where
   -- what came up, behind calls on its disks
-  pub found_worked : (beside : KeptBeside) (n : Node) (lit : Fuse) (p q : OverSet R g) (it : FoundOver beside n lit p) → SiteStands beside (worked it.node) (Over q) → SiteNoted (worked it.node) it.next (Over q) → FoundOver beside n (burned lit) q
+  abbrev pub found_worked : (beside : KeptBeside) (n : Node) (lit : Fuse) (p q : OverSet R g) (it : FoundOver beside n lit p) → SiteStands beside (worked it.node) (Over q) → SiteNoted (worked it.node) it.next (Over q) → FoundOver beside n (burned lit) q
   found_worked beside n lit p q it stands noted = record {
     next = it.next;
     now = it.now;

@@ -333,7 +333,7 @@ module _ {R : Type 0} {g : Ghosts R} where
           (subst (λ (e : DiskSet R g). AtSite (λ y. site_config y ≡ Some has.config) e) (sym at_group) (subst (λ (e : GroupSite R g). site_config e ≡ Some has.config) (sym at_site) has.has))
           (ap (λ (c : Option Config). config_rvg c) (sym has.has) ∙ r.none) (ap (λ (e : DiskSet R g). core_in e) at_group))
 
-      facts_now : SiteFacts
+      abbrev facts_now : SiteFacts
       facts_now = group_up_facts (map plain_fact has.config.volumes) (linked_fact b.world s)
 
       fact : facts_now ≡ fact_of_group m next
@@ -357,7 +357,7 @@ module _ {R : Type 0} {g : Ghosts R} where
           ap (λ (f : SiteFacts). view_with f (Some now.config)) fact ∙ view_up m next t.set.site now.config up now.has
           ∙ ap (λ (called : List ℕ). let v : SiteView = record (grouped_view m next) { name = called } in v) (ap (λ (y : Node). y.name) (own_is s d.world h taken) ∙ own_called taken (d.world.nodes s) at_h)
 
-      kept_said : Option Kept
+      abbrev kept_said : Option Kept
       kept_said = kept_shown now.config.volumes read
 
       replied : result ≡ Ok (Resumed (view_with facts_now (Some now.config)) kept_said)
