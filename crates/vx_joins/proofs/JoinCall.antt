@@ -25,6 +25,10 @@ use Rattle.vx_joins.specs.Joins.{CanJoin, JoinedAs, JoinedAt, joins_in_doubt}
 use Rattle.vx_diskset.proofs.RawSets.{raw_doubted}
 use Rattle.vx_history.specs.Events.{joined}
 
+-- a site that may have come to the line is on no group of disks either way
+raw_joining : (beside : KeptBeside) (a : Node) (p : ℕ) (n : Node) (disk : ℕ) → n.group ≡ None → IsUngrouped (joins_in_doubt beside a p n disk) (halted_at n disk)
+raw_joining beside a p n disk none = (none, raw_doubted (record { node = halted_at (joined a p n) disk; links = beside.links; headers = beside.headers + 1 }) n none refl)
+
 module _ {R : Type 0} {g : Ghosts R} where
   -- the group with the room for updates
   pub receives_group : {beside : KeptBeside} (n : Node) (s : Secondary R g) (v : Rvg R g) → s.rvg ≡ v → s.waiting ≡ [] → IsUngrouped beside n → IsReceiverAt beside n v.core [] (g.meaning v.shelf) → SiteStands beside n (Receives s)
@@ -33,9 +37,6 @@ module _ {R : Type 0} {g : Ghosts R} where
     subst (λ (us : List Update). IsReceiverAt beside n s.rvg.core us (g.meaning s.rvg.shelf)) (sym none)
         (subst (λ (k : Rvg R g). IsReceiverAt beside n k.core [] (g.meaning k.shelf)) (sym same) stands),
   )
-
-  raw_joining : (beside : KeptBeside) (a : Node) (p : ℕ) (n : Node) (disk : ℕ) → n.group ≡ None → IsUngrouped (joins_in_doubt beside a p n disk) (halted_at n disk)
-  raw_joining beside a p n disk none = (none, raw_doubted (record { node = halted_at (joined a p n) disk; links = beside.links; headers = beside.headers + 1 }) n none refl)
 
   -- the fuse ran out, and the site crashed
   pub joined_off : (beside : KeptBeside) (a : Node) (p : ℕ) (n : Node) (old mid : Rvg R g) (new : DiskSet R g) (why : No) → IsUngrouped beside n → is_off why ≡ true → JoinedAs beside a p n (g.meaning old.shelf) mid.core (g.meaning mid.shelf) (Err why)

@@ -76,6 +76,9 @@ works_by (Some o) None size d said written is on = absurd on
 works_by (Some o) (Some n) size d said written is on =
     let same : o ≡ d = cc in ap (λ (x : Disks). x.failing 0) (sym same) ∙ (written_burnt IsLogged size said o n written on.0).1.works
 
+shade_told : {R : Type 0} (g : Ghosts R) → ((r : R) → IsRack (g.meaning r)) → (s : Shade R) → (d : Disks) × ((shade_meaning g.meaning s).disks ≡ Some d)
+shade_told g racks s = let rack = shade_rack g.meaning racks s in (rack.told, rack.is)
+
 module _ {R : Type 0} {g : Ghosts R} where
   pub fails_then : (n m : Node) (e after : DiskSet R g) → m.failing ≡ n.failing → SameFailing e after → FailsAs n e → FailsAs m after
   fails_then n m e after is same fails = record { told = λ d there u on. fails_on (disks_told e) (disks_told after) n.failing m.failing is fails.told same.told d there u on }
@@ -96,14 +99,11 @@ module _ {R : Type 0} {g : Ghosts R} where
   site_told racks n (Marked rack) h = ((racks rack).told, (racks rack).is)
   site_told racks n GroupGone h = absurd h
 
-  shade_told : ((r : R) → IsRack (g.meaning r)) → (s : Shade R) → (d : Disks) × ((shade_meaning g.meaning s).disks ≡ Some d)
-  shade_told racks s = let rack = shade_rack g.meaning racks s in (rack.told, rack.is)
-
   over_told : ((r : R) → IsRack (g.meaning r)) → (beside : KeptBeside) (n : Node) (s : OverSite R g) → OverStands beside n s → (d : Disks) × ((site_disks (below_site s)).disks ≡ Some d)
-  over_told racks beside n (OriginSite f) h = shade_told racks f.laid.shelf
-  over_told racks beside n (ReceiverSite f) h = shade_told racks f.laid.shelf
-  over_told racks beside n (OverAway idle) h = shade_told racks idle.rack
-  over_told racks beside n (OverFell idle) h = shade_told racks idle.rack
+  over_told racks beside n (OriginSite f) h = shade_told g racks f.laid.shelf
+  over_told racks beside n (ReceiverSite f) h = shade_told g racks f.laid.shelf
+  over_told racks beside n (OverAway idle) h = shade_told g racks idle.rack
+  over_told racks beside n (OverFell idle) h = shade_told g racks idle.rack
   over_told racks beside n NoOver h = absurd h
 
   pub told_disks : ((r : R) → IsRack (g.meaning r)) → (beside : KeptBeside) (n : Node) (e : DiskSet R g) → SiteStands beside n e → (d : Disks) × (disks_told e ≡ Some d)
