@@ -74,6 +74,10 @@ found_clean n m last stop lawful untold clean it = record {
     none : (u b : ℕ) → Keeps last u b zero_block
     none u b = record { only = λ v left. absurd (lawful.none (not_true last.tells untold) u b v left) }
 
+rack_rises : {R : Type 0} (meaning : R → Meaning) (m : Meaning) (s : Shade R) → RisesSince m (shade_meaning meaning s) → RisesSince m (meaning (rack_of s))
+rack_rises meaning m (Bright r) it = it
+rack_rises meaning m (Dark r) it = record { counts = it.counts; rack = it.rack; failing = it.failing; passes = it.passes }
+
 module _ {R : Type 0} {g : Ghosts R} where
   -- ---- what is told of the disks
 
@@ -89,13 +93,9 @@ module _ {R : Type 0} {g : Ghosts R} where
 
   -- ---- disks by themselves, as those of a bare site
 
-  rack_rises : (m : Meaning) (s : Shade R) → RisesSince m (shade_meaning g.meaning s) → RisesSince m (g.meaning (rack_of s))
-  rack_rises m (Bright r) it = it
-  rack_rises m (Dark r) it = record { counts = it.counts; rack = it.rack; failing = it.failing; passes = it.passes }
-
   site_rises : (rack : R) (e : GroupSite R g) (cut : Option CutWrite) → RisesSince (g.meaning rack) (site_disks e) → SameFailing (Bare rack) (given_bare e cut)
   site_rises rack (Deported idle) cut it =
-      failing_risen (Bare rack) (Bare (rack_of idle.rack)) (g.meaning rack) (g.meaning (rack_of idle.rack)) (has_bare (Bare rack) rack refl) (has_bare (Bare (rack_of idle.rack)) (rack_of idle.rack) refl) (rack_rises (g.meaning rack) idle.rack it)
+      failing_risen (Bare rack) (Bare (rack_of idle.rack)) (g.meaning rack) (g.meaning (rack_of idle.rack)) (has_bare (Bare rack) rack refl) (has_bare (Bare (rack_of idle.rack)) (rack_of idle.rack) refl) (rack_rises g.meaning (g.meaning rack) idle.rack it)
   site_rises rack (Up laid) cut it = found_failing rack (let s : GroupSet R g = record { site = Up laid; cut = cut } in OfGroup s) it
   site_rises rack (Down idle) cut it = found_failing rack (let s : GroupSet R g = record { site = Down idle; cut = cut } in OfGroup s) it
   site_rises rack (Marked r) cut it = found_failing rack (let s : GroupSet R g = record { site = Marked r; cut = cut } in OfGroup s) it
@@ -113,7 +113,7 @@ module _ {R : Type 0} {g : Ghosts R} where
 
   site_later : (rack : R) (e : GroupSite R g) (cut : Option CutWrite) → RisesSince (g.meaning rack) (site_disks e) → TellsLess (g.meaning rack) (site_below e) → Later (Bare rack) (given_bare e cut)
   site_later rack (Deported idle) cut it less =
-      later_risen (Bare rack) (Bare (rack_of idle.rack)) (g.meaning rack) (g.meaning (rack_of idle.rack)) (has_bare (Bare rack) rack refl) (has_bare (Bare (rack_of idle.rack)) (rack_of idle.rack) refl) (rack_rises (g.meaning rack) idle.rack it) less
+      later_risen (Bare rack) (Bare (rack_of idle.rack)) (g.meaning rack) (g.meaning (rack_of idle.rack)) (has_bare (Bare rack) rack refl) (has_bare (Bare (rack_of idle.rack)) (rack_of idle.rack) refl) (rack_rises g.meaning (g.meaning rack) idle.rack it) less
   site_later rack (Up laid) cut it less = found_later rack (let s : GroupSet R g = record { site = Up laid; cut = cut } in OfGroup s) it less
   site_later rack (Down idle) cut it less = found_later rack (let s : GroupSet R g = record { site = Down idle; cut = cut } in OfGroup s) it less
   site_later rack (Marked r) cut it less = found_later rack (let s : GroupSet R g = record { site = Marked r; cut = cut } in OfGroup s) it less

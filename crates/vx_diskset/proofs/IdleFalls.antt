@@ -1,5 +1,5 @@
 -- Disks below a replicated volume group that crash, and what is done to them then.
-use Rattle.std.proofs.Common.{◌≡◌, ◌∙◌, ℕ, ◌&&◌, Bool, true, false, IsTrue, ap, refl, subst, sym}
+use Rattle.std.proofs.Common.{◌≡◌, ◌∙◌, ℕ, ◌&&◌, Bool, true, false, refl, subst, sym}
 use Rattle.std.specs.Prelude.{Option, Some}
 use Rattle.std.proofs.lemmas.Bool.{both_ways}
 use Rattle.vx_disk.specs.Causes.{OnDisks}
@@ -8,7 +8,7 @@ use Rattle.vx_disk.specs.Racks.{Stopped}
 use Rattle.vx_disk.specs.declared.shelf.Shelf.{Ghosts}
 use Rattle.vx_group.specs.Settles.{LacksCommit}
 use Rattle.vx_grouped.specs.Away.{IsAwayAt}
-use Rattle.vx_grouped.specs.GroupNotes.{GroupLies, holds_none, is_sure}
+use Rattle.vx_grouped.specs.GroupNotes.{GroupLies, is_sure}
 use Rattle.vx_grouped.specs.GroupSites.{idle_below, idle_disks, laid_below, laid_disks}
 use Rattle.vx_grouped.specs.SiteMaps.{RestsNot}
 use Rattle.vx_grouped.specs.declared.idle.Idle.{Idle}

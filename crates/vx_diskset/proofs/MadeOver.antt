@@ -62,7 +62,7 @@ use Rattle.vx_diskset.specs.declared.disk_set.DiskSet.TheVariants.{Over}
 use Rattle.vx_diskset.specs.declared.over_set.OverSet.{OverSet}
 use Rattle.vx_diskset.proofs.GroundNotes.{ground_agrees, ground_tidy, ground_up, note_ground, note_works}
 use Rattle.vx_diskset.proofs.MakeEnds.{left_may, or_left, sizes_then}
-use Rattle.vx_diskset.proofs.Narrowing.{is_named, narrowed_left, narrows, note_narrowed, one_value}
+use Rattle.vx_diskset.proofs.Narrowing.{block_chosen, is_named, narrowed_left, narrows, note_narrowed, one_value}
 use Rattle.vx_diskset.proofs.OverCame.{log_inside, or_right, vol_inside}
 use Rattle.vx_diskset.proofs.OverFrames.{OverUp, over_from}
 use Rattle.vx_diskset.proofs.OverMaking.{placed_then}
@@ -184,7 +184,7 @@ module _ {R : Type 0} {g : Ghosts R} (rackful : (s : R) → IsRack (g.meaning s)
   gained_may v b y true is it = inl (or_left (inside_of u v) (middle.inside v) is)
   gained_may v b y false is (inl it) =
       let off : is_named u.vols v ≡ false = or_none (v == u.srl) (v == u.maps) (is_named u.vols v) is in
-      plain_may u note middle v b y (ap (λ (t : Bool). if t then _ else note.bytes.block v b) off) (ap (λ (t : Bool). if t then [] else note.others v b) off) refl it
+      plain_may u note middle v b y (ap (λ (t : Bool). if t then block_chosen (laid_volumes k) law u maps note v b else note.bytes.block v b) off) (ap (λ (t : Bool). if t then [] else note.others v b) off) refl it
   gained_may v b y false is (inr log) = absurd (let clash : true ≡ false = sym (subst (λ (w : ℕ). inside_of u w ≡ true) (sym log) (log_inside u)) ∙ is in cc)
 
   holds : (v b : ℕ) (y : List ℕ) → v < (laid_volumes k).units → b < (laid_volumes k).size v → (laid_volumes k).leaves v b y → BlockMay (note_gained u middle) v b y
