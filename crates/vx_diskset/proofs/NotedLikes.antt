@@ -83,7 +83,7 @@ module _ (n m : Node) (like : NotesAs n m) where
     over_stays o s stays noted = (
       (λ note is.
           let was = noted.0 note (sym like.group ∙ is) in
-          site_like note s (stays.each (below_rvg n) note was.0, stays.cut ∙ was.1, was.2, was.3, stays.named (units_of n) was.4)),
+          site_like note s (stays.each (below_rvg n) note was.0, stays.cut ∙ was.1, was.2, was.3, stays.named (units_of n) (length (entries_noted note)) was.4)),
       named_as noted.1,
     )
 
@@ -115,7 +115,7 @@ module _ {R : Type 0} {g : Ghosts R} (beside : KeptBeside) (n m : Node) where
           fuses.cut ∙ was.1,
           was.2,
           was.3,
-          fuses.named (units_of n) was.4,
+          fuses.named (units_of n) (length (entries_noted note)) was.4,
         )),
     named_as (record n { fuse = FuseSet calls }) m like noted.1,
   )
