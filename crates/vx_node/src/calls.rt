@@ -1,5 +1,5 @@
 // The call that answers a line.
-ghost use Rattle.std.specs.Prelude.{◌≡◌, ◌≤◌, ℕ, List, IsSome, true};
+ghost use Rattle.std.specs.Prelude.{◌≡◌, ◌≤◌, ℕ, List, IsSome, false, true};
 ghost use Rattle.vx_stream.specs.Causes.{StreamRose};
 ghost use Rattle.vx_history.specs.Doubts.{Doubted};
 ghost use Rattle.vx_events.specs.RvgLinks.{links_rvg};
