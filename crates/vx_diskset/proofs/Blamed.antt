@@ -1,9 +1,10 @@
 -- A failed call on the group of a site names the disk of its log, or of one of its volumes.
-use Rattle.std.proofs.Common.{◌≡◌, ◌∙◌, ◌⊎◌, inl, inr, ◌+◌, ◌-◌, ◌<◌, ℕ, arith, refl, subst, sym}
+use Rattle.std.proofs.Common.{◌≡◌, ◌∙◌, ◌⊎◌, inl, inr, ◌+◌, ◌-◌, ◌<◌, ℕ, ap, arith, refl, subst, sym}
 use Rattle.std.specs.Prelude.{IfErr, IsSome, Option, Some, None, Result, Ok, Err, true, false}
 use Rattle.vx_model.specs.declared.no.No.{No}
 use Rattle.vx_model.specs.declared.no.No.TheVariants.{Device}
 use Rattle.vx_model.specs.declared.units.Units.{Units}
+use Rattle.vx_history.specs.Groups.{GroupNode}
 use Rattle.vx_history.specs.World.{Node}
 use Rattle.vx_disk.specs.Causes.{WithDisks}
 use Rattle.vx_disk.specs.Disks.{Disks}
@@ -19,7 +20,7 @@ use Rattle.vx_diskset.specs.Blames.{BlamesGroup, BlamesSite, IsGroupDisk}
 use Rattle.vx_diskset.specs.Holds.{KeptBeside}
 use Rattle.vx_events.specs.Fails.{IsSiteDisk}
 use Rattle.vx_events.proofs.Values.{length-values_from, slice_index-values_from}
-use Rattle.vx_diskset.specs.Layouts.{raw_units, units_of}
+use Rattle.vx_diskset.specs.Layouts.{raw_units, units_by, units_of}
 use Rattle.vx_diskset.specs.Shelves.{BlamesRack}
 use Rattle.vx_disk.specs.Spends.{Spent}
 use Rattle.vx_disk.specs.Spends.{Spends}
@@ -75,12 +76,15 @@ rack_blamed (Ok x) m units rack blames = tt
 rack_blamed (Err why) m units rack blames = on_rack m units why rack blames
 
 -- of a raw set it is the first disk, or one before the last
+raw_disk : (disks disk : ℕ) → IsGroupDisk (raw_units disks) disk → (disk ≡ 0) ⊎ (disk + 1 < disks)
+raw_disk disks disk (inl first) = inl first
+raw_disk disks disk (inr (v, (low, is))) =
+    let inside : v < disks - 2 = omega (arith, low, length-values_from (λ (j : ℕ). j) 1 (disks - 2)) in
+    let at : unit_of (raw_units disks).vols v ≡ 1 + v = slice_index-values_from 1 (disks - 2) v inside in
+    inr (omega (arith, at, inside, is))
+
 site_disk : (n : Node) (disk : ℕ) → IsGroupDisk (units_of n) disk → IsSiteDisk n disk
-site_disk n disk (inl first) = λ none. inl first
-site_disk n disk (inr (v, (low, is))) =
-    let inside : v < n.disks - 2 = omega (arith, low, length-values_from (λ (j : ℕ). j) 1 (n.disks - 2)) in
-    let at : unit_of (raw_units n.disks).vols v ≡ 1 + v = slice_index-values_from 1 (n.disks - 2) v inside in
-    λ none. inr (omega (arith, at, inside, is))
+site_disk n disk at = λ none. raw_disk n.disks disk (subst (λ (u : Units). IsGroupDisk u disk) (ap (λ (o : Option GroupNode). units_by o n.disks) none) at)
 
 site_blamed : (n : Node) (units : Units) (why : No) → units ≡ units_of n → BlamesGroup units why → BlamesSite n why
 site_blamed n units (Device disk) same blames = site_disk n disk (subst (λ (u : Units). IsGroupDisk u disk) same blames)

@@ -70,8 +70,8 @@ pub room_front : (count : ℕ) (room : List ℕ) → length room ≡ 8192 → co
 room_front count room long few = length-take-le count room (omega (arith, few, long))
 
 -- so a read is by the bytes that were asked for
-pub read_front : {beside : KeptBeside} (n : Node) (c' : Core) (volume start count : ℕ) (room into : List ℕ) (m new : Meaning) (result : Result (Unit {0}) No) → length room ≡ 8192 → count ≤ 8192 → into ≡ take count room
+pub read_front : (beside : KeptBeside) (n : Node) (c' : Core) (volume start count : ℕ) (room into : List ℕ) (m new : Meaning) (result : Result (Unit {0}) No) → length room ≡ 8192 → count ≤ 8192 → into ≡ take count room
     → (CanRead n volume start (blocks_in (take count room)) → ReadAs beside n volume start (blocks_in (take count room)) (take count room) c' m new result) → CanRead n volume start (count / 512) → ReadAs beside n volume start (count / 512) into c' m new result
-read_front {beside} n c' volume start count room into m new result long few is reads =
+read_front beside n c' volume start count room into m new result long few is reads =
     subst (λ (xs : List ℕ). CanRead n volume start (count / 512) → ReadAs beside n volume start (count / 512) xs c' m new result) (sym is)
     (subst (λ (k : ℕ). CanRead n volume start (k / 512) → ReadAs beside n volume start (k / 512) (take count room) c' m new result) (room_front count room long few) reads)

@@ -136,9 +136,9 @@ module _ (c c' : Core) (us us' : List Update) (volume start count : ℕ) (bytes 
   }
 
 -- and it is by the bytes that were asked for
-pub show_front : {beside : KeptBeside} (n : Node) (c' : Core) (us' : List Update) (volume start count : ℕ) (room into : List ℕ) (m new : Meaning) (result : Result (Unit {0}) No) → length room ≡ 8192 → count ≤ 8192 → into ≡ take count room
+pub show_front : (beside : KeptBeside) (n : Node) (c' : Core) (us' : List Update) (volume start count : ℕ) (room into : List ℕ) (m new : Meaning) (result : Result (Unit {0}) No) → length room ≡ 8192 → count ≤ 8192 → into ≡ take count room
     → (CanRead n volume start (blocks_in (take count room)) → ShownAs beside n volume start (blocks_in (take count room)) (take count room) c' us' m new result) → CanRead n volume start (count / 512)
     → ShownAs beside n volume start (count / 512) into c' us' m new result
-show_front {beside} n c' us' volume start count room into m new result long few is shows =
+show_front beside n c' us' volume start count room into m new result long few is shows =
     subst (λ (xs : List ℕ). CanRead n volume start (count / 512) → ShownAs beside n volume start (count / 512) xs c' us' m new result) (sym is)
     (subst (λ (k : ℕ). CanRead n volume start (k / 512) → ShownAs beside n volume start (k / 512) (take count room) c' us' m new result) (room_front count room long few) shows)

@@ -125,7 +125,7 @@ pub(crate) fn write_group<S: Shelf>(
     ensures group { IsMore (logged_count result) rvg.old.core rvg.new.core }
     ensures spends { Spends (S.meaning rvg.old.shelf) (S.meaning rvg.new.shelf) }
     ensures off { IsFalse (S.meaning rvg.old.shelf).down → OffIf result (S.meaning rvg.new.shelf).down }
-    ensures called { (beside : KeptBeside) (n : Node) → IsUpAt beside n rvg.old.core (S.meaning rvg.old.shelf) → BurnsOn IsLogged (said_by result) (S.meaning rvg.old.shelf) (S.meaning rvg.new.shelf) }
+    ensures called { (beside : KeptBeside) (n : Node) → IsUpAt beside n rvg.old.core (S.meaning rvg.old.shelf) → n.group ≡ None → BurnsOn IsLogged (said_by result) (S.meaning rvg.old.shelf) (S.meaning rvg.new.shelf) }
     ensures cuts { IsFalse (S.meaning rvg.old.shelf).down → blocks_in bytes.now < free_of rvg.old.core.log → BodyFits rvg.old.core.log bytes.now → result ≡ Err IsOff → RackIsShort 4 (S.meaning rvg.old.shelf).disks }
     ensures blames { IfErr result (BlamesRack (S.meaning rvg.old.shelf).disks rvg.old.core.units) }
     ensures later { LaterOn (S.meaning rvg.old.shelf) (S.meaning rvg.new.shelf) }

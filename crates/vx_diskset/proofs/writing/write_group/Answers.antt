@@ -1,11 +1,12 @@
 -- A write of a group, case by case.
 use Rattle.std.proofs.Common.{◌∙◌, ◌<◌, ℕ, inl, ap, arith, refl, subst, sym}
 use Rattle.vx_model.specs.Content.{blocks_in}
-use Rattle.std.specs.Prelude.{Err}
+use Rattle.std.specs.Prelude.{Err, Option}
 use Rattle.std.proofs.lemmas.Result.{err_from_is_err_and}
 use Rattle.vx_diskset.proofs.Blamed.{all_blamed_since, unit_blamed}
 use Rattle.vx_diskset.proofs.ExactWrite.{hand_here, first_after, cut_less, exact_is, rack_before}
 use Rattle.vx_diskset.proofs.WriteGroup.{unroomed, written_as, write_cut, wrote_later, wrote_at, wrote_none}
+use Rattle.vx_history.specs.Groups.{GroupNode}
 use Rattle.vx_model.specs.declared.limits.TheConstants.{MOST_NUMBER}
 use Rattle.vx_model.specs.declared.no.No.TheVariants.{Limit, Down}
 use Rattle.vx_model.specs.declared.no.Counted.TheVariants.{Number}
@@ -15,6 +16,7 @@ use Rattle.vx_disk.proofs.Spending.{then_spends}
 use Rattle.vx_diskset.proofs.CallsBurn.{burns_by, burns_still, cut_short, is_logged, least_since, never_off, up_not_off, write_off}
 use Rattle.vx_disk.proofs.Spending.{spends_none}
 use Rattle.vx_rvg.specs.Views.{unit_of}
+use Rattle.vx_diskset.specs.Layouts.{units_by}
 use Rattle.vx_diskset.specs.Rooms.{IsMore, logged_count}
 use Rattle.vx_diskset.proofs.Mores.{more_after, more_down, more_none, more_written}
 use Rattle.vx_diskset.proofs.LeavesNumbers.{never_as, write_takes}
@@ -71,25 +73,25 @@ returns-clause-wrote g c = λ beside n stands can has.
     (λ hand. (c.in_ok-make_room.ensures.idle hand).1) c.write-answer.result c.write-answer.ensures.calls)))
 
 pub returns-then-head-ge-MOST_NUMBER-clause-called : goal.returns-then-head-ge-MOST_NUMBER-clause-called
-returns-then-head-ge-MOST_NUMBER-clause-called g c = λ beside n up. burns_still IsLogged (Limit Number MOST_NUMBER) (g.S.Shelf.meaning c.args.rvg.now.shelf) refl
+returns-then-head-ge-MOST_NUMBER-clause-called g c = λ beside n up raw. burns_still IsLogged (Limit Number MOST_NUMBER) (g.S.Shelf.meaning c.args.rvg.now.shelf) refl
 
 pub returns-in_err-make_room-clause-called : goal.returns-in_err-make_room-clause-called
-returns-in_err-make_room-clause-called g c = λ beside n up.
+returns-in_err-make_room-clause-called g c = λ beside n up raw.
     let p = err_from_is_err_and c.from_residual.result c.from_residual.ensures.1 in
     rw (p.1, p.2) (burns_by IsLogged (Err c.in_err-make_room.field-0.0) (g.S.Shelf.meaning c.args.rvg.now.shelf) (g.S.Shelf.meaning c.make_room.new.rvg.shelf) up.up (c.in_err-make_room.ensures.off up.up) tt c.make_room.ensures.spends)
 
 pub returns-then-is_down-clause-called : goal.returns-then-is_down-clause-called
-returns-then-is_down-clause-called g c = λ beside n up.
+returns-then-is_down-clause-called g c = λ beside n up raw.
     burns_by IsLogged (Err Down) (g.S.Shelf.meaning c.args.rvg.now.shelf) (g.S.Shelf.meaning c.write-answer.new.self.shelf) up.up (sym c.is_down.ensures ∙ c.if-is_down.true) tt
     (then_spends (g.S.Shelf.meaning c.args.rvg.now.shelf) (g.S.Shelf.meaning c.make_room.new.rvg.shelf) (g.S.Shelf.meaning c.write-answer.new.self.shelf) c.make_room.ensures.spends c.write-answer.ensures.spends)
 
 pub returns-clause-called : goal.returns-clause-called
-returns-clause-called g c = λ beside n up.
+returns-clause-called g c = λ beside n up raw.
     burns_by IsLogged c.write-answer.result (g.S.Shelf.meaning c.args.rvg.now.shelf) (g.S.Shelf.meaning c.write-answer.new.self.shelf) up.up
     (write_off c.make_room.new.rvg.core c.args.volume _ c.args.start (blocks_in c.args.bytes.now) c.args.bytes.now (g.S.Shelf.meaning c.make_room.new.rvg.shelf) (g.S.Shelf.meaning c.write-answer.new.self.shelf) c.write-answer.new.self.core c.write-answer.result
     (sym c.is_down.ensures ∙ c.if-is_down.false) c.write-answer.ensures.answers)
     (is_logged c.write-answer.result (g.S.Shelf.meaning c.args.rvg.now.shelf) (g.S.Shelf.meaning c.make_room.new.rvg.shelf) (g.S.Shelf.meaning c.write-answer.new.self.shelf) c.make_room.new.rvg.core.log.unit
-    (c.make_room.new.rvg.sound.log_unit ∙ ap (λ (u : Units). u.srl) (c.make_room.ensures.units ∙ up.units)) c.make_room.ensures.spends
+    (c.make_room.new.rvg.sound.log_unit ∙ ap (λ (u : Units). u.srl) (c.make_room.ensures.units ∙ up.units) ∙ ap (λ (o : Option GroupNode). (units_by o n.disks).srl) raw) c.make_room.ensures.spends
     (least_since 4 c.write-answer.result (g.S.Shelf.meaning c.args.rvg.now.shelf) (g.S.Shelf.meaning c.make_room.new.rvg.shelf) (g.S.Shelf.meaning c.write-answer.new.self.shelf) (c.in_ok-make_room.ensures.off up.up) c.make_room.ensures.spends c.write-answer.ensures.least) c.write-answer.ensures.works)
     (then_spends (g.S.Shelf.meaning c.args.rvg.now.shelf) (g.S.Shelf.meaning c.make_room.new.rvg.shelf) (g.S.Shelf.meaning c.write-answer.new.self.shelf) c.make_room.ensures.spends c.write-answer.ensures.spends)
 

@@ -19,7 +19,7 @@ use Rattle.vx_diskset.proofs.RawSets.{up_there}
 
 pub returns-then-volume-volumes-clause-called : goal.returns-then-volume-volumes-clause-called
 returns-then-volume-volumes-clause-called g c = λ beside n stands raw. record {
-  burns = called_up IsLogged (said_by c.write_group.result) beside n c.args.self.now (Up c.write_group.new.rvg) c.in-Up.rvg c.in-Up.is stands (λ up. burns_up IsLogged (said_by c.write_group.result) c.in-Up.rvg c.write_group.new.rvg (c.write_group.ensures.called beside n up));
+  burns = called_up IsLogged (said_by c.write_group.result) beside n c.args.self.now (Up c.write_group.new.rvg) c.in-Up.rvg c.in-Up.is stands (λ up. burns_up IsLogged (said_by c.write_group.result) c.in-Up.rvg c.write_group.new.rvg (c.write_group.ensures.called beside n up (up_there beside n c.args.self.now c.in-Up.rvg c.in-Up.is stands).0.0));
   cuts = cuts_up beside n c.args.self.now c.in-Up.rvg c.args.bytes.now c.write_group.result c.in-Up.is stands c.write_group.ensures.cuts;
 }
 
