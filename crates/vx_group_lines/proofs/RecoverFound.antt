@@ -57,7 +57,7 @@ use Rattle.vx_group_lines.proofs.RvgAtRest.{AtRest, LookedAt, called_over, first
 use Rattle.vx_group_lines.proofs.RvgComing.{DownCall, down_made, none_after, rest_links, rest_sure, rest_unfused}
 use Rattle.vx_group_lines.proofs.RvgFacts.{up_seen}
 use Rattle.vx_group_lines.proofs.RvgFound.{FoundCall, found_arrives, found_carries, found_ends, found_fails, found_left, found_raises, found_rose, found_says, found_stands_by, found_worked}
-use Rattle.vx_group_lines.proofs.RvgStanding.{RvgOver, rvg_over}
+use Rattle.vx_group_lines.proofs.RvgStanding.{RvgOver, rvg_over, set_volumes}
 
 -- a world that comes to rest, from the one in which the line begins
 rest_down_as : (d e : Doubted) (s : ℕ) → ComesDown d e s → e ≡ rests_world d s 0 false
@@ -203,7 +203,7 @@ module _ {R : Type 0} {g : Ghosts R} where
           stands : StandsFor left new
           stands =
               found_stands_by d (rests_world d s kept taken) (Recover name) s taken old new (Over o) p lit found sits.core sits.config sits.noted
-              (up_seen (beside_of b s) here.node sits.core sits.volumes sits.stands here.same.running here.whole)
+              (up_seen (beside_of b s) here.node sits.core (set_volumes (Over x)) sits.stands here.same.running here.whole)
               (done.0 ∙ ap (λ (fs : List SiteFacts). slice_set fs s (made_facts sits.core sits.config f)) first.facts
               ∙ ap (λ (k : SiteFacts). slice_set old.facts.items s k) (down_made sits.core sits.config b.world s (note_at n) at.down))
 
@@ -325,7 +325,7 @@ module _ {R : Type 0} {g : Ghosts R} where
           stands : StandsFor left new
           stands =
               found_stands_by e e (Recover []) s false old new before p lit (found e [] refl) sits.core sits.config sits.noted
-              (up_seen (beside_of e s) here.node sits.core sits.volumes sits.stands here.same.running here.whole)
+              (up_seen (beside_of e s) here.node sits.core (set_volumes (Over x)) sits.stands here.same.running here.whole)
               (done.0 ∙ ap (λ (fs : List SiteFacts). slice_set fs s (made_facts sits.core sits.config f)) first.facts)
 
           shown : Option Kept

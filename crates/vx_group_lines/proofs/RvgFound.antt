@@ -78,7 +78,7 @@ use Rattle.vx_group_lines.proofs.Arriving.{Arrives, arrives_as, arrives_none, ar
 use Rattle.vx_group_lines.proofs.RvgComing.{some_data}
 use Rattle.vx_group_lines.proofs.RvgFacts.{gained_fact, up_seen}
 use Rattle.vx_group_lines.proofs.RvgGained.{over_noted}
-use Rattle.vx_group_lines.proofs.RvgStanding.{RvgOver, rvg_over}
+use Rattle.vx_group_lines.proofs.RvgStanding.{RvgOver, rvg_over, set_volumes}
 
 -- ---- the node
 
@@ -375,7 +375,7 @@ module _ {R : Type 0} {g : Ghosts R} where
     pub found_stands : new.facts.items ≡ slice_set old.facts.items s (made_facts found_sits.core found_sits.config (fact_of_group ((own_disks taken s d.world h).world.nodes s) (note_at ((own_disks taken s d.world h).world.nodes s)))) → StandsFor found_left new
     found_stands facts =
         found_stands_by found_sits.core found_sits.config found_sits.noted
-        (up_seen (beside_of found_left s) m found_sits.core found_sits.volumes found_sits.stands call.over.same.running call.over.whole) facts
+        (up_seen (beside_of found_left s) m found_sits.core (set_volumes (Over p)) found_sits.stands call.over.same.running call.over.whole) facts
 
     pub found_carries : SameLoad old new → Carries (own_disks taken s d.world h) old → Carries found_left new
     found_carries load carries =

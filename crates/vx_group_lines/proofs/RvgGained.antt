@@ -48,7 +48,7 @@ use Rattle.vx_group_lines.proofs.GroupLeads.{feeds_nobody}
 use Rattle.vx_group_lines.proofs.RvgAt.{RvgAt, asks_config, asks_fits, entries_same}
 use Rattle.vx_group_lines.proofs.RvgCalls.{fused_below}
 use Rattle.vx_group_lines.proofs.RvgFacts.{gained_fact, up_seen}
-use Rattle.vx_group_lines.proofs.RvgStanding.{RvgOver, rvg_over}
+use Rattle.vx_group_lines.proofs.RvgStanding.{RvgOver, rvg_over, set_volumes}
 use Rattle.vx_group_lines.specs.Noting.{made_facts}
 use Rattle.vx_kept.specs.Cleans.{at_serial}
 use Rattle.vx_events.specs.GroupViews.{config_of}
@@ -181,7 +181,7 @@ module _ {R : Type 0} {g : Ghosts R} (d : Doubted) (old new : Yard R g) (name sr
 
       pub seen : made_facts sits.core sits.config (fact_of_group (d.world.nodes s) (note_at (d.world.nodes s))) ≡ fact_over rvg_next.world s
       seen = gained_fact rvg_next.world s n k note gained sits.core sits.config fits_here.0 arrives.node refl (notes_config gained sits.config sits.noted) at.up over (many_apart k many) fits_here.1.rvg fits_here.1.volumes arrives.links refl refl refl
-          (up_seen (beside_of rvg_next s) k sits.core sits.volumes sits.stands none.running (ap (λ (ws : List Write). length ws) none.log ∙ sym none.safe))
+          (up_seen (beside_of rvg_next s) k sits.core (set_volumes after) sits.stands none.running (ap (λ (ws : List Write). length ws) none.log ∙ sym none.safe))
 
       -- the yard stands for the world in which the site has it
       pub gained_stands : new.facts.items ≡ slice_set old.facts.items s (made_facts sits.core sits.config (fact_of_group (d.world.nodes s) (note_at (d.world.nodes s)))) → StandsFor rvg_next new

@@ -56,7 +56,7 @@ use Rattle.vx_group_lines.proofs.Arriving.{Arrives, arrives_noted, noted_at}
 use Rattle.vx_group_lines.proofs.RvgComing.{DownCall, carries_so, down_made, never_receives, rest_links, rest_named, rest_origin, rest_some, rest_sure, rest_unfused, stands_so}
 use Rattle.vx_group_lines.proofs.RvgFacts.{gained_fact, up_seen}
 use Rattle.vx_group_lines.proofs.RvgReturns.{calls_are_of, calls_at, calls_rose, extra_at, group_back, group_keeps, group_works, many_at, named_again}
-use Rattle.vx_group_lines.proofs.RvgStanding.{RvgOver, rvg_over}
+use Rattle.vx_group_lines.proofs.RvgStanding.{RvgOver, rvg_over, set_volumes}
 use Rattle.vx_group_lines.proofs.RvgWorlds.{back_arrives, back_headers, back_up, beside_as, rest_then}
 
 -- a site without a fuse comes up without one
@@ -191,7 +191,7 @@ module _ {R : Type 0} {g : Ghosts R} (d : Doubted) (s kept : ℕ) (taken : Bool)
         (ap (λ (c : Config). c.rvg) (sym same_config) ∙ named.3)
         (subst (λ (c : Config). risen.volumes ≡ map as_volume (data_of c.volumes named.1)) same_config named.4)
         arrives.links refl refl refl
-        (up_seen (beside_of b s) risen came_first.core came_first.volumes came_first.stands refl (omega (arith, came_first.stands.logged, came_first.stands.durable refl)))
+        (up_seen (beside_of b s) risen came_first.core (set_volumes (Over x)) came_first.stands refl (omega (arith, came_first.stands.logged, came_first.stands.durable refl)))
 
     pub risen_stands : new.facts.items ≡ slice_set old.facts.items s (made_facts came_first.core came_first.config (linked_fact (rests_as d s kept taken).world s)) → StandsFor risen_world new
     risen_stands facts =

@@ -22,6 +22,7 @@ use Rattle.vx_diskset.specs.declared.disk_set.DiskSet.TheVariants.{Bare, Spoiled
 use Rattle.vx_diskset.specs.declared.over_set.OverSite.{OverSite}
 use Rattle.vx_diskset.specs.declared.over_set.OverSite.TheVariants.{Origin as OriginSite, Receiver as ReceiverSite, Deported as OverAway, Down as OverFell, Gone as NoOver}
 use Rattle.vx_events.specs.GroupLines.{is_over_group}
+use Rattle.vx_watched.specs.Empty.{no_shelf}
 use Rattle.vx_yard.proofs.OverGroup.{both_ways, set_over}
 
 away_never : (k : Node) → k.state ≡ IsAway → k.state ≡ IsUp → ⊥
@@ -31,12 +32,29 @@ down_never : (k : Node) → k.state ≡ IsDown → k.state ≡ IsUp → ⊥
 down_never k down up = let e : IsDown ≡ IsUp = sym down ∙ up in cc
 
 module _ {R : Type 0} {g : Ghosts R} where
+  -- what the volumes of a site with a replicated volume group hold
+  abbrev pub over_volumes : OverSite R g → Meaning
+  over_volumes (OriginSite f) = laid_volumes f.laid
+  over_volumes (ReceiverSite f) = laid_volumes f.laid
+  over_volumes (OverAway idle) = no_shelf
+  over_volumes (OverFell idle) = no_shelf
+  over_volumes NoOver = no_shelf
+
+  abbrev pub set_volumes : DiskSet R g → Meaning
+  set_volumes (Bare rack) = no_shelf
+  set_volumes (Spoiled rack) = no_shelf
+  set_volumes (Up rvg) = no_shelf
+  set_volumes (Receives s) = no_shelf
+  set_volumes (Down rack) = no_shelf
+  set_volumes (OfGroup s) = no_shelf
+  set_volumes (Over s) = over_volumes s.site
+  set_volumes Gone = no_shelf
+
   -- of the replicated volume group over a group, and of the group
   pub record OriginOver (beside : KeptBeside) (k : Node) (gained : GroupNode) (s : OverSite R g) : Type 0 where
     pub core : Core
-    pub volumes : Meaning
     pub above : core_of (above_site s) ≡ Some core
-    pub stands : IsUpAt beside k core volumes
+    pub stands : IsUpAt beside k core (over_volumes s)
     pub config : Config
     pub has : site_config (below_site s) ≡ Some config
     pub noted : NotesConfig gained config
@@ -45,7 +63,6 @@ module _ {R : Type 0} {g : Ghosts R} where
   origin_over : (beside : KeptBeside) (k : Node) (gained : GroupNode) (s : OverSite R g) → OverStands beside k s → NotedOn (below_rvg k) gained (below_site s) → k.state ≡ IsUp → is_origin k.role ≡ true → OriginOver beside k gained s
   origin_over beside k gained (OriginSite f) it noted up origin = record {
     core = f.core;
-    volumes = laid_volumes f.laid;
     above = refl;
     stands = it;
     config = f.laid.core.inner.config;
@@ -61,9 +78,8 @@ module _ {R : Type 0} {g : Ghosts R} where
   -- of its disk set
   pub record RvgOver (beside : KeptBeside) (k : Node) (gained : GroupNode) (e : DiskSet R g) : Type 0 where
     pub core : Core
-    pub volumes : Meaning
     pub has_core : core_in e ≡ Some core
-    pub stands : IsUpAt beside k core volumes
+    pub stands : IsUpAt beside k core (set_volumes e)
     pub config : Config
     pub has : AtSite (λ x. site_config x ≡ Some config) e
     pub noted : NotesConfig gained config
@@ -78,5 +94,5 @@ module _ {R : Type 0} {g : Ghosts R} where
   rvg_over beside k gained (OfGroup s) it noted apart up origin = absurd (both_ways (set_over beside k s it (λ bare. let e : IsBare ≡ IsUp = sym bare ∙ up in cc)) apart)
   rvg_over beside k gained (Over s) it noted apart up origin =
       let o : OriginOver beside k gained s.site = origin_over beside k gained s.site it.1 noted.0 up origin in
-      record { core = o.core; volumes = o.volumes; has_core = o.above; stands = o.stands; config = o.config; has = o.has; noted = o.noted; up = o.up }
+      record { core = o.core; has_core = o.above; stands = o.stands; config = o.config; has = o.has; noted = o.noted; up = o.up }
   rvg_over beside k gained Gone it noted apart up origin = absurd noted

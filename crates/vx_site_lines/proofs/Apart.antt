@@ -1,6 +1,6 @@
 -- A site of which a line knows that it is over no group of disks.
 use Rattle.std.proofs.Common.{◌≡◌, ◌∙◌, ◌<◌, ℕ, List, length, ap, sym, subst, refl, arith, Bool, false, true}
-use Rattle.std.specs.Prelude.{Option, Some, ◌&&◌, eqb, is_some}
+use Rattle.std.specs.Prelude.{Option, Some, None, ◌&&◌, eqb, is_some, map, if◌then◌else◌}
 use Rattle.vx_model.specs.declared.site.SiteState.TheVariants.{Bare as IsBare, Up as IsUp, Down as IsDown}
 use Rattle.vx_model.proofs.Lists.{get_there}
 use Rattle.vx_history.specs.Doubts.{Doubted}
@@ -15,9 +15,11 @@ use Rattle.vx_diskset.specs.declared.group_set.GroupSet.{GroupSet}
 use Rattle.vx_diskset.proofs.GroupStands.{over_group}
 use Rattle.vx_events.proofs.OverSeats.{fact_apart, over_reads}
 use Rattle.vx_events.proofs.Refused.{Named}
-use Rattle.vx_events.specs.Facts.{seat_of}
+use Rattle.vx_events.specs.Facts.{seat_of, site_fact, volume_fact}
 use Rattle.vx_events.specs.GroupLines.{is_over_group}
-use Rattle.vx_events.specs.LinkedFacts.{linked_fact}
+use Rattle.vx_events.specs.GroupNotes.{note_at}
+use Rattle.vx_events.specs.LinkedFacts.{linked_fact, seen_fact}
+use Rattle.vx_events.specs.RvgViews.{over_table}
 use Rattle.vx_events.specs.StepsOver.{fact_over}
 use Rattle.vx_order.specs.declared.facts.SiteFacts.{SiteFacts}
 use Rattle.vx_diskset.specs.Asked.{LeavesAlone, WritesUnder}
@@ -27,6 +29,7 @@ use Rattle.vx_yard.specs.Standing.{StandsFor}
 use Rattle.vx_yard.specs.declared.yard.Yard.{Yard}
 use Rattle.vx_yard.proofs.NamedSite.{SiteAt, fact_placed, place_at, site_at}
 use Rattle.vx_diskset.proofs.GroupFinding.{over_made}
+use Rattle.vx_yard.proofs.OverGroup.{none_rvg}
 
 -- so is a node with the same group and volumes
 pub over_as : (n m : Node) → m.group ≡ n.group → m.volumes ≡ n.volumes → is_over_group n ≡ false → is_over_group m ≡ false
@@ -35,6 +38,11 @@ over_as n m group volumes apart =
 
 pub over_is : (n m : Node) → m ≡ n → is_over_group n ≡ false → is_over_group m ≡ false
 over_is n m same apart = ap is_over_group same ∙ apart
+
+-- a site that notes no group shows its own volumes
+pub seen_alone : (n : Node) → n.group ≡ None → seen_fact n ≡ site_fact n
+seen_alone n none =
+    ap (λ (b : Bool). let f : SiteFacts = record (site_fact n) { grouped = b; volumes = if b then over_table n (note_at n) else map volume_fact n.volumes } in f) (none_rvg n none)
 
 -- what the tests see of such a site
 pub fact_at : (w : World) (s : ℕ) (f : SiteFacts) → is_over_group (w.nodes s) ≡ false → f ≡ linked_fact w s → f ≡ fact_over w s

@@ -215,7 +215,7 @@ module _ {R : Type 0} {g : Ghosts R} where
             (λ _. begins_apart s (beside_of e s) (e.world.nodes s) after comes.stands (over_is (raw_set s n) (e.world.nodes s) (sym here) (raw_apart s n parts.3)))
             (λ _. noted_none (beside_of e s) (e.world.nodes s) (e.world.nodes s) after comes.stands (ap (λ (m : Node). m.group) (sym here) ∙ parts.3))
             (fact_at e.world s (raw_facts s volumes site) (over_is (raw_set s n) (e.world.nodes s) (sym here) (raw_apart s n parts.3))
-            (raw_fact_of s n site volumes found.fact table parts.0 parts.1 ∙ sym (blank_fact d s (raw_set s n) blank)
+            (raw_fact_of s n site volumes found.fact table parts.3 parts.0 parts.1 ∙ sym (blank_fact d s (raw_set s n) blank)
             ∙ sym (fact_same (raw_set s n) (e.world.nodes s) (d.world.links s) (e.world.links s) d.world.sites e.world.sites (sym here) (λ j. refl) refl)))
             facts;
         rose = rose_still old new s before after changed.there changed.later changed.disk_sets;

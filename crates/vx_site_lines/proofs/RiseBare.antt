@@ -64,7 +64,7 @@ use Rattle.vx_yard.proofs.Lists.{get-set_same, set_twice}
 use Rattle.vx_yard.proofs.NamedSite.{fact_of}
 use Rattle.vx_yard.proofs.NoteSite.{comes_same, one_left}
 use Rattle.vx_yard.proofs.OneSite.{Changed, Comes, beside_same, role_off, rose_at, stands_still, told_by}
-use Rattle.vx_yard.proofs.OverGroup.{noted_none}
+use Rattle.vx_yard.proofs.OverGroup.{none_rvg, noted_none}
 use Rattle.vx_site_lines.proofs.RawSite.{bare_at, bare_sure}
 use Rattle.vx_site_lines.proofs.RiseLeads.{Replaced, never_told}
 use Rattle.vx_yard.proofs.RawSites.{bare_set, raw_site}
@@ -265,7 +265,7 @@ module _ {R : Type 0} {g : Ghosts R} where
         name = ap (λ (x : SiteFacts). x.name) fact_is ∙ sym found.same.name;
         disks = ap (λ (x : SiteFacts). x.disks) fact_is ∙ sym found.same.disks;
         blocks = blocks_is ∙ sym found.same.blocks;
-        grouped = ap (λ (x : SiteFacts). x.grouped) fact_is;
+        grouped = ap (λ (x : SiteFacts). x.grouped) fact_is ∙ none_rvg n none_noted;
         volumes = table ∙ ap (λ (x : SiteFacts). map volume_fact (raw_volumes 1 (x.disks - 2) x.blocks)) fact_is ∙ ap (map volume_fact) (sym found.same.volumes);
       }
 

@@ -43,12 +43,14 @@ use Rattle.vx_yard.specs.declared.yard.Yard.{Yard}
 use Rattle.vx_yard.proofs.Kept.{many_sites}
 use Rattle.vx_yard.proofs.Lists.{set_same}
 use Rattle.vx_yard.proofs.NamedSite.{fact_of}
+use Rattle.vx_yard.proofs.RawSites.{raw_site, raw_told}
 use Rattle.vx_site_lines.proofs.Apart.{bare_over}
 use Rattle.vx_site_lines.proofs.RawSite.{bare_at}
 use Rattle.vx_site_lines.proofs.RiseBare.{none_leads, stands_up_bare, stays_bare, untold_none}
 use Rattle.vx_site_lines.proofs.RiseLeads.{Replaced, stays_down, stood_up, withdrawn}
 use Rattle.vx_site_lines.proofs.RiseLine.{shape_at, sure, told_may, told_origin}
 use Rattle.vx_site_lines.proofs.RiseWorlds.{own_sites}
+use Rattle.vx_diskset.proofs.GroupCalling.{rack_tells}
 use Rattle.vx_diskset.proofs.GroupFinding.{over_made}
 use Rattle.vx_diskset.proofs.GroupStands.{none_apart}
 
@@ -132,7 +134,7 @@ module _ {R : Type 0} {g : Ghosts R} where
         pub rises_again : LeadsFrom mid d (Recover name) (Refused NoConfig) old new
         rises_again =
             withdrawn lawful d h old s ring c taken name number from fit_d stands below down apart ring_is before after there (later_then before up after later fell)
-            (failing_then before up after same fails) new replaced up (beside_of mid s) came.node (λ told. refuted (fell.told told)) came.same
+            (failing_then before up after same fails) new replaced up (beside_of mid s) came.node (λ told. refuted (raw_told up (raw_site (beside_of mid s) came.node up (came.same.group ∙ apart) came.stands) (fell.told (rack_tells after told)))) came.same
             (ap (doubt_of mid.world s) (sure lawful d h old s ring c taken from fit_d stands below down apart ring_is before up there same))
             (crashes (beside_of mid s) came.node came.stands came.same.up)
 
@@ -219,5 +221,8 @@ module _ {R : Type 0} {g : Ghosts R} where
         bare_again after new withdraws fell fails replaced =
             untold_none d old s name number stands below bare before after there (later_then before up after later fell) (failing_then before up after same fails) new replaced
             (withdraws site_alone n rose.node (rose.stands site_alone refl) rose.same.up rose_none (bare_of (beside_of d s) n rose.node before stood_bare bare rose.same.disks rose.same.blocks)
-            (λ told. rose.untold (fell.told told)) (beside_of d s))
-            NoConfig tt (λ told. rose.untold (fell.told told))
+            untold (beside_of d s))
+            NoConfig tt untold
+          where
+            untold : IsToldAt after → ⊥
+            untold told = rose.untold (raw_told up (raw_site site_alone rose.node up rose_none (rose.stands site_alone refl)) (fell.told (rack_tells after told)))

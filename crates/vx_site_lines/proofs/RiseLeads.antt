@@ -59,7 +59,7 @@ use Rattle.vx_yard.proofs.NoteSite.{comes_same}
 use Rattle.vx_yard.proofs.OneSite.{Changed, Comes, beside_same, role_off, rose_at, stands_still, told_by}
 use Rattle.vx_yard.proofs.RawSites.{raw_site, raw_told}
 use Rattle.vx_yard.proofs.RecoverLine.{recover_done, session_fact, told_or}
-use Rattle.vx_site_lines.proofs.Apart.{fact_stays, over_is}
+use Rattle.vx_site_lines.proofs.Apart.{fact_stays, over_is, seen_alone}
 use Rattle.vx_site_lines.proofs.RiseEnds.{begun_ends, found_ends, none_ends, refused_ends, rose_ends, unread_ends}
 use Rattle.vx_site_lines.proofs.RiseLine.{down_h, effect_as, fit_h, found_as, free_h, own_at, own_safe, sure, told_comes, told_kept, told_last, unfused_down, untold_comes, untold_kept}
 use Rattle.vx_site_lines.proofs.RiseSite.{ComesUp, SeesDisks, up_carries, up_stands}
@@ -126,7 +126,7 @@ module _ {R : Type 0} {g : Ghosts R} where
           ∙ ap (λ (k : ℕ). slice_set old.facts.items s (risen_facts state k ring used f)) last_is
 
       sees : (k : Node) → SameDisks m k → SeesDisks k f
-      sees k disks = record { name = sym disks.name; disks = sym disks.disks; blocks = sym disks.blocks; grouped = refl; volumes = ap (map volume_fact) (sym disks.volumes) }
+      sees k disks = record { name = sym disks.name; disks = sym disks.disks; blocks = sym disks.blocks; grouped = ap (λ (x : SiteFacts). x.grouped) (seen_alone m apart); volumes = ap (λ (x : SiteFacts). x.volumes) (seen_alone m apart) ∙ ap (map volume_fact) (sym disks.volumes) }
 
       feeders_are : new.feeders.items ≡ slice_set old.feeders.items s state.other
       feeders_are = rises.feeders ∙ ap (λ fs. slice_set fs.items s state.other) replaced.feeders

@@ -44,7 +44,7 @@ use Rattle.vx_yard.proofs.CrashSite.{beside_sure}
 use Rattle.vx_yard.proofs.Lists.{get-set_other, get-set_same, length-set}
 use Rattle.vx_yard.proofs.OneSite.{Changed, Comes, stands_at, told_by}
 use Rattle.vx_yard.proofs.Rows.{fact_from, fact_same, row_links_same}
-use Rattle.vx_site_lines.proofs.Apart.{fact_at, over_is}
+use Rattle.vx_site_lines.proofs.Apart.{fact_at, over_is, seen_alone}
 use Rattle.vx_diskset.proofs.GroupStands.{none_apart}
 use Rattle.vx_yard.proofs.OverGroup.{begins_apart, noted_none}
 
@@ -123,9 +123,9 @@ group_seen k ring ls w =
     ap (λ (last : ℕ). group_with k last 1 ring None) (sym (head_whole k w.whole)) ∙ ap (λ (low : ℕ). group_with k (head_of k) low ring None) (sym w.low)
     ∙ ap (λ (r : ℕ). group_with k (head_of k) k.low r None) w.ring ∙ ap (λ (h : Option ℕ). group_with k (head_of k) k.low k.ring h) (sym w.running)
 
-pub risen_fact_is : (k : Node) (row : ℕ → Link) (sites ring : ℕ) (used : List ℕ) (f : SiteFacts) → IsWhole k ring → SeesDisks k f → AllPlain row → IsAgain row
+pub risen_fact_is : (k : Node) (row : ℕ → Link) (sites ring : ℕ) (used : List ℕ) (f : SiteFacts) → k.group ≡ None → IsWhole k ring → SeesDisks k f → AllPlain row → IsAgain row
     → AreNeeds k (row_links row sites) used → risen_facts (state_with k (row_links row sites)) k.safe ring used f ≡ fact_from k row sites
-risen_fact_is k row sites ring used f w sees plain again needs =
+risen_fact_is k row sites ring used f none w sees plain again needs =
     let state : State = state_with k (row_links row sites) in
     let links : List LinkFacts = link_facts k row (linked_sites row sites 0 sites) in
     ap (λ (x : List ℕ). facts_with x f.disks f.blocks f.grouped f.volumes Up (Some (up_group state k.safe ring)) (facts_again (row_links row sites) used)) sees.name
@@ -136,6 +136,7 @@ risen_fact_is k row sites ring used f w sees plain again needs =
     ∙ ap (λ (x : RvgFacts). facts_with k.name k.disks k.blocks false (map volume_fact k.volumes) Up (Some x) (facts_again (row_links row sites) used)) (group_seen k ring (row_links row sites) w)
     ∙ ap (λ (x : List LinkFacts). facts_with k.name k.disks k.blocks false (map volume_fact k.volumes) Up (Some (group_fact k)) x) (risen_links k row plain sites used again needs)
     ∙ sym (ap (λ (t : SiteState). facts_with k.name k.disks k.blocks false (map volume_fact k.volumes) t (group_by t k) (links_by t links)) w.up)
+    ∙ sym (ap (λ (x : SiteFacts). let seen : SiteFacts = record x { links = links_by k.state links } in seen) (seen_alone k none))
 
 -- ---- what it sends
 
@@ -188,7 +189,7 @@ module _ {R : Type 0} {g : Ghosts R} where
         (λ _. begins_apart s (beside_of e s) (e.world.nodes s) after comes.stands (over_is k (e.world.nodes s) up.effect.is.node (none_apart k up.none)))
         (λ _. noted_none (beside_of e s) (e.world.nodes s) (e.world.nodes s) after comes.stands (ap (λ (n : Node). n.group) up.effect.is.node ∙ up.none))
         (fact_at e.world s (risen_facts state k.safe ring used f) (over_is k (e.world.nodes s) up.effect.is.node (none_apart k up.none))
-        (ap (λ (x : State). risen_facts x k.safe ring used f) is ∙ risen_fact_is k row mid.world.sites ring used f up.whole sees up.plain up.again needs
+        (ap (λ (x : State). risen_facts x k.safe ring used f) is ∙ risen_fact_is k row mid.world.sites ring used f up.none up.whole sees up.plain up.again needs
         ∙ sym (fact_same k (e.world.nodes s) row (e.world.links s) mid.world.sites e.world.sites up.effect.is.node up.effect.is.links up.effect.site.sites))) facts
 
     -- what it carries

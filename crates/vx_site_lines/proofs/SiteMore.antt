@@ -336,6 +336,7 @@ module _ {R : Type 0} {g : Ghosts R} where
         });
         links = stands.links;
         roles = record { each = λ i x below at. stands.roles.each i x below (was i x below at) };
+        noted = λ i x below at. stands.noted i x below (was i x below at);
         first = stands.first;
         doubts = λ i a is. stands.doubts i a is;
         failing = λ i x below at. stands.failing i x below (was i x below at);

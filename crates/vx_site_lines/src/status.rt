@@ -139,12 +139,7 @@ fn full_view(
 }
 
 /// How a site with these links stands, with the disks and volumes of the group below its replicated volume group.
-pub fn full_at<R: Rack>(
-    yard: &Yard<R>,
-    site: usize,
-    links: LinkViews,
-    room: ViewRoom,
-) -> SiteView
+pub fn full_at<R: Rack>(yard: &Yard<R>, site: usize, links: LinkViews, room: ViewRoom) -> SiteView
     requires site { site < length yard.now.facts.items }
     requires disk_set { site < length yard.now.disk_sets.items }
     requires disks { room.disks ≡ [] }
