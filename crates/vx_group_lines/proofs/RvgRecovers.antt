@@ -1,5 +1,5 @@
 -- What a line that recovers a site whose group has a replicated volume group leads a yard to: one that is up crashes first.
-use Rattle.std.proofs.Common.{◌≡◌, ◌∙◌, ◌⊎◌, ◌<◌, ℕ, Bool, true, false, List, [], length, ap, sym, subst, refl, arith, inl, inr}
+use Rattle.std.proofs.Common.{◌≡◌, ◌∙◌, ◌⊎◌, ◌<◌, ℕ, Bool, true, false, List, [], length, ap, sym, subst, arith, inl, inr}
 use Rattle.std.specs.Prelude.{eqb, is_some, not, ◌&&◌, Option, Some, slice_get, Result, Ok, Err}
 use Rattle.vx_model.specs.declared.errors.OutOfMemory.{OutOfMemory}
 use Rattle.vx_model.specs.declared.site.SiteState.{SiteState}

@@ -1,5 +1,5 @@
 -- A line that crashes a site with a replicated volume group over its group.
-use Rattle.std.proofs.Common.{◌≡◌, ◌∙◌, ◌<◌, ℕ, true, List, [], subst, sym, refl}
+use Rattle.std.proofs.Common.{◌≡◌, ◌<◌, ℕ, true, List, [], subst, sym, refl}
 use Rattle.std.specs.Prelude.{Some}
 use Rattle.vx_disk.specs.declared.shelf.Shelf.{Ghosts}
 use Rattle.vx_history.specs.Doubts.{Doubted}
