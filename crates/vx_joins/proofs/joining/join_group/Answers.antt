@@ -45,3 +45,15 @@ returns-clause-short g c = λ beside n up can.
 
 pub returns-clause-works : goal.returns-clause-works
 returns-clause-works g c = c.change-answer.ensures.works
+
+pub returns-then-is_down-clause-spends : goal.returns-then-is_down-clause-spends
+returns-then-is_down-clause-spends g c = c.change-answer.ensures.spends
+
+pub returns-clause-spends : goal.returns-clause-spends
+returns-clause-spends g c = c.change-answer.ensures.spends
+
+pub returns-then-is_down-clause-later : goal.returns-then-is_down-clause-later
+returns-then-is_down-clause-later g c = record { counts = c.change-answer.ensures.moves.disk_faults; told = λ told. sym c.change-answer.ensures.moves.tells ∙ told }
+
+pub returns-clause-later : goal.returns-clause-later
+returns-clause-later g c = record { counts = c.change-answer.ensures.moves.disk_faults; told = λ told. sym c.change-answer.ensures.moves.tells ∙ told }
