@@ -112,7 +112,7 @@ fn stand_up<R: Rack>(
     cut: Option<CutWrite>,
 ) -> (DiskSet<R>, Result<Option<KeptWrite>, Stop>)
     ensures rises { (n : Node) (note : GroupNode) → UpNoted n note site → RisesWith n note cut site result.0 result.1 }
-    ensures maps { (n : Node) (note : GroupNode) → UpNoted n note site → AtSite (StaysMapped site) result.0 }
+    ensures maps { (n : Node) (note : GroupNode) → UpNoted n note site → AtPlain (StaysMapped site) result.0 }
     ensures since { AtSite (λ e. RisesSince (site_disks site) (site_disks e)) result.0 }
     ensures told { AtSite (λ e. TellsLess (site_below site) (site_below e)) result.0 }
 {
