@@ -12,6 +12,7 @@ ghost use Rattle.vx_yard.specs.Carries.{Carries};
 ghost use Rattle.vx_yard.specs.OfSites.{AsAsked, AsSettled, HasCalled};
 ghost use Rattle.vx_script.specs.declared.line.ScriptLine.TheVariants.{Recover};
 ghost use Rattle.vx_yard.specs.Lines.{is_built};
+ghost use Rattle.vx_yard.specs.LinkLines.{is_on_links};
 ghost use Rattle.vx_yard.specs.Standing.{AnswersIs, GoodFor, StandsFor};
 ghost use Rattle.vx_yard.specs.Working.{IsFree, TakesNoMemory, refused_in, takes_memory};
 ghost use Rattle.vx_yard.specs.Yards.{IsYardKept, IsTold, in_files};
@@ -46,6 +47,26 @@ fn recover<R: Rack>(yard: &mut Yard<R>, alloc: Global, site: &Name) -> Result<Sa
     } else {
         recover_line(yard, alloc, site)
     }
+}
+
+// Does a line on links that no test refuses and that is not open.
+fn work_links<R: Rack>(
+    yard: &mut Yard<R>,
+    alloc: Global,
+    words: &ScriptLine,
+) -> Result<Said, OutOfMemory>
+    requires kind { is_on_links words.now ≡ true }
+    requires kept { IsYardKept yard.old }
+    requires free { IsFree yard.old words.now }
+    ensures leads { (d : Doubted) → StandsFor d yard.old → is_open d.world words.now ≡ false → Carries d yard.old → WorksIs d words.now yard.old yard.new result }
+    ensures asked { (d : Doubted) → StandsFor d yard.old → links_rvg d.world words.now ≡ false → AsAsked d.world words.now yard.old yard.new }
+    ensures called { (d : Doubted) → StandsFor d yard.old → links_rvg d.world words.now ≡ false → IfOk result (λ said. HasCalled d.world words.now said yard.old yard.new) }
+    // Memory is short for no line that takes none.
+    ensures whole { takes_memory words.now ≡ false → IsOk result }
+    ensures told { IsTold yard.new → IsTold yard.old }
+    ensures files { in_files yard.new ≡ in_files yard.old }
+{
+    work_link(yard, alloc, words)
 }
 
 // Does a line that no test refuses and that is not open, whole or not at all.
@@ -119,7 +140,7 @@ fn work<R: Rack>(yard: &mut Yard<R>, alloc: Global, words: &ScriptLine) -> Resul
         | ScriptLine::Resume { .. }
         | ScriptLine::Pump { .. }
         | ScriptLine::Tick { .. }
-        | ScriptLine::Wait { .. } => work_link(yard, alloc, words),
+        | ScriptLine::Wait { .. } => work_links(yard, alloc, words),
         // A line that goes in parts, works on a group alone, or is not built.
         _ => unreachable!(),
     }

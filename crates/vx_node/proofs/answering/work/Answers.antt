@@ -15,9 +15,8 @@ use Rattle.vx_yard.specs.OfSites.{AsAsked, HasCalled, OfSite, ReadsBy}
 use Rattle.vx_events.proofs.RefusedCalls.{read_may, show_may, write_may}
 use Rattle.vx_diskset.specs.Asked.{LeavesAlone, SameFailing}
 use Rattle.vx_diskset.proofs.KeepsFailing.{alone_same, failing_same}
-use Rattle.vx_node.proofs.LinkKinds.{links_make_none, links_no_group, links_no_rvg}
 use Rattle.vx_above.proofs.Works.{leads_whole, works_either, works_short, works_whole}
-use Rattle.vx_events.proofs.Opens.{open_data, open_inside, open_links}
+use Rattle.vx_events.proofs.Opens.{open_data, open_inside}
 use Rattle.vx_events.specs.OpenLines.{is_open}
 use Rattle.vx_events.specs.RvgLinks.{links_rvg}
 use Rattle.vx_node.proofs.Built.{neither}
@@ -281,21 +280,17 @@ returns-in_err-room-in-Show-clause-asked g c = λ d stands goes off links.
     (subst (λ (b : Bool). OfSite (ReadsBy b) (site_number d.world c.in-Show.site) y y) (sym apart)
     (unbegun_site LeavesAlone d y c.in-Show.site alone_same stands (show_may y.facts.items (in_files y) c.in-Show.site c.in-Show.volume c.in-Show.block c.in-Show.count free).site))
 
-pub work_link-requires-clause-free : goal.work_link-requires-clause-free
-work_link-requires-clause-free g c = λ κs lives. c.requires.free
+pub work_links-requires-clause-free : goal.work_links-requires-clause-free
+work_links-requires-clause-free g c = λ κs lives. c.requires.free
 
 pub returns-in-Set-clause-leads : goal.returns-in-Set-clause-leads
-returns-in-Set-clause-leads g c = λ d stands goes closed carries good.
-    let words = c.args.words.now in
-    let on = c.work_link.requires.kind in
-    works_whole d words c.args.yard.now c.work_link.new.yard (links_make_none words on) closed (links_no_rvg d.world words on) c.work_link.result (links_no_group d.world words on)
-    (c.work_link.ensures.leads d stands (open_links d.world words closed) carries)
+returns-in-Set-clause-leads g c = λ d stands goes closed carries good. c.work_links.ensures.leads d stands closed carries
 
 pub returns-in-Set-clause-asked : goal.returns-in-Set-clause-asked
-returns-in-Set-clause-asked g c = λ d stands goes off links. c.work_link.ensures.asked d stands links
+returns-in-Set-clause-asked g c = λ d stands goes off links. c.work_links.ensures.asked d stands links
 
 pub returns-in-Set-clause-called : goal.returns-in-Set-clause-called
-returns-in-Set-clause-called g c = λ d stands goes off links carries good. c.work_link.ensures.called d stands links
+returns-in-Set-clause-called g c = λ d stands goes off links carries good. c.work_links.ensures.called d stands links
 
 pub deliver_line-requires-clause-free : goal.deliver_line-requires-clause-free
 deliver_line-requires-clause-free g c = λ κs lives. subst (λ line. IsFree c.args.yard.now line) c.in-Deliver.is c.requires.free
@@ -361,4 +356,4 @@ pub returns-in_err-room-in-Show-clause-whole : goal.returns-in_err-room-in-Show-
 returns-in_err-room-in-Show-clause-whole g c = λ none. memory_taken c.args.words.now _ c.in-Show.is refl none
 
 pub returns-in-Set-clause-whole : goal.returns-in-Set-clause-whole
-returns-in-Set-clause-whole g c = λ none. c.work_link.ensures.whole none
+returns-in-Set-clause-whole g c = λ none. c.work_links.ensures.whole none
