@@ -1,5 +1,5 @@
 -- How the parts of a run are put together.
-use Rattle.std.proofs.Common.{◌≡◌, ◌≤◌, ◌<◌, ℕ, suc, ◌+◌, Bool, List, [], ◌∷◌, ◌++◌, length, Option, Some, None, Result, Ok, Err, refl, arith, ap, sym, subst, ◌∙◌, append_assoc, append-nil}
+use Rattle.std.proofs.Common.{◌≡◌, ◌≤◌, ◌<◌, ℕ, suc, ◌+◌, Bool, List, [], ◌∷◌, ◌++◌, length, Option, Some, None, Result, Ok, Err, refl, arith, ap, sym, subst, ◌∙◌, append_assoc, append-nil, inl}
 use Rattle.std.specs.List.{concat}
 use Rattle.std.specs.Io.KnownBytes.{Appends}
 use Rattle.vx_history.specs.Doubts.{Doubted}
@@ -83,7 +83,7 @@ one_part line others fails text = record { lines = line ∷ []; others = others;
 
 -- nothing of the next line was done
 none_of_line : (told : Type 0) (r : Result (Option ScriptLine) ℕ) (w : Doubted) → PartOfLine told r w w
-none_of_line told (Ok (Some words)) w = StopsInPart (none_done w words)
+none_of_line told (Ok (Some words)) w = inl (StopsInPart (none_done w words))
 none_of_line told (Ok None) w = refl
 none_of_line told (Err column) w = refl
 

@@ -1,5 +1,5 @@
 -- How a run ends, by its status.
-use Rattle.std.specs.Prelude.{◌≡◌, ℕ, ◌+◌, ◌≤◌, ◌<◌, Bool, false, List, [], ◌∷◌, ◌++◌, length, Option, Some, None, Result, Ok, Err}
+use Rattle.std.specs.Prelude.{◌≡◌, ℕ, ◌+◌, ◌≤◌, ◌<◌, Bool, false, List, [], ◌∷◌, ◌++◌, length, Option, Some, None, Result, Ok, Err, true}
 use Rattle.std.specs.List.{concat}
 use Rattle.std.specs.Io.KnownBytes.{Appends}
 use Rattle.vx_history.specs.Doubts.{Doubted}
@@ -10,9 +10,11 @@ use Rattle.vx_yard.specs.Stands.{RoseAll}
 use Rattle.vx_events.specs.Fails.{Fails}
 use Rattle.vx_events.specs.OpenLines.{EndsRun}
 use Rattle.vx_events.specs.Parts.{may_stop}
-use Rattle.vx_events.specs.RvgParts.{ShortFull}
+use Rattle.vx_events.specs.RvgParts.{ShortFull, short_place}
+use Rattle.vx_events.specs.RvgViews.{is_over_rvg}
 use Rattle.vx_script.specs.Lines.{split_lines, whole_lines_of}
 use Rattle.vx_script.specs.declared.line.ScriptLine.{ScriptLine}
+use Rattle.vx_script.specs.declared.line.ScriptLine.TheVariants.{Recover, Rvg}
 use Rattle.vx_cli.specs.Reading.{MayHave}
 use Rattle.vx_cli.specs.Runs.{RunsLines, fails_of_lines}
 use Rattle.vx_cli.specs.Texts.{bad_text, IsTextCut}
@@ -89,9 +91,15 @@ abbrev pub PartOfNext : Type 0 → List (List ℕ) → Doubted → Doubted → T
 PartOfNext told [] d last = last ≡ d
 PartOfNext told (line ∷ lines) d last = PartOfLine told (script_line line) d last
 
+-- whether want of memory may leave a part of a line that makes a replicated volume group, or of a recovery of a site that has one over its group
+abbrev pub may_short : World → ScriptLine → Bool
+may_short w (Rvg site srl maps volumes) = true
+may_short w (Recover site) = is_over_rvg (w.nodes (short_place w (Recover site)))
+may_short w other = false
+
 -- a line that was read is none of which want of memory may leave a part
 abbrev pub GoesWhole : World → Result (Option ScriptLine) ℕ → Type 0
-GoesWhole w (Ok (Some words)) = may_stop w words ≡ false
+GoesWhole w (Ok (Some words)) = (may_stop w words ≡ false) × (may_short w words ≡ false)
 GoesWhole w (Ok None) = Unit {0}
 GoesWhole w (Err column) = Unit {0}
 

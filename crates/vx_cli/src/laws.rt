@@ -13,7 +13,8 @@ ghost use Rattle.vx_cli.specs.Runs.{RunsLines};
 ghost use Rattle.vx_cli.specs.declared.status.Status.{Status};
 
 /// A run ends in the world behind the lines that it did, unless memory ran out in one that settles a link, behind the crash with which a group that is up is
-/// recovered, in the recovery of disks that may not agree, or in the import of a group: no other is done in part.
+/// recovered, in the recovery of disks that may not agree, in the import of a group, in the recovery of one with a replicated volume group, or in a line that makes
+/// one: no other is done in part.
 pub fn no_line_is_done_in_part()
     ensures { (told : Bool) (status : Status) (others : List (List ℕ)) (d last : Doubted) → NextGoesWhole d.world others → LastWorld (told ≡ true) status others d last → last ≡ d }
 {}
