@@ -7,8 +7,8 @@ use Rattle.vx_events.specs.Facts.{place_of}
 use Rattle.vx_order.specs.declared.facts.VolumeFacts.{VolumeFacts}
 use Rattle.vx_group_lines.proofs.rvg.number_seen.Goals as goal
 
-pub overflow_cast-number : goal.overflow_cast-number
-overflow_cast-number c =
+pub overflow_cast-result : goal.overflow_cast-result
+overflow_cast-result c =
     let is : place_of c.args.facts.now.volumes c.args.name.now ≡ Some c.in-Some.number = sym c.place.ensures ∙ c.in-Some.is in
     let low = position_within (λ (v : VolumeFacts). bytes_eq v.name c.args.name.now) c.args.facts.now.volumes c.in-Some.number is in
     omega (arith, low, c.requires.few)
