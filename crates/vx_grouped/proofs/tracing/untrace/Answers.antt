@@ -2,7 +2,6 @@
 use Rattle.std.proofs.Common.{◌∙◌, IsTrue, ap, subst}
 use Rattle.vx_loggroup.specs.Fresh.{FreshStands}
 use Rattle.vx_loggroup.specs.LoggedVolumes.{LoggedStands}
-use Rattle.vx_loggroup.specs.Settled.{SettledFact}
 use Rattle.vx_untold.specs.Shades.{rack_of}
 use Rattle.vx_grouped.proofs.TraceLemmas.{carried_off, off}
 use Rattle.vx_grouped.proofs.tracing.untrace.Goals as goal
