@@ -230,7 +230,7 @@ pub returns-then-is_down-clause-cause : goal.returns-then-is_down-clause-cause
 returns-then-is_down-clause-cause g c = sym c.is_down.ensures ∙ c.if-is_down.true
 
 pub returns-then-is_down-2-clause-cause : goal.returns-then-is_down-2-clause-cause
-returns-then-is_down-2-clause-cause g c = sym c.is_down-2.ensures ∙ c.if-is_down-2.true
+returns-then-is_down-2-clause-cause g c = sym c.is_down-in-Err.ensures ∙ c.if-is_down-2.true
 
 pub returns-else-is_down-clause-missed : goal.returns-else-is_down-clause-missed
 returns-else-is_down-clause-missed g c = tt
