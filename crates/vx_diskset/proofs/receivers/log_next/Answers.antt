@@ -59,12 +59,6 @@ returns-in_err-write_group-clause-later g c = c.write_group.ensures.later
 pub returns-in_err-write_group-clause-spends : goal.returns-in_err-write_group-clause-spends
 returns-in_err-write_group-clause-spends g c = c.write_group.ensures.spends
 
-pub returns-in_err-write_group-clause-stamp : goal.returns-in_err-write_group-clause-stamp
-returns-in_err-write_group-clause-stamp g c = let p = err_from_is_err_and c.from_residual.result c.from_residual.ensures.1 in rw (p.1, p.2) tt
-
-pub returns-in_err-write_group-clause-group : goal.returns-in_err-write_group-clause-group
-returns-in_err-write_group-clause-group g c = let p = err_from_is_err_and c.from_residual.result c.from_residual.ensures.1 in rw (p.1, p.2) c.in_err-write_group.ensures.group
-
 pub returns-in_err-write_group-clause-off : goal.returns-in_err-write_group-clause-off
 returns-in_err-write_group-clause-off g c = λ up. let p = err_from_is_err_and c.from_residual.result c.from_residual.ensures.1 in rw (p.1, p.2) (c.in_err-write_group.ensures.off up)
 
