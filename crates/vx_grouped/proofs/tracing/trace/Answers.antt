@@ -2,7 +2,6 @@
 use Rattle.std.proofs.Common.{◌∙◌, ap, sym}
 use Rattle.vx_loggroup.specs.Fresh.{FreshStands}
 use Rattle.vx_loggroup.specs.LoggedVolumes.{LoggedStands}
-use Rattle.vx_loggroup.specs.Settled.{SettledFact}
 use Rattle.vx_grouped.proofs.TraceLemmas.{carried_on, off}
 use Rattle.vx_grouped.proofs.tracing.trace.Goals as goal
 
@@ -11,9 +10,6 @@ together-requires-clause-stands g c = carried_on (λ m. LoggedStands c.apart-she
 
 pub together-requires-clause-begins : goal.together-requires-clause-begins
 together-requires-clause-begins g c = carried_on (λ m. FreshStands c.apart-shelf.result.1.core c.apart-shelf.result.1.fresh m) c.apart-shelf.result.0 c.traced.result c.traced.ensures c.apart-shelf.ensures.begins
-
-pub together-requires-clause-settles : goal.together-requires-clause-settles
-together-requires-clause-settles g c = carried_on (λ m. SettledFact c.apart-shelf.result.1.core c.apart-shelf.result.1.alike m) c.apart-shelf.result.0 c.traced.result c.traced.ensures c.apart-shelf.ensures.settles
 
 pub returns-clause-core : goal.returns-clause-core
 returns-clause-core g c = c.together.ensures.core ∙ c.apart-shelf.ensures.core ∙ c.together-group.ensures.core

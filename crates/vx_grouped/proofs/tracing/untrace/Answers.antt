@@ -2,7 +2,6 @@
 use Rattle.std.proofs.Common.{◌∙◌, IsTrue, ap, subst}
 use Rattle.vx_loggroup.specs.Fresh.{FreshStands}
 use Rattle.vx_loggroup.specs.LoggedVolumes.{LoggedStands}
-use Rattle.vx_loggroup.specs.Settled.{SettledFact}
 use Rattle.vx_untold.specs.Shades.{rack_of}
 use Rattle.vx_grouped.proofs.TraceLemmas.{carried_off, off}
 use Rattle.vx_grouped.proofs.tracing.untrace.Goals as goal
@@ -12,9 +11,6 @@ together-inside-requires-clause-stands g c = carried_off (λ m. LoggedStands c.a
 
 pub together-inside-requires-clause-begins : goal.together-inside-requires-clause-begins
 together-inside-requires-clause-begins g c = carried_off (λ m. FreshStands c.apart-shelf.result.1.core c.apart-shelf.result.1.fresh m) c.untraced.result c.apart-shelf.result.0 c.untraced.ensures.shade c.apart-shelf.ensures.begins
-
-pub together-inside-requires-clause-settles : goal.together-inside-requires-clause-settles
-together-inside-requires-clause-settles g c = carried_off (λ m. SettledFact c.apart-shelf.result.1.core c.apart-shelf.result.1.alike m) c.untraced.result c.apart-shelf.result.0 c.untraced.ensures.shade c.apart-shelf.ensures.settles
 
 pub returns-clause-core : goal.returns-clause-core
 returns-clause-core g c = c.of.ensures.core ∙ c.together-inside.ensures.core ∙ c.apart-shelf.ensures.core
