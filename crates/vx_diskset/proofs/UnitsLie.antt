@@ -121,7 +121,7 @@ module _ (vs : List VolumeEntry) (u : Units) (is : is_group vs u ≡ true) where
     }
 
 -- the configuration is checked
-sound_group : (c : Config) (u : Units) → is_sound c ≡ true → c.rvg ≡ Some u → is_group c.volumes u ≡ true
+pub sound_group : (c : Config) (u : Units) → is_sound c ≡ true → c.rvg ≡ Some u → is_group c.volumes u ≡ true
 unfolding is_sound
 sound_group c u sound at =
     let group : group_or_none c.volumes c.rvg ≡ true = (and_parts _ (group_or_none c.volumes c.rvg) sound).1 in
