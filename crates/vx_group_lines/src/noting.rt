@@ -57,17 +57,26 @@ pub(crate) fn group_stopped<R: Rack>(
     }
 }
 
-// The volumes of a configuration as the tests see them, by what each is to its replicated volume group; none where there is no configuration.
+// The volumes of a configuration as the tests see them, by what each is to its replicated volume group.
+fn table_over(config: &Config, room: VolumeRoom) -> VolumeTable
+    requires empty { room ≡ [] }
+    requires sound { is_sound config.now ≡ true }
+    ensures { result ≡ kinds_by config.now.rvg config.now.volumes }
+{
+    match &config.rvg {
+        Some(units) => kinds_seen(room, config.volumes.as_slice(), units),
+        None => volumes_seen(room, config.volumes.as_slice()),
+    }
+}
+
+// So they are seen where there may be no configuration: none then.
 fn table_of(config: Option<&Config>, room: VolumeRoom) -> VolumeTable
     requires empty { room ≡ [] }
     requires sound { (c : ConfigValue) → option_copied config ≡ Some c → is_sound c ≡ true }
     ensures { result ≡ kinds_of (option_copied config.entry) }
 {
     match config {
-        Some(config) => match &config.rvg {
-            Some(units) => kinds_seen(room, config.volumes.as_slice(), units),
-            None => volumes_seen(room, config.volumes.as_slice()),
-        },
+        Some(config) => table_over(config, room),
         None => room.into_table(),
     }
 }
