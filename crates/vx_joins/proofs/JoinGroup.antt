@@ -29,7 +29,7 @@ use Rattle.vx_rvg.specs.Views.{Core, last_of}
 use Rattle.vx_events.proofs.Places.{some_same}
 use Rattle.vx_secondary.specs.Receivers.{Wait}
 use Rattle.vx_diskset.specs.DiskSets.{halted_at, no_number}
-use Rattle.vx_grouped.specs.SetFuses.{HasFuse}
+use Rattle.vx_diskset.specs.Fuses.{FuseOn}
 use Rattle.vx_diskset.specs.Holds.{KeptBeside, HasSite, HasWrites, KeptSite, MayBe, most_with, state_with, sure_of}
 use Rattle.vx_diskset.specs.Lasts.{HasLast, StandsHolding}
 use Rattle.vx_diskset.specs.Layouts.{LiesOn}
@@ -143,7 +143,7 @@ module _ {beside : KeptBeside} (a : Node) (p : ℕ) (n : Node) (c c' : Core) (m 
   abbrev blocks : Blocks
   blocks = change_blocks (Some 0) c m
 
-  fuse_here : HasFuse (burned n.fuse) new
+  fuse_here : FuseOn (burned n.fuse) new
   fuse_here = fuse_moved n.fuse blocks (Saving c (emptied_core c a p n) m) m new moves up.fuse
 
   lies_here : LiesOn n new
