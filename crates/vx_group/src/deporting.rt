@@ -90,7 +90,6 @@ fn close<S: Shelf>(shelf: &mut S, core: &mut Inner) -> Result<(), ShelfError>
 /// Answers 19 exactly where fewer than 65,536 serials are left, and then nothing has changed; else 7 only where the count of the disk that
 /// it names rose, and 6 only where the shelf is then down. After a refusal the group stands, without the plexes that were detached, and to
 /// its volumes nothing was written. It takes no memory.
-#[tactic(auto, using(crate::proofs::BehindLemmas::group_still))]
 pub fn deport_in<S: Shelf>(shelf: &mut S, core: &mut GroupCore) -> Result<(), Stop>
     requires stands { GroupStands core.old (S.meaning shelf.old) }
     ensures limit { greatest - margin < core.old.inner.config.serial → (result ≡ Err (Refused (Limit Numbers greatest))) × (core.new ≡ core.old) × (shelf.new ≡ shelf.old) }

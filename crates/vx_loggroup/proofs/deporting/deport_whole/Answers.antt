@@ -61,6 +61,12 @@ returns-in-Ok-clause-up g c = c.in-Ok.ensures.up
 pub returns-in-Ok-clause-back : goal.returns-in-Ok-clause-back
 returns-in-Ok-clause-back g c = tt
 
+pub returns-in-Ok-clause-finds : goal.returns-in-Ok-clause-finds
+returns-in-Ok-clause-finds g c = tt
+
+pub returns-in-Ok-clause-settles : goal.returns-in-Ok-clause-settles
+returns-in-Ok-clause-settles g c = tt
+
 pub returns-in-Err-clause-up : goal.returns-in-Err-clause-up
 returns-in-Err-clause-up g c = tt
 
