@@ -45,7 +45,7 @@ returns-clause-logs g c = λ beside n r can.
     (subst (λ b. HasRoom beside.links (durable_of n) c.head-last.result (blocks_in b)) (sym c.as_bytes-bytes.ensures.bytes) room))))
 
 pub write_group-requires-clause-volume : goal.write_group-requires-clause-volume
-write_group-requires-clause-volume g c κs within =
+write_group-requires-clause-volume g c =
     (can_parts c.args.rvg.now.core (g.S.Shelf.meaning c.args.rvg.now.shelf).size c.in-Some.update.now (c.requires.waits.fits 0 c.in-Some.update.now (sym c.in-Some.ensures))).0
 
 pub returns-in_err-write_group-clause-blames : goal.returns-in_err-write_group-clause-blames

@@ -16,6 +16,9 @@ returns-in-Up-clause-stops g c = λ beside n stands raw origin state apart none.
     subst (λ e. IfErr c.pump_group.result (PumpStop n (pump_asks c.args.link.now n.safe) (faults_at e) (faults_at (Up c.pump_group.new.rvg)))) (sym c.in-Up.is)
     (c.pump_group.ensures.stops beside n (up_there beside n c.args.self.now c.in-Up.rvg c.in-Up.is stands).1 none (λ own. disks_are (g.R.Shelf.meaning c.in-Up.rvg.shelf) (is_rack c.in-Up.rvg.shelf)))
 
+pub returns-in-Up-clause-more : goal.returns-in-Up-clause-more
+returns-in-Up-clause-more g c = λ beside n stands. c.pump_group.ensures.more beside n (up_there beside n c.args.self.now c.in-Up.rvg c.in-Up.is stands).1
+
 pub returns-in-Over-clause-pumped : goal.returns-in-Over-clause-pumped
 returns-in-Over-clause-pumped g c = λ d k stands raw origin up apart none told there is flight. absurd (subst (λ e. IsRawSet e) c.in-Over.is raw)
 
