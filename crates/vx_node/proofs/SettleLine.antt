@@ -105,22 +105,28 @@ module _ {R : Type 0} {g : Ghosts R} where
       two (λ all origin stored. settle_leads d first second old new all origin stored))
 
   end_at : (d : Doubted) (old new : Yard R g) (first second : List ℕ) (i j : ℕ) → site_number d.world first ≡ i → site_number d.world second ≡ j → (why : No) → EndedFor i j d (settling d.world i j) why old new
-      → i < d.world.sites → j < d.world.sites → Leads d (Settle first second) (Refused why) old new
+      → i < d.world.sites → j < d.world.sites → is_over_rvg (d.world.nodes i) ≡ false → is_over_rvg (d.world.nodes j) ≡ false → Leads d (Settle first second) (Refused why) old new
   end_at d old new first second i j one two why =
-      subst (λ (k : ℕ). EndedFor k j d (settling d.world k j) why old new → k < d.world.sites → j < d.world.sites → Leads d (Settle first second) (Refused why) old new) one
-      (subst (λ (l : ℕ). EndedFor (site_number d.world first) l d (settling d.world (site_number d.world first) l) why old new → site_number d.world first < d.world.sites → l < d.world.sites → Leads d (Settle first second) (Refused why) old new) two
-      (λ end here there. settle_ended d first second old new why end here there))
+      subst
+      (λ (k : ℕ). EndedFor k j d (settling d.world k j) why old new → k < d.world.sites → j < d.world.sites → is_over_rvg (d.world.nodes k) ≡ false → is_over_rvg (d.world.nodes j) ≡ false → Leads d (Settle first second) (Refused why) old new)
+      one
+      (subst
+      (λ (l : ℕ). EndedFor (site_number d.world first) l d (settling d.world (site_number d.world first) l) why old new → site_number d.world first < d.world.sites → l < d.world.sites
+      → is_over_rvg (d.world.nodes (site_number d.world first)) ≡ false → is_over_rvg (d.world.nodes l) ≡ false → Leads d (Settle first second) (Refused why) old new)
+      two (λ end here there off off_too. settle_ended d first second old new why end here there off off_too))
 
   short_at : (d : Doubted) (old mid new : Yard R g) (first second : List ℕ) (i j : ℕ) → site_number d.world first ≡ i → site_number d.world second ≡ j → (x : Event) (rest : List Event) (m : Doubted)
-      → (CalmTold (IsTold new) d → settling d.world i j ≡ x ∷ rest) → SettleWorks (CalmTold (IsTold new) d) i j d (x ∷ []) m → RoseAll [] (count_of old) (count_of mid) → i < d.world.sites → j < d.world.sites → ShortFor i j m rest mid new → StopsFor d (Settle first second) old new
+      → (CalmTold (IsTold new) d → settling d.world i j ≡ x ∷ rest) → SettleWorks (CalmTold (IsTold new) d) i j d (x ∷ []) m → RoseAll [] (count_of old) (count_of mid) → i < d.world.sites → j < d.world.sites → is_over_rvg (d.world.nodes i) ≡ false → is_over_rvg (d.world.nodes j) ≡ false
+      → ShortFor i j m rest mid new → StopsFor d (Settle first second) old new
   short_at d old mid new first second i j one two x rest m =
       subst
-      (λ (k : ℕ). (CalmTold (IsTold new) d → settling d.world k j ≡ x ∷ rest) → SettleWorks (CalmTold (IsTold new) d) k j d (x ∷ []) m → RoseAll [] (count_of old) (count_of mid) → k < d.world.sites → j < d.world.sites → ShortFor k j m rest mid new → StopsFor d (Settle first second) old new)
+      (λ (k : ℕ). (CalmTold (IsTold new) d → settling d.world k j ≡ x ∷ rest) → SettleWorks (CalmTold (IsTold new) d) k j d (x ∷ []) m → RoseAll [] (count_of old) (count_of mid) → k < d.world.sites → j < d.world.sites → is_over_rvg (d.world.nodes k) ≡ false → is_over_rvg (d.world.nodes j) ≡ false
+      → ShortFor k j m rest mid new → StopsFor d (Settle first second) old new)
       one
       (subst
       (λ (l : ℕ). (CalmTold (IsTold new) d → settling d.world (site_number d.world first) l ≡ x ∷ rest) → SettleWorks (CalmTold (IsTold new) d) (site_number d.world first) l d (x ∷ []) m → RoseAll [] (count_of old) (count_of mid) → site_number d.world first < d.world.sites
-      → l < d.world.sites → ShortFor (site_number d.world first) l m rest mid new → StopsFor d (Settle first second) old new)
-      two (λ split works rose here there short. settle_short d first second old new x rest m mid split works rose here there short))
+      → l < d.world.sites → is_over_rvg (d.world.nodes (site_number d.world first)) ≡ false → is_over_rvg (d.world.nodes l) ≡ false → ShortFor (site_number d.world first) l m rest mid new → StopsFor d (Settle first second) old new)
+      two (λ split works rose here there off off_too short. settle_short d first second old new x rest m mid split works rose here there off off_too short))
 
   module _ (d : Doubted) (old mid new : Yard R g) (first second : List ℕ) (a b before head : ℕ) (serves : SettlesFor first second a b d old) (one : OnFor first second a b d (ConnectAt a b ∷ []) old mid)
       (sent : before ≡ length d.world.packets) (durable : head ≡ (d.world.nodes a).safe) where
@@ -149,7 +155,7 @@ module _ {R : Type 0} {g : Ghosts R} where
     line_ended why end =
         let all = went_as first second a b d ((ConnectAt a b ∷ []) ++ settled_on a b before head one.next.world) (settling d.world a b) old new (Ended why) (λ tells. all_is tells end.told)
         (went_then first second a b d (ConnectAt a b ∷ []) (settled_on a b before head one.next.world) old mid new (Ended why) (refl, tt) one end) in
-        end_at d old new first second a b serves.from serves.to why all serves.may.can.first serves.may.can.second
+        end_at d old new first second a b serves.from serves.to why all serves.may.can.first serves.may.can.second serves.raw serves.raw_too
 
     -- memory ran out
     pub line_short : ShortFor a b one.next (settled_on a b before head one.next.world) mid new → StopsFor d (Settle first second) old new
@@ -157,7 +163,7 @@ module _ {R : Type 0} {g : Ghosts R} where
         let w = one.works in
         let works : SettleWorks (CalmTold (IsTold new) d) a b d (ConnectAt a b ∷ []) one.next
         = record { exact = λ tells. w.exact (short.told tells.0, tells.1); moves = w.moves } in
-        short_at d old mid new first second a b serves.from serves.to (ConnectAt a b) (settled_on a b before head one.next.world) one.next (λ tells. sym (all_is tells short.told)) works one.rose serves.may.can.first serves.may.can.second short
+        short_at d old mid new first second a b serves.from serves.to (ConnectAt a b) (settled_on a b before head one.next.world) one.next (λ tells. sym (all_is tells short.told)) works one.rose serves.may.can.first serves.may.can.second serves.raw serves.raw_too short
 
     -- what is done may count as memory that ran out
     pub on_short : OnFor first second a b one.next (settled_on a b before head one.next.world) mid new → ShortFor a b one.next (settled_on a b before head one.next.world) mid new
