@@ -15,11 +15,11 @@ pub loop-init : goal.loop-init
 loop-init g c = logged_none c.args.waiting.now c.args.rvg.now.core (g.S.Shelf.meaning c.args.rvg.now.shelf)
 
 pub log_next-requires-clause-waits : goal.log_next-requires-clause-waits
-log_next-requires-clause-waits g c κs within =
+log_next-requires-clause-waits g c =
     still_waits c.args.waiting.now c.loop.counter c.args.rvg.now.core c.loop.rvg.core c.loop.rvg.core (g.S.Shelf.meaning c.args.rvg.now.shelf) (g.S.Shelf.meaning c.loop.rvg.shelf) (g.S.Shelf.meaning c.loop.rvg.shelf) c.loop.waiting c.loop.invariant c.requires.waits
 
 pub log_next-requires-clause-some : goal.log_next-requires-clause-some
-log_next-requires-clause-some g c κs within =
+log_next-requires-clause-some g c =
     some_waits c.args.waiting.now c.loop.counter c.args.rvg.now.core c.loop.rvg.core c.loop.rvg.core (g.S.Shelf.meaning c.args.rvg.now.shelf) (g.S.Shelf.meaning c.loop.rvg.shelf) (g.S.Shelf.meaning c.loop.rvg.shelf) c.loop.waiting c.loop.invariant
     (omega (arith, c.loop-test.true, c.requires.some))
 
@@ -67,7 +67,7 @@ pub returns-clause-waits : goal.returns-clause-waits
 returns-clause-waits g c = still_waits c.args.waiting.now c.loop.counter c.args.rvg.now.core c.loop.rvg.core c.loop.rvg.core (g.S.Shelf.meaning c.args.rvg.now.shelf) (g.S.Shelf.meaning c.loop.rvg.shelf) (g.S.Shelf.meaning c.loop.rvg.shelf) c.loop.waiting c.loop.invariant c.requires.waits
 
 pub log_next-requires-clause-numbers : goal.log_next-requires-clause-numbers
-log_next-requires-clause-numbers g c κs within =
+log_next-requires-clause-numbers g c =
     numbers_left c.args.waiting.now c.loop.counter c.args.rvg.now.core c.loop.rvg.core c.loop.rvg.core (g.S.Shelf.meaning c.args.rvg.now.shelf) (g.S.Shelf.meaning c.loop.rvg.shelf) (g.S.Shelf.meaning c.loop.rvg.shelf) c.loop.waiting c.loop.invariant
     c.args.count (omega (arith, c.loop-test.true)) c.requires.numbers
 

@@ -35,7 +35,7 @@ pub returns-then-few-eq0-clause-brought : goal.returns-then-few-eq0-clause-broug
 returns-then-few-eq0-clause-brought g c = λ beside n stands can is. absurd (cc)
 
 pub apply_oldest-requires-clause-numbers : goal.apply_oldest-requires-clause-numbers
-apply_oldest-requires-clause-numbers g c κs within =
+apply_oldest-requires-clause-numbers g c =
     has_them c.in-Receives.site.rvg.core c.min-few.result (ap (λ (k : ℕ). has_numbers c.in-Receives.site.rvg.core k) (sym c.from-in-Receives.ensures) ∙ sym c.has_numbers.ensures ∙ c.if-not-has_numbers.false)
 
 pub returns-else-not-has_numbers-clause-called : goal.returns-else-not-has_numbers-clause-called
