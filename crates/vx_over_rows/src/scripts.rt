@@ -32,10 +32,6 @@ pub fn group() -> [Row; 5] {
 /// What makes a replicated volume group of them.
 pub const RVG: Row = ("rvg a srl=log1 dcm=maps vols=v", "done");
 
-/// What the status shows of the group while all disks work.
-pub const WHOLE: &str =
-    "site a up\ndisk 0 ok\ndisk 1 ok\nvol log1 64 none off\nplex 0 ACTIVE\nplex 1 ACTIVE\nvol maps 8 none off\nplex 0 ACTIVE\nplex 1 ACTIVE\nvol v 256 none off\nplex 0 ACTIVE\nplex 1 ACTIVE\n";
-
 // A script, and the replies that it should get.
 #[derive(Drop)]
 struct Run {
