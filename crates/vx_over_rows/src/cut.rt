@@ -28,8 +28,8 @@ const MAKING: &str =
 // Behind the write that may be cut: a recovery, and the blocks.
 const WRITING: &str = "recover a\nread a v 0 3\n";
 
-// More calls than either line makes.
-const MANY: u64 = 150;
+// More calls than either line makes: the first one makes twenty-four, of which the last eight are its commit.
+const MANY: u64 = 36;
 
 // The script with the fuse.
 fn script(
