@@ -10,7 +10,7 @@ use Rattle.vx_site_lines.proofs.RiseCases.{bare_again, bare_not, bare_up}
 use Rattle.vx_site_lines.proofs.recover.rise_found.Goals as goal
 
 pub make_raw-requires : goal.make_raw-requires
-make_raw-requires g c κs within =
+make_raw-requires g c =
     let found = get_at c.args.yard.now.facts.items c.args.site c.index_mut-in-Up.result.now c.requires.facts c.index_mut-in-Up.ensures.value in
     omega (arith, c.requires.least, (c.requires.raw c.index_mut-in-Up.result.now found).size)
 
