@@ -4,6 +4,8 @@
 #[cfg(test)]
 mod cut;
 #[cfg(test)]
+mod done;
+#[cfg(test)]
 mod failing;
 #[cfg(test)]
 mod kept;
@@ -13,5 +15,3 @@ mod lines;
 mod open;
 #[cfg(test)]
 mod over_groups;
-#[cfg(test)]
-mod scripts;
