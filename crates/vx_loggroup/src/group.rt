@@ -76,7 +76,6 @@ impl<S: Shelf> LoggedGroup<S> {
     ///
     /// Answers 4 exactly where a disk has fewer than 1,024 blocks, and then nothing has changed; else 7 only where the count of the disk
     /// that it names rose, and 6 only where the shelf is then down. Where none is made the shelf is handed back. It takes memory.
-    #[tactic(auto, using(crate::proofs::SettledFacts::settled_new))]
     pub fn create(alloc: Global, shelf: S, site: u32) -> Result<LoggedGroup<S>, (S, Stop)>
         requires some { 0 < (S.meaning shelf).units }
         requires few { (S.meaning shelf).units ≤ MOST_DISKS }

@@ -328,12 +328,12 @@ pub returns-in-Ok-lose_gone-clause-settles : goal.returns-in-Ok-lose_gone-clause
 returns-in-Ok-lose_gone-clause-settles g c =
     then_told (wide c.args.core.now) (wide c.att_whole.new.core) (wide c.lose_gone.new.core) (g.S.Shelf.meaning c.args.shelf.now) (g.S.Shelf.meaning c.take_map.new.shelf) (g.S.Shelf.meaning c.lose_gone.new.shelf)
     (then_told (wide c.args.core.now) (wide c.att_whole.new.core) (wide c.att_whole.new.core) (g.S.Shelf.meaning c.args.shelf.now) (g.S.Shelf.meaning c.att_whole.new.shelf) (g.S.Shelf.meaning c.take_map.new.shelf) c.att_whole.ensures.settles
-    (wide_maps_idle c.att_whole.new.core c.args.vol (g.S.Shelf.meaning c.att_whole.new.shelf) (g.S.Shelf.meaning c.take_map.new.shelf) (take_map-requires-clause-stands g c).group c.take_map.ensures.below c.take_map.ensures.less).settles)
+    (wide_maps_idle c.att_whole.new.core c.args.vol (g.S.Shelf.meaning c.att_whole.new.shelf) (g.S.Shelf.meaning c.take_map.new.shelf) c.att_whole.ensures.stands.group c.take_map.ensures.below c.take_map.ensures.less).settles)
     c.lose_gone.ensures.settles
 
 pub returns-in-Err-lose_gone-clause-settles : goal.returns-in-Err-lose_gone-clause-settles
 returns-in-Err-lose_gone-clause-settles g c =
     then_told (wide c.args.core.now) (wide c.att_whole.new.core) (wide c.lose_gone.new.core) (g.S.Shelf.meaning c.args.shelf.now) (g.S.Shelf.meaning c.take_map.new.shelf) (g.S.Shelf.meaning c.lose_gone.new.shelf)
     (then_told (wide c.args.core.now) (wide c.att_whole.new.core) (wide c.att_whole.new.core) (g.S.Shelf.meaning c.args.shelf.now) (g.S.Shelf.meaning c.att_whole.new.shelf) (g.S.Shelf.meaning c.take_map.new.shelf) c.att_whole.ensures.settles
-    (wide_maps_idle c.att_whole.new.core c.args.vol (g.S.Shelf.meaning c.att_whole.new.shelf) (g.S.Shelf.meaning c.take_map.new.shelf) (take_map-requires-clause-stands g c).group c.take_map.ensures.below c.take_map.ensures.less).settles)
+    (wide_maps_idle c.att_whole.new.core c.args.vol (g.S.Shelf.meaning c.att_whole.new.shelf) (g.S.Shelf.meaning c.take_map.new.shelf) c.att_whole.ensures.stands.group c.take_map.ensures.below c.take_map.ensures.less).settles)
     c.lose_gone.ensures.settles
