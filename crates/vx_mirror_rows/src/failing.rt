@@ -2,9 +2,8 @@
 use std::alloc::Global;
 use std::str::from_utf8;
 use std::test::Fail;
-use vx_cli::Status;
 use vx_model::OutOfMemory;
-use vx_runs::answers_with;
+use vx_runs::{Status, answers_with};
 
 // A plex misses a write, as its disk fails, and is attached by its map; then what a first try left undone is tried again, and the blocks are
 // read on each plex.

@@ -4,9 +4,8 @@ use std::str::from_utf8;
 use std::sync::Wait;
 use std::test::Fail;
 use std::thread::Threads;
-use vx_cli::Status;
 use vx_model::OutOfMemory;
-use vx_runs::answers;
+use vx_runs::{Status, answers};
 
 // The fuse, and the line that it stands before.
 #[derive(Clone, Copy, Drop)]

@@ -3,7 +3,7 @@ use std::fs;
 use std::sync::Wait;
 use std::test::Fail;
 use std::thread::Threads;
-use vx_cli::{OpenGate, Status, fresh_racks, vx_main};
+use vx_runs::{OpenGate, Status, fresh_racks, vx_main};
 use vx_stream::{MemSink, MemSource};
 
 fn remove(rt: &HostRuntime) {

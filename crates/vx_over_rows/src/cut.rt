@@ -4,9 +4,8 @@ use std::str::from_utf8;
 use std::sync::Wait;
 use std::test::Fail;
 use std::thread::Threads;
-use vx_cli::Status;
 use vx_model::OutOfMemory;
-use vx_runs::answers;
+use vx_runs::{Status, answers};
 
 // Three mirrors, of which two have eight blocks.
 const GROUP: &str =

@@ -2,9 +2,8 @@
 use std::alloc::Global;
 use std::sync::Wait;
 use std::thread::Threads;
-use vx_cli::Status;
 use vx_model::OutOfMemory;
-use vx_runs::answers;
+use vx_runs::{Status, answers};
 
 /// Whether the run of a script is done, with these replies.
 pub fn is_done<H: Threads + Wait + Sync>(

@@ -4,9 +4,8 @@ use std::str::from_utf8;
 use std::sync::Wait;
 use std::test::Fail;
 use std::thread::Threads;
-use vx_cli::Status;
 use vx_model::OutOfMemory;
-use vx_runs::answers_with;
+use vx_runs::{Status, answers_with};
 
 // A write, a crash, and two recoveries, each with a read behind it.
 const SCRIPT: &[u8] =

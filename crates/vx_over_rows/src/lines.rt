@@ -1,8 +1,7 @@
 // The refusals of the line that makes a replicated volume group, and of lines at a site that has one.
 use crate::done::is_done;
 use std::test::Fail;
-use vx_cli::Status;
-use vx_runs::answers;
+use vx_runs::{Status, answers};
 
 #[test]
 fn the_line_is_refused(rt: HostRuntime) -> Result<(), Fail> {

@@ -1,8 +1,7 @@
 // Disks that fail.
 use crate::done::is_done;
 use std::test::Fail;
-use vx_cli::Status;
-use vx_runs::answers_with;
+use vx_runs::{Status, answers_with};
 
 // The first call on the disks is the log's, on disk 0.
 #[test]

@@ -1,8 +1,7 @@
 // Ends that fail, and ends that give and take a byte at a time.
 use crate::bytes::{ByteSink, ByteSource};
 use std::test::Fail;
-use vx_cli::Status;
-use vx_runs::run_over;
+use vx_runs::{Status, run_over};
 use vx_stream::{MemSink, MemSource};
 
 const SCRIPT: &[u8] = b"site a 3 64\nraw a\nwrite a d1 3 1 5a\nread a d1 3 1\n";

@@ -7,11 +7,11 @@ use std::str::from_utf8;
 use std::sync::Wait;
 use std::test::Fail;
 use std::thread::Threads;
-use vx_cli::{OpenGate, Status, fresh_racks, vx_main};
 use vx_disk::{MemShelf, Rack, Shelf};
 use vx_filedisk::HostRack;
 use vx_model::limits::LEAST_BLOCKS;
 use vx_model::{Units, VolumeUnits};
+use vx_runs::{OpenGate, Status, fresh_racks, vx_main};
 use vx_rvg::Rvg;
 use vx_stream::{Failed, MemSink, MemSource, Sink};
 

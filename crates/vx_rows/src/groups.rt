@@ -1,8 +1,7 @@
 // Sites whose disks are a group of mirrors, word for word.
 use crate::done::is_done;
 use std::test::Fail;
-use vx_cli::Status;
-use vx_runs::answers;
+use vx_runs::{Status, answers};
 
 // A plex is detached under a fuse, and its group comes back without it, once the disk of the other one works again.
 #[test]

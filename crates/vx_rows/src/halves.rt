@@ -1,8 +1,7 @@
 // Lines of links that a failing disk or a fuse ends: what they were doing stands behind a recovery, or does not.
 use crate::done::is_done;
 use std::test::Fail;
-use vx_cli::Status;
-use vx_runs::answers;
+use vx_runs::{Status, answers};
 
 // The second site came to the line of the first one, or did not. The first one has no link.
 #[test]

@@ -1,8 +1,7 @@
 // The greatest numbers that a script meets, and what has no other test: two groups in a run, a block that is put to one, and one beside a raw set.
 use crate::done::is_done;
 use std::test::Fail;
-use vx_cli::Status;
-use vx_runs::answers;
+use vx_runs::{Status, answers};
 
 #[test]
 fn a_run_has_at_most_8_sites(rt: HostRuntime) -> Result<(), Fail> {

@@ -1,8 +1,7 @@
 // Links between sites, and the packets on them.
 use crate::done::is_done;
 use std::test::Fail;
-use vx_cli::Status;
-use vx_runs::answers;
+use vx_runs::{Status, answers};
 
 // A ring of 8 blocks. The link that goes by the log comes back with what its receiver has stored.
 #[test]

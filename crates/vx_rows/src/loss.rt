@@ -1,9 +1,8 @@
 // A link that loses each third packet and brings each fifth twice, beside the rules of its two ends in numbers alone.
 use std::alloc::Global;
 use std::test::Fail;
-use vx_cli::Status;
 use vx_model::OutOfMemory;
-use vx_runs::run_over;
+use vx_runs::{Status, run_over};
 use vx_stream::{MemSink, MemSource};
 
 const MADE: &[u8] =

@@ -4,9 +4,8 @@ use crate::row::{CLOSING, LINES, MADE, Site, lines};
 use std::alloc::Global;
 use std::str::from_utf8;
 use std::test::Fail;
-use vx_cli::Status;
 use vx_model::OutOfMemory;
-use vx_runs::answers;
+use vx_runs::{Status, answers};
 
 // The lines, with a crash of the site behind the first `place` of them.
 fn script_of_crash(

@@ -1,8 +1,7 @@
 // Crashes, recoveries, and writes that are brought to their volumes.
 use crate::done::is_done;
 use std::test::Fail;
-use vx_cli::Status;
-use vx_runs::answers;
+use vx_runs::{Status, answers};
 
 #[test]
 fn written_blocks_come_back_after_a_crash(rt: HostRuntime) -> Result<(), Fail> {

@@ -4,9 +4,8 @@ use std::process::Abort;
 use std::sync::Wait;
 use std::test::Fail;
 use std::thread::Threads;
-use vx_cli::Status;
 use vx_model::OutOfMemory;
-use vx_runs::answers;
+use vx_runs::{Status, answers};
 
 const MADE: &[u8] =
     b"site a 3 64\nraw a\nsite b 3 64\nraw b\nlink a b synchronous=fail srlprot=fail\nconnect a b\nwrite a d1 0 1 11\nwait a 1\npump a b\n";

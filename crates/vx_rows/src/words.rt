@@ -1,8 +1,7 @@
 // The first run, and words that are no call.
 use crate::done::is_done;
 use std::test::Fail;
-use vx_cli::Status;
-use vx_runs::run_over;
+use vx_runs::{Status, run_over};
 use vx_stream::{MemSink, MemSource};
 
 #[test]

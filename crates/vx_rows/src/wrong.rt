@@ -1,8 +1,7 @@
 // Lines that are wrong, and the last line.
 use crate::done::is_done;
 use std::test::Fail;
-use vx_cli::Status;
-use vx_runs::answers;
+use vx_runs::{Status, answers};
 
 #[test]
 fn a_command_that_is_not_known_ends_the_run(rt: HostRuntime) -> Result<(), Fail> {

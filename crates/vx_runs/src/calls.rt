@@ -1,5 +1,5 @@
 // A run of a script, and what came of it.
-use crate::fresh_racks;
+use crate::racks::fresh_racks;
 use std::alloc::Global;
 use std::sync::Wait;
 use std::thread::Threads;

@@ -5,4 +5,4 @@ mod calls;
 mod racks;
 
 pub use calls::{Answer, answers, answers_with, run_over};
-pub use racks::fresh_racks;
+pub use vx_cli::{OpenGate, Status, fresh_racks, vx_main};
