@@ -120,9 +120,9 @@ module _ (unit : ℕ) (old mid new : Meaning) (done blocks : ℕ) (at : RewriteL
   stays_first stays = record { before = λ down. stays.before (at.goes.falls down); after = stays.before }
 
   pub loop_cause : {T : Type 0} (r : Result T ShelfError) → Cause mid new unit r → Cause old new unit r
-  loop_cause (Ok x) stays = record { before = λ down. stays.before (at.goes.falls down); after = stays.after }
-  loop_cause (Err (Fault disk)) cause = Cause_both old mid new unit (Err (Fault disk)) (stays_first cause.1) at.goes.faults at.goes.disk_faults cause
-  loop_cause (Err Down) down = down
+  loop_cause {T} (Ok x) stays = record { before = λ down. stays.before (at.goes.falls down); after = stays.after }
+  loop_cause {T} (Err (Fault disk)) cause = Cause_both {T = T} old mid new unit (Err (Fault disk)) (stays_first cause.1) at.goes.faults at.goes.disk_faults cause
+  loop_cause {T} (Err Down) down = down
 
 -- the flush behind it
 pub loop_left : {T E : Type 0} (r : Result T E) (unit : ℕ) (old mid new : Meaning) (done blocks : ℕ) → RewriteLoop unit old mid done blocks → blocks ≡ old.size unit → blocks ≤ done → Goes Nothing mid new → OnOk r (Flushed unit mid new) → OnOk r (OneRests unit new)

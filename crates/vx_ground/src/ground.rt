@@ -2,8 +2,8 @@
 ghost use Rattle.std.specs.Prelude.{◌≡◌, ℕ};
 ghost use Rattle.vx_ground.specs.Accounts.{GroundSince, ground_state};
 
+use crate::calls::{flush_few, write_few};
 use crate::founding::Founding;
-use crate::numbers::few_disk;
 use std::marker::PhantomData;
 use vx_disk::{Shelf, ShelfError};
 use vx_loggroup::LoggedGroup;
@@ -59,15 +59,11 @@ impl<S: Shelf, B: Founding> Shelf for Ground<S, B> {
     }
 
     fn write(&mut self, unit: u32, block: u64, bytes: &[u8]) -> Result<(), ShelfError> {
-        let answer = self.group.write(unit, block, bytes);
-        few_disk(&answer);
-        answer
+        write_few(&mut self.group, unit, block, bytes)
     }
 
     fn flush(&mut self, unit: u32) -> Result<(), ShelfError> {
-        let answer = self.group.flush(unit);
-        few_disk(&answer);
-        answer
+        flush_few(&mut self.group, unit)
     }
 
     fn faults(&self, unit: u32) -> u64 {

@@ -4,6 +4,7 @@
 //! proofs alone, what became of its configuration since the call began. `work_over` does so with any `Work` on a shelf.
 #![tactic(auto)]
 
+mod calls;
 mod founding;
 mod ground;
 mod lifting;

@@ -1,7 +1,7 @@
 -- The racks as they come back from their disk sets.
 use Rattle.std.proofs.Common.{◌≡◌, ◌∙◌, ◌++◌, ◌≤◌, inl, ℕ, zero, suc, List, [], ◌∷◌, length, ap, append_assoc, sym, subst, refl, arith, IsTrue, true, false}
 use Rattle.std.specs.Prelude.{Option, Some, None, drop, map, reverse, slice_get, take}
-use Rattle.std.proofs.lemmas.List.{append-nil, reverse-append}
+use Rattle.std.proofs.lemmas.List.{append-nil, reverse-append, reverse-reverse}
 use Rattle.std.specs.Option.{option_and_then}
 use Rattle.vx_history.specs.World.{Node}
 use Rattle.vx_model.specs.declared.site.SiteState.TheVariants.{Bare as IsBare, Up as IsUp, Down as IsDown}
@@ -89,6 +89,11 @@ pub put_more : {A B : Type 0} (f : A → B) (sets new : List B) (racks rest : Li
 put_more {A} {B} f sets new racks rest r front is =
     ap (λ (xs : List B). xs ++ map f (reverse rest)) is ∙ append_assoc sets (f r ∷ []) (map f (reverse rest))
     ∙ ap (λ (ys : List A). sets ++ map f ys) (sym (ap (λ (ys : List A). reverse ys) front ∙ reverse-append rest (r ∷ [])))
+
+-- none has come yet
+pub put_first : {A B : Type 0} (f : A → B) (sets : List B) (racks rest : List A) → sets ≡ [] → rest ≡ reverse racks → sets ++ map f (reverse rest) ≡ map f racks
+put_first {A} {B} f sets racks rest none is =
+    ap (λ (xs : List B). xs ++ map f (reverse rest)) none ∙ ap (λ (ys : List A). map f ys) (ap (λ (ys : List A). reverse ys) is ∙ reverse-reverse racks)
 
 -- none is left
 pub put_all : {A B : Type 0} (f : A → B) (sets : List B) (racks all : List A) → racks ≡ [] → sets ++ map f (reverse racks) ≡ map f all → sets ≡ map f all
@@ -403,6 +408,11 @@ module _ {R : Type 0} {g : Ghosts R} where
   -- all were given back
   pub given_all : (racks : List R) (sets all : List (DiskSet R g)) → sets ≡ [] → racks ++ racks_in (reverse sets) ≡ racks_in all → racks ≡ racks_in all
   given_all racks sets all none whole = sym (append-nil racks) ∙ sym (ap (λ (es : List (DiskSet R g)). racks ++ racks_in (reverse es)) none) ∙ whole
+
+  pub given_first : (racks : List R) (sets rest : List (DiskSet R g)) → racks ≡ [] → rest ≡ reverse sets → racks ++ racks_in (reverse rest) ≡ racks_in sets
+  given_first racks sets rest none is =
+      ap (λ (xs : List R). xs ++ racks_in (reverse rest)) none
+      ∙ ap (λ (es : List (DiskSet R g)). racks_in es) (ap (λ (es : List (DiskSet R g)). reverse es) is ∙ reverse-reverse sets)
 
   pub given_back : (racks new : List R) (sets rest : List (DiskSet R g)) (e : DiskSet R g) → sets ≡ rest ++ e ∷ [] → new ≡ racks ++ rack_in e → new ++ racks_in (reverse rest) ≡ racks ++ racks_in (reverse sets)
   given_back racks new sets rest e front is =

@@ -28,7 +28,7 @@ together-requires g c = record {
       (each_idle _ c.apart-shelf.result.1.core c.set_rvg_in-answer.new.core (g.S.Shelf.meaning c.apart-shelf.result.0) (g.S.Shelf.meaning c.set_rvg_in-answer.new.shelf) c.apart-shelf.ensures.stands.group c.set_rvg_in-answer.ensures.narrows.shape c.set_rvg_in-answer.ensures.goes c.set_rvg_in-answer.ensures.narrows.acts);
   begins = fresh_still c.apart-shelf.result.1.core c.set_rvg_in-answer.new.core c.apart-shelf.result.1.fresh (g.S.Shelf.meaning c.apart-shelf.result.0) (g.S.Shelf.meaning c.set_rvg_in-answer.new.shelf) c.set_rvg_in-answer.ensures.goes c.apart-shelf.ensures.begins;
   settles = settled_same c.apart-shelf.result.1.core c.set_rvg_in-answer.new.core c.apart-shelf.result.1.alike (g.S.Shelf.meaning c.apart-shelf.result.0) (g.S.Shelf.meaning c.set_rvg_in-answer.new.shelf) c.set_rvg_in-answer.ensures.finds
-      (volumes_few c.apart-shelf.result.1.core c.set_rvg_in-answer.new.core (g.S.Shelf.meaning c.apart-shelf.result.0) (g.S.Shelf.meaning c.set_rvg_in-answer.new.shelf) Nothing c.set_rvg_in-answer.ensures.goes) c.apart-shelf.ensures.settles;
+      (volumes_few c.apart-shelf.result.1.core c.set_rvg_in-answer.new.core (g.S.Shelf.meaning c.apart-shelf.result.0) (g.S.Shelf.meaning c.set_rvg_in-answer.new.shelf) Nothing c.set_rvg_in-answer.ensures.goes) c.set_rvg_in-answer.ensures.goes.falls c.apart-shelf.ensures.settles;
 }
 
 pub returns-clause-refused : goal.returns-clause-refused

@@ -2,8 +2,17 @@
 use Rattle.std.proofs.Common.{◌≡◌, ◌∙◌, ◌++◌, ◌∷◌, ◌<◌, [], length, length-append, ap, arith, rules, vec_len}
 use Rattle.std.specs.Vec.{vec_capacity}
 use Rattle.vx_diskset.specs.declared.disk_set.DiskSet.TheVariants.{Bare}
-use Rattle.vx_yard.proofs.IntoRacks.{put_all, put_more}
+use Rattle.vx_yard.proofs.IntoRacks.{put_all, put_more, put_first}
 use Rattle.vx_yard.proofs.racks.put_racks.Goals as goal
+
+pub loop-rack-init : goal.loop-rack-init
+loop-rack-init g c = record {
+  racks = omega (arith, c.reverse.ensures.capacity);
+  filled = λ none room. record {
+    room = (let empty : length c.args.disk_sets.items ≡ 0 = ap (λ es. length es) none in omega (arith, room, empty, c.args.disk_sets.ok, c.reverse.ensures.len));
+    whole = put_first (λ r. Bare r) c.args.disk_sets.items c.args.racks.items c.reverse.new.self.items none c.reverse.ensures.items;
+  };
+}
 
 pub loop-rack-preserved : goal.loop-rack-preserved
 loop-rack-preserved g c =

@@ -2,8 +2,14 @@
 use Rattle.std.proofs.Common.{◌≡◌, ◌∙◌, ◌++◌, ◌∷◌, ◌<◌, [], length, length-append, ap, arith, rules, vec_len}
 use Rattle.std.specs.Vec.{vec_capacity}
 use Rattle.vx_yard.specs.Racks.{rack_in}
-use Rattle.vx_yard.proofs.IntoRacks.{given_all, given_back, rack_few}
+use Rattle.vx_yard.proofs.IntoRacks.{given_all, given_back, given_first, rack_few}
 use Rattle.vx_yard.proofs.racks.take_racks.Goals as goal
+
+pub loop-disk_set-init : goal.loop-disk_set-init
+loop-disk_set-init g c = λ none room. record {
+  room = (let empty : length c.args.racks.items ≡ 0 = ap (λ rs. length rs) none in omega (arith, room, empty, c.args.racks.ok, c.reverse.ensures.len));
+  whole = given_first c.args.racks.items c.args.disk_sets.items c.reverse.new.self.items none c.reverse.ensures.items;
+}
 
 pub loop-disk_set-preserved : goal.loop-disk_set-preserved
 loop-disk_set-preserved g c = λ none room.

@@ -6,7 +6,7 @@ use Rattle.vx_ground.proofs.ground.GroundShelf.write.Goals as goal
 pub invariant_of-self : goal.invariant_of-self
 invariant_of-self g c = record {
   counts = c.args.self.now.counts;
-  since = since_loses g.B.Founding.state c.args.self.now.group.core c.write-answer.new.self.core g.B.Founding.disks (g.S.Shelf.meaning c.args.self.now.group.shelf) (g.S.Shelf.meaning c.write-answer.new.self.shelf)
-      (c.args.self.now.counts c.args.self.now.group.shelf) (c.args.self.now.counts c.write-answer.new.self.shelf) c.args.self.now.since (narrow_sound c.args.self.now.group.core (g.S.Shelf.meaning c.args.self.now.group.shelf) c.args.self.now.group.stands.group) c.write-answer.ensures.goes.disk_faults c.write-answer.ensures.goes.falls c.write-answer.ensures.loses
-      c.args.unit c.write-answer.result c.write-answer.ensures.finds c.write-answer.ensures.cause c.few_disk.ensures c.write-answer.ensures.trust;
+  since = since_loses g.B.Founding.state c.args.self.now.group.core c.write_few.new.group.core g.B.Founding.disks (g.S.Shelf.meaning c.args.self.now.group.shelf) (g.S.Shelf.meaning c.write_few.new.group.shelf)
+      (c.args.self.now.counts c.args.self.now.group.shelf) (c.args.self.now.counts c.write_few.new.group.shelf) c.args.self.now.since (narrow_sound c.args.self.now.group.core (g.S.Shelf.meaning c.args.self.now.group.shelf) c.args.self.now.group.stands.group) c.write_few.ensures.goes.disk_faults c.write_few.ensures.goes.falls c.write_few.ensures.loses
+      c.args.unit c.write_few.result c.write_few.ensures.finds c.write_few.ensures.cause c.write_few.ensures.few c.write_few.ensures.trust;
 }
