@@ -296,7 +296,7 @@ module _ {R : Type 0} {g : Ghosts R} where
         abbrev left : Doubted
         left = found_left d d (Recover name) s false old new before p (burned n.fuse) call
 
-        sits : RvgOver (beside_of (found_left d d (Recover name) s false old new before p (burned (d.world.nodes s).fuse) call) s) call.over.node call.over.next (Over p)
+        abbrev sits : RvgOver (beside_of (found_left d d (Recover name) s false old new before p (burned (d.world.nodes s).fuse) call) s) call.over.node call.over.next (Over p)
         sits = found_sits d d (Recover name) s false old new before p (burned n.fuse) call
 
         arrives : Arrives d (found_left d d (Recover name) s false old new before p (burned (d.world.nodes s).fuse) call) s call.over.node (d.world.gathering s)

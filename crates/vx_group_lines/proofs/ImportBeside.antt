@@ -195,7 +195,7 @@ module _ {R : Type 0} {g : Ghosts R} where
 
     -- one with a replicated volume group came up
     module _ (p : OverSet R g) (is : after ≡ Over p) (brought : ImportsIn before after (Ok tt)) (found : PlainFound (beside_of d s) (d.world.nodes s) (note_at (d.world.nodes s)) p) where
-      here : FoundOver (beside_of d s) (d.world.nodes s) (burned (d.world.nodes s).fuse) p
+      abbrev here : FoundOver (beside_of d s) (d.world.nodes s) (burned (d.world.nodes s).fuse) p
       here = found.over
 
       up : IsTrue (site_disks (site_in p)).down → ⊥
@@ -219,7 +219,7 @@ module _ {R : Type 0} {g : Ghosts R} where
             (stands.fuses s before call.at.below call.changed.there);
       }
 
-      sits : RvgOver (beside_of (found_left d d (GroupImport name) s false old new before p (burned (d.world.nodes s).fuse) rests) s) rests.over.node rests.over.next (Over p)
+      abbrev sits : RvgOver (beside_of (found_left d d (GroupImport name) s false old new before p (burned (d.world.nodes s).fuse) rests) s) rests.over.node rests.over.next (Over p)
       sits = found_sits d d (GroupImport name) s false old new before p (burned n.fuse) rests
 
       over_leads : SameLoad old new
