@@ -296,7 +296,7 @@ module _ {R : Type 0} {g : Ghosts R} where
         abbrev left : Doubted
         left = found_left d d (Recover name) s false old new before p (burned n.fuse) call
 
-        abbrev sits : RvgOver (beside_of (found_left d d (Recover name) s false old new before p (burned (d.world.nodes s).fuse) call) s) call.over.node call.over.next (Over p)
+        sits : RvgOver (beside_of (found_left d d (Recover name) s false old new before p (burned (d.world.nodes s).fuse) call) s) call.over.node call.over.next (Over p)
         sits = found_sits d d (Recover name) s false old new before p (burned n.fuse) call
 
         arrives : Arrives d (found_left d d (Recover name) s false old new before p (burned (d.world.nodes s).fuse) call) s call.over.node (d.world.gathering s)
@@ -316,6 +316,7 @@ module _ {R : Type 0} {g : Ghosts R} where
             → ((core : Core) (c : Config) → core_in after ≡ Some core → AtSite (λ e. site_config e ≡ Some c) after → new.facts.items ≡ slice_set old.facts.items s (made_facts core c (linked_fact d.world s)))
             → ((e : Doubted) (f : SiteFacts) → StandsFor e new → s < e.world.sites → is_over_rvg (e.world.nodes s) ≡ true → slice_get new.facts.items s ≡ Some f → f.links ≡ []
             → view ≡ over_disks (e.world.nodes s) (note_at (e.world.nodes s)) (linked_view e.world s)) → LeadsBeside d (Recover name) (Resumed view None) old new
+        unfolding sits
         found_over view made shows = record {
           next = left;
           fails = found_fails d d (Recover name) s false old new before p (burned n.fuse) call;

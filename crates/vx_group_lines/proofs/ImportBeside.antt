@@ -195,13 +195,14 @@ module _ {R : Type 0} {g : Ghosts R} where
 
     -- one with a replicated volume group came up
     module _ (p : OverSet R g) (is : after ≡ Over p) (brought : ImportsIn before after (Ok tt)) (found : PlainFound (beside_of d s) (d.world.nodes s) (note_at (d.world.nodes s)) p) where
-      abbrev here : FoundOver (beside_of d s) (d.world.nodes s) (burned (d.world.nodes s).fuse) p
+      here : FoundOver (beside_of d s) (d.world.nodes s) (burned (d.world.nodes s).fuse) p
       here = found.over
 
       up : IsTrue (site_disks (site_in p)).down → ⊥
       up = (rvg_over (beside_of d s) here.node here.next (Over p) here.stands here.noted (rvg_apart here.node (over_rvg (beside_of d s) here.node p here.stands)) here.same.up here.origin).up
 
       rests : FoundCall d d (GroupImport name) s false old new before p (burned (d.world.nodes s).fuse)
+      unfolding here
       rests = record {
         stands = stands;
         fits = stands.links;
@@ -219,12 +220,13 @@ module _ {R : Type 0} {g : Ghosts R} where
             (stands.fuses s before call.at.below call.changed.there);
       }
 
-      abbrev sits : RvgOver (beside_of (found_left d d (GroupImport name) s false old new before p (burned (d.world.nodes s).fuse) rests) s) rests.over.node rests.over.next (Over p)
+      sits : RvgOver (beside_of (found_left d d (GroupImport name) s false old new before p (burned (d.world.nodes s).fuse) rests) s) rests.over.node rests.over.next (Over p)
       sits = found_sits d d (GroupImport name) s false old new before p (burned n.fuse) rests
 
       over_leads : SameLoad old new
           → ((core : Core) (c : Config) → core_in after ≡ Some core → AtSite (λ x. site_config x ≡ Some c) after
           → new.facts.items ≡ slice_set old.facts.items s (made_facts core c (fact_of_group (d.world.nodes s) (note_at (d.world.nodes s))))) → LeadsBeside d (GroupImport name) Done old new
+      unfolding sits
       over_leads load made = record {
         next = found_left d d (GroupImport name) s false old new before p (burned n.fuse) rests;
         fails = found_fails d d (GroupImport name) s false old new before p (burned n.fuse) rests;
