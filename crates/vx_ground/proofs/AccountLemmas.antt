@@ -1,5 +1,5 @@
 -- Accounts of a group that go on, call by call.
-use Rattle.std.proofs.Common.{◌≡◌, ◌∙◌, ◌⊎◌, inl, inr, zero, suc, ℕ, ◌-◌, ◌<◌, ◌≤◌, Bool, true, false, IsTrue, length, ap, sym, subst, refl, arith}
+use Rattle.std.proofs.Common.{◌≡◌, ◌∙◌, ◌⊎◌, inl, inr, zero, suc, ℕ, ◌-◌, ◌≤◌, Bool, true, false, IsTrue, length, ap, sym, subst, refl, arith}
 use Rattle.std.specs.Prelude.{◌^◌, Err, None, Ok, OnOk, Option, Result, slice_get}
 use Rattle.std.proofs.lemmas.Bool.{cases_lt}
 use Rattle.vx_config.specs.Checks.{is_sound}
