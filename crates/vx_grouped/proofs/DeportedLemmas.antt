@@ -25,7 +25,7 @@ use Rattle.vx_config.specs.Table.{greatest}
 use Rattle.vx_group.specs.Calls.{GroupBack}
 use Rattle.vx_group.specs.Deports.{DeportStops, DeportedBy}
 use Rattle.vx_group.specs.Dets.{DetStops}
-use Rattle.vx_group.specs.Finds.{GroupFinds}
+use Rattle.vx_group.specs.Finds.{GroupImages}
 use Rattle.vx_group.specs.Holding.{GroupStands, wide}
 use Rattle.vx_group.specs.Resumes.{CanImport}
 use Rattle.vx_group.specs.Stands.{inner_meaning}
@@ -124,7 +124,7 @@ pub device_stops : {S G : Type 0} (old : Meaning) (meaning : S → Meaning) (she
 device_stops old meaning shelf g (Refused why) it = it
 device_stops old meaning shelf g OutOfMemory it = it
 
-module _ (n : Node) (note : GroupNode) (c d : GroupCore) (m m' : Meaning) (at : IsGroupAt n note c m) (back : GroupBack c d m m') (goes : Goes Nothing (inner_meaning (wide c) m) (inner_meaning (wide d) m')) (finds : GroupFinds c d m m') where
+module _ (n : Node) (note : GroupNode) (c d : GroupCore) (m m' : Meaning) (at : IsGroupAt n note c m) (back : GroupBack c d m m') (goes : Goes Nothing (inner_meaning (wide c) m) (inner_meaning (wide d) m')) (finds : GroupImages c d m m') where
   pub back_cut : IsTrue m'.down → (nexts : List (List ℕ)) × IsGroupCut n (note_called nexts d note) d m'
   back_cut down = call_cut n note c d m m' at back.stands back.quiesces.acts.units back.quiesces.acts.size goes finds.core down
 
