@@ -1,4 +1,4 @@
-// A script on a replicated volume group over mirrors: every third device call fails once, in a run of its own.
+// A script on a replicated volume group over mirrors: every ninth device call fails once, in a run of its own.
 use std::alloc::Global;
 use std::str::from_utf8;
 use std::sync::Wait;
@@ -57,7 +57,7 @@ const MANY: u64 = 600;
 fn a_call_fails_once(rt: HostRuntime) -> Result<(), Fail> {
     let alloc = rt.alloc();
     for call in 1..MANY {
-        if call % 3 == 1 {
+        if call % 9 == 1 {
             assert!(rt; is_borne(&rt, alloc, call)?, "call {call} fails");
         }
     }
