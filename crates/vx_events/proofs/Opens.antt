@@ -1,4 +1,4 @@
--- What is left of a line that is not open: it works on no link of a site with a replicated volume group over its group of disks, and at such a site on blocks of data
+-- What is left of a line that is not open: it links no site with a replicated volume group over its group of disks, and at such a site on blocks of data
 -- volumes alone. Where there is no such site no line is open.
 use Rattle.std.proofs.Common.{◌≡◌, ◌∙◌, ℕ, Bool, true, false, List, Option, Some, None, refl, ap}
 use Rattle.std.specs.Prelude.{◌&&◌, ◌||◌, ltb, not}
@@ -8,7 +8,7 @@ use Rattle.vx_order.specs.Calls.{is_data}
 use Rattle.vx_order.specs.declared.facts.VolumeKind.{VolumeKind}
 use Rattle.vx_order.specs.declared.facts.VolumeKind.TheVariants.{Data, Map, Plain, Srl}
 use Rattle.vx_script.specs.declared.line.ScriptLine.{ScriptLine}
-use Rattle.vx_script.specs.declared.line.ScriptLine.TheVariants.{Apply, Crash, Deliver, Disk, Fuse, GroupDeport, GroupImport, Link, PlexAttach, PlexDetach, Pump, Put, Read, Recover, Set, Settle, Show, Status, Volume, Write}
+use Rattle.vx_script.specs.declared.line.ScriptLine.TheVariants.{Apply, Crash, Deliver, Disk, Fuse, GroupDeport, GroupImport, Link, PlexAttach, PlexDetach, Put, Read, Recover, Show, Status, Volume, Write}
 use Rattle.vx_events.specs.Facts.{site_number}
 use Rattle.vx_events.specs.OpenLines.{HasNoOpen, is_open, is_open_volume}
 use Rattle.vx_events.specs.RvgLinks.{links_rvg, rvg_target}
@@ -70,10 +70,7 @@ module _ (w : World) (none : HasNoRvgs w) where
 
   links_none : (line : ScriptLine) → links_rvg w line ≡ false
   links_none (Link p s sync prot) = either_none (is_over_rvg (w.nodes (site_number w p))) (is_over_rvg (w.nodes (site_number w s))) (none (site_number w p)) (none (site_number w s))
-  links_none (Set p s sync prot) = none (site_number w p)
-  links_none (Pump p s) = none (site_number w p)
   links_none (Deliver number) = target_none (packet_at w.packets number)
-  links_none (Settle p s) = either_none (is_over_rvg (w.nodes (site_number w p))) (is_over_rvg (w.nodes (site_number w s))) (none (site_number w p)) (none (site_number w s))
   links_none other = refl
 
   pub for_none : (line : ScriptLine) → is_for_rvg w line ≡ false

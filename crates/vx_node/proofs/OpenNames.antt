@@ -10,7 +10,7 @@ use Rattle.vx_order.specs.Subject.{first_name, second_name}
 use Rattle.vx_order.specs.declared.facts.SiteFacts.{SiteFacts}
 use Rattle.vx_order.specs.declared.facts.VolumeKind.{VolumeKind}
 use Rattle.vx_script.specs.declared.line.ScriptLine.{ScriptLine}
-use Rattle.vx_script.specs.declared.line.ScriptLine.TheVariants.{Apply, Deliver, GroupDeport, GroupImport, Link, PlexAttach, PlexDetach, Pump, Put, Read, Set, Settle, Show, Volume, Write}
+use Rattle.vx_script.specs.declared.line.ScriptLine.TheVariants.{Apply, Deliver, GroupDeport, GroupImport, Link, PlexAttach, PlexDetach, Put, Read, Show, Volume, Write}
 use Rattle.vx_events.proofs.Places.{some_same}
 use Rattle.vx_events.proofs.Refused.{named, passes}
 use Rattle.vx_events.proofs.RvgEvents.{rvg_apart}
@@ -43,15 +43,11 @@ first_of (Read name volume start count) site is = is
 first_of (Show name volume start count) site is = is
 first_of (Apply name to) site is = is
 first_of (Link p s sync prot) site is = is
-first_of (Set p s sync prot) site is = is
-first_of (Pump p s) site is = is
-first_of (Settle p s) site is = is
 first_of other site is = absurd (cc)
 
 second_of : (line : ScriptLine) (site : List ℕ) → open_second line ≡ Some site → second_name line ≡ Some site
 unfolding second_name
 second_of (Link p s sync prot) site is = is
-second_of (Settle p s) site is = is
 second_of other site is = absurd (cc)
 
 blocks_worded : (line : ScriptLine) (site volume : List ℕ) → open_site line ≡ Some site → block_volume line ≡ Some volume → (site_worded line ≡ Some site) × (volume_worded line ≡ Some volume)
@@ -98,9 +94,6 @@ module _ (w : World) where
   open_nowhere (Show name volume start count) none sites = absurd (cc)
   open_nowhere (Apply name to) none sites = absurd (cc)
   open_nowhere (Link p s sync prot) none sites = absurd (cc)
-  open_nowhere (Set p s sync prot) none sites = absurd (cc)
-  open_nowhere (Pump p s) none sites = absurd (cc)
-  open_nowhere (Settle p s) none sites = absurd (cc)
   open_nowhere (Deliver number) none sites = absurd (sites number refl)
   open_nowhere other none sites = refl
 
@@ -123,9 +116,6 @@ module _ (w : World) where
   open_there (Show name volume start count) site is none over = absurd (cc)
   open_there (Apply name to) site is none over = over_first name site true is over
   open_there (Link p s sync prot) site is none over = either_first p site s true is over
-  open_there (Set p s sync prot) site is none over = over_first p site true is over
-  open_there (Pump p s) site is none over = over_first p site true is over
-  open_there (Settle p s) site is none over = either_first p site s true is over
   open_there other site is none over = absurd (cc)
 
   -- of a line on blocks it is said by its volume
@@ -166,9 +156,6 @@ module _ (w : World) where
   open_not (Show name volume start count) site is none off = volume_off name site volume is off
   open_not (Apply name to) site is none off = over_first name site false is off
   open_not (Link p s sync prot) site is none off = absurd (cc)
-  open_not (Set p s sync prot) site is none off = over_first p site false is off
-  open_not (Pump p s) site is none off = over_first p site false is off
-  open_not (Settle p s) site is none off = absurd (cc)
   open_not other site is none off = absurd (cc)
 
   second_there : (p site s second : List ℕ) → (let o : Option (List ℕ) = Some p in o ≡ Some site) → (let o : Option (List ℕ) = Some s in o ≡ Some second) → over_rvg_at w site ≡ false
@@ -177,5 +164,4 @@ module _ (w : World) where
 
   pub open_by_second : (line : ScriptLine) (site second : List ℕ) → open_site line ≡ Some site → open_second line ≡ Some second → over_rvg_at w site ≡ false → over_rvg_at w second ≡ is_open w line
   open_by_second (Link p s sync prot) site second is same off = second_there p site s second is same off
-  open_by_second (Settle p s) site second is same off = second_there p site s second is same off
   open_by_second other site second is same off = absurd (cc)

@@ -3,6 +3,7 @@ use Rattle.std.proofs.Common.{◌≡◌, ◌∙◌, ◌<◌, ◌≤◌, ◌++◌
 use Rattle.std.specs.Prelude.{IfOk, None, Ok, Err, Result, Some, true}
 use Rattle.vx_model.specs.declared.errors.OutOfMemory.{OutOfMemory}
 use Rattle.vx_model.specs.Sites.{is_origin}
+use Rattle.vx_model.specs.declared.site.Role.{Role}
 use Rattle.vx_model.specs.declared.no.No.{No}
 use Rattle.vx_history.specs.Doubts.{Doubted}
 use Rattle.vx_history.specs.Settling.{settling}
@@ -19,7 +20,6 @@ use Rattle.vx_events.proofs.Places.{some_same}
 use Rattle.vx_events.proofs.Tolds.{done_told}
 use Rattle.vx_events.specs.Facts.{seat_of, site_number}
 use Rattle.vx_events.specs.Parts.{StopsInPart}
-use Rattle.vx_events.specs.RvgLinks.{links_rvg}
 use Rattle.vx_events.specs.RvgViews.{is_over_rvg}
 use Rattle.vx_events.specs.Settles.{CanSettle}
 use Rattle.vx_events.specs.declared.said.Said.{Said}
@@ -42,7 +42,7 @@ use Rattle.vx_yard.specs.Yards.{IsTold, count_of, in_files}
 use Rattle.vx_node.specs.declared.going.Went.{Went}
 use Rattle.vx_node.specs.declared.going.Went.TheVariants.{Ended, On, Short}
 use Rattle.vx_yard.specs.declared.yard.Yard.{Yard}
-use Rattle.vx_link_lines.proofs.RawParts.{first_off, second_off}
+use Rattle.vx_link_lines.proofs.OverGroups.{linked_off, second_off_at}
 use Rattle.vx_yard.proofs.ChangeSite.{rose_none}
 use Rattle.vx_yard.proofs.NamedSite.{place_at}
 use Rattle.vx_yard.proofs.OfSites.{all_then}
@@ -55,19 +55,17 @@ use Rattle.vx_node.proofs.WentThen.{on_as, on_then, went_as, went_then}
 
 module _ {R : Type 0} {g : Ghosts R} where
   -- what no test refuses may be settled
-  pub begins : (d : Doubted) (y : Yard R g) (first second : List ℕ) (a b : ℕ) → StandsFor d y → links_rvg d.world (Settle first second) ≡ false → Carries d y → GoodFor d y → IsFree y (Settle first second) → seat_of y.facts.items first ≡ Some a → seat_of y.facts.items second ≡ Some b → SettlesFor first second a b d y
-  begins d y first second a b stands off carries good free one two =
+  pub begins : (d : Doubted) (y : Yard R g) (first second : List ℕ) (a b : ℕ) → StandsFor d y → Carries d y → GoodFor d y → IsFree y (Settle first second) → seat_of y.facts.items first ≡ Some a → seat_of y.facts.items second ≡ Some b → SettlesFor first second a b d y
+  begins d y first second a b stands carries good free one two =
       let here = place_at d y first a stands one in
       let there = place_at d y second b stands two in
-      let over : ℕ → Bool
-      = λ i. is_over_rvg (d.world.nodes i) in
       let can : CanSettle d.world (site_number d.world first) (site_number d.world second)
       = settle_agrees d (in_files y) first second stands.links (subst (λ (fs : List SiteFacts). line_refusal fs (in_files y) (Settle first second) ≡ None) stands.facts free) in
       record {
         noted = record { fuses = λ i. (d.world.nodes i).fuse; burns = burns_none a b d.world; stands = stands; carries = carries };
         may = may_move d a b stands.links (subst (λ (j : ℕ). CanSettle d.world a j) there.number (subst (λ (i : ℕ). CanSettle d.world i (site_number d.world second)) here.number can));
-        raw = subst (λ (i : ℕ). over i ≡ false) here.number (first_off (over (site_number d.world first)) (over (site_number d.world second)) off);
-        raw_too = subst (λ (i : ℕ). over i ≡ false) there.number (second_off (over (site_number d.world first)) (over (site_number d.world second)) off);
+        raw = subst (λ (i : ℕ). is_over_rvg (d.world.nodes i) ≡ false) here.number (linked_off d y (site_number d.world first) (site_number d.world second) stands can.first can.linked);
+        raw_too = subst (λ (i : ℕ). is_over_rvg (d.world.nodes i) ≡ false) there.number (second_off_at d y (site_number d.world second) stands can.second (ap (λ (r : Role). is_origin r) can.secondary));
         good = good;
         from = here.number;
         to = there.number;

@@ -6,7 +6,7 @@ use Rattle.vx_history.specs.Events.{packet_at}
 use Rattle.vx_history.specs.Settling.{is_between}
 use Rattle.vx_history.specs.World.{Packet, World}
 use Rattle.vx_disk.specs.declared.shelf.Shelf.{Ghosts}
-use Rattle.vx_script.specs.declared.line.ScriptLine.TheVariants.{Apply, Deliver, Pump}
+use Rattle.vx_script.specs.declared.line.ScriptLine.TheVariants.{Apply, Deliver}
 use Rattle.vx_events.specs.Facts.{site_number}
 use Rattle.vx_events.specs.RvgLinks.{links_rvg, rvg_target}
 use Rattle.vx_events.specs.RvgSteps.{is_for_rvg}
@@ -28,9 +28,6 @@ module _ {R : Type 0} {g : Ghosts R} (first second : List ℕ) (a b : ℕ) (d : 
 
   named_raw : (name : List ℕ) (s : ℕ) → site_number d.world name ≡ s → is_over_rvg (d.world.nodes s) ≡ false → is_over_rvg (v.nodes (site_number v name)) ≡ false
   named_raw name s is off = subst (λ (k : ℕ). is_over_rvg (v.nodes k) ≡ false) (sym (number_burnt serves.noted.fuses d.world name ∙ is)) off
-
-  pub pump_raw : links_rvg v (Pump first second) ≡ false
-  pump_raw = named_raw first a serves.from serves.raw
 
   pub apply_raw : (count : ℕ) → is_for_rvg v (Apply second count) ≡ false
   apply_raw count = named_raw second b serves.to serves.raw_too

@@ -1,7 +1,7 @@
 -- The names in a line by which it is told whether it is open.
 use Rattle.std.specs.Prelude.{ℕ, List, Option, Some, None}
 use Rattle.vx_script.specs.declared.line.ScriptLine.{ScriptLine}
-use Rattle.vx_script.specs.declared.line.ScriptLine.TheVariants.{Apply, GroupDeport, GroupImport, Link, PlexAttach, PlexDetach, Pump, Put, Read, Set, Settle, Show, Volume, Write}
+use Rattle.vx_script.specs.declared.line.ScriptLine.TheVariants.{Apply, GroupDeport, GroupImport, Link, PlexAttach, PlexDetach, Put, Read, Show, Volume, Write}
 
 -- a site: where a replicated volume group is over its group, the line is open, or works on blocks
 abbrev pub open_site : ScriptLine → Option (List ℕ)
@@ -16,15 +16,11 @@ open_site (Read site volume start count) = Some site
 open_site (Show site volume start count) = Some site
 open_site (Apply site to) = Some site
 open_site (Link p s sync prot) = Some p
-open_site (Set p s sync prot) = Some p
-open_site (Pump p s) = Some p
-open_site (Settle p s) = Some p
 open_site other = None
 
 -- another one at which it is
 abbrev pub open_second : ScriptLine → Option (List ℕ)
 open_second (Link p s sync prot) = Some s
-open_second (Settle p s) = Some s
 open_second other = None
 
 -- the volume whose blocks it writes or reads

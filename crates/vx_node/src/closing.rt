@@ -35,10 +35,7 @@ fn open_site(line: &ScriptLine) -> Option<Name>
         | ScriptLine::Read { site, .. }
         | ScriptLine::Show { site, .. }
         | ScriptLine::Apply { site, .. } => Some(*site),
-        ScriptLine::Link { primary, .. }
-        | ScriptLine::Set { primary, .. }
-        | ScriptLine::Pump { primary, .. }
-        | ScriptLine::Settle { primary, .. } => Some(*primary),
+        ScriptLine::Link { primary, .. } => Some(*primary),
         _ => None,
     }
 }
@@ -48,9 +45,7 @@ fn open_second(line: &ScriptLine) -> Option<Name>
     ensures { result ≡ open_second line.now }
 {
     match line {
-        ScriptLine::Link { secondary, .. } | ScriptLine::Settle { secondary, .. } => {
-            Some(*secondary)
-        }
+        ScriptLine::Link { secondary, .. } => Some(*secondary),
         _ => None,
     }
 }
