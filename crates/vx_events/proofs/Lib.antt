@@ -8,6 +8,7 @@ pub mod GroupStopping
 pub mod GroupTold
 pub mod LineTold
 pub mod RvgStopping
+pub mod ReadsLeave
 pub mod RvgEnding
 pub mod RvgEvents
 pub mod RvgFull

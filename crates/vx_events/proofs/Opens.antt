@@ -24,8 +24,6 @@ open_links w (PlexDetach site volume plex) closed = refl
 open_links w (PlexAttach site volume plex) closed = refl
 open_links w (Write site volume start count fill) closed = refl
 open_links w (Put site volume start bytes) closed = refl
-open_links w (Read site volume start count) closed = refl
-open_links w (Show site volume start count) closed = refl
 open_links w (Apply site to) closed = refl
 open_links w other closed = closed
 
@@ -37,8 +35,6 @@ open_beside w (PlexDetach site volume plex) off links = off
 open_beside w (PlexAttach site volume plex) off links = off
 open_beside w (Write site volume start count fill) off links = ap (λ (b : Bool). b && not (is_data (kind_named (w.nodes (site_number w site)) volume))) off
 open_beside w (Put site volume start bytes) off links = ap (λ (b : Bool). b && not (is_data (kind_named (w.nodes (site_number w site)) volume))) off
-open_beside w (Read site volume start count) off links = ap (λ (b : Bool). b && not (is_data (kind_named (w.nodes (site_number w site)) volume))) off
-open_beside w (Show site volume start count) off links = ap (λ (b : Bool). b && not (is_data (kind_named (w.nodes (site_number w site)) volume))) off
 open_beside w (Apply site to) off links = off
 open_beside w other off links = links
 
@@ -102,7 +98,5 @@ module _ (w : World) (none : HasNoRvgs w) where
   open_none (PlexAttach site volume plex) = none (site_number w site)
   open_none (Write site volume start count fill) = volume_none site volume
   open_none (Put site volume start bytes) = volume_none site volume
-  open_none (Read site volume start count) = volume_none site volume
-  open_none (Show site volume start count) = volume_none site volume
   open_none (Apply site to) = none (site_number w site)
   open_none other = links_none other
