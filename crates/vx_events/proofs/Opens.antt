@@ -1,17 +1,16 @@
 -- What is left of a line that is not open: it links no site with a replicated volume group over its group of disks, and at such a site on blocks of data
 -- volumes alone. Where there is no such site no line is open.
-use Rattle.std.proofs.Common.{◌≡◌, ◌∙◌, ℕ, Bool, true, false, List, Option, Some, None, refl, ap}
-use Rattle.std.specs.Prelude.{◌&&◌, ◌||◌, ltb, not}
-use Rattle.vx_history.specs.Events.{packet_at}
-use Rattle.vx_history.specs.World.{Node, Packet, World}
+use Rattle.std.proofs.Common.{◌≡◌, ◌∙◌, ℕ, Bool, true, false, List, refl, ap}
+use Rattle.std.specs.Prelude.{◌&&◌, ◌||◌, not}
+use Rattle.vx_history.specs.World.{Node, World}
 use Rattle.vx_order.specs.Calls.{is_data}
 use Rattle.vx_order.specs.declared.facts.VolumeKind.{VolumeKind}
 use Rattle.vx_order.specs.declared.facts.VolumeKind.TheVariants.{Data, Map, Plain, Srl}
 use Rattle.vx_script.specs.declared.line.ScriptLine.{ScriptLine}
-use Rattle.vx_script.specs.declared.line.ScriptLine.TheVariants.{Apply, Crash, Deliver, Disk, Fuse, GroupDeport, GroupImport, Link, PlexAttach, PlexDetach, Put, Read, Recover, Show, Status, Volume, Write}
+use Rattle.vx_script.specs.declared.line.ScriptLine.TheVariants.{Apply, Crash, Disk, Fuse, GroupDeport, GroupImport, Link, PlexAttach, PlexDetach, Put, Read, Recover, Show, Status, Volume, Write}
 use Rattle.vx_events.specs.Facts.{site_number}
 use Rattle.vx_events.specs.OpenLines.{HasNoOpen, is_open, is_open_volume}
-use Rattle.vx_events.specs.RvgLinks.{links_rvg, rvg_target}
+use Rattle.vx_events.specs.RvgLinks.{links_rvg}
 use Rattle.vx_events.specs.RvgOver.{is_plain_kind, kind_named}
 use Rattle.vx_events.specs.RvgSteps.{HasNoRvgs, is_for_rvg}
 use Rattle.vx_events.specs.RvgViews.{is_over_rvg}
@@ -56,17 +55,8 @@ module _ (w : World) (none : HasNoRvgs w) where
   either_none : (a b : Bool) → a ≡ false → b ≡ false → (a || b) ≡ false
   either_none a b e f = ap (λ (x : Bool). x || b) e ∙ f
 
-  target_none : (o : Option Packet) → rvg_target w o ≡ false
-  target_none None = refl
-  target_none (Some p) = by (ltb p.target w.sites) (is_over_rvg (w.nodes p.target)) (none p.target)
-    where
-      by : (a b : Bool) → b ≡ false → (a && b) ≡ false
-      by true b is = is
-      by false b is = refl
-
   links_none : (line : ScriptLine) → links_rvg w line ≡ false
   links_none (Link p s sync prot) = either_none (is_over_rvg (w.nodes (site_number w p))) (is_over_rvg (w.nodes (site_number w s))) (none (site_number w p)) (none (site_number w s))
-  links_none (Deliver number) = target_none (packet_at w.packets number)
   links_none other = refl
 
   pub for_none : (line : ScriptLine) → is_for_rvg w line ≡ false

@@ -1,5 +1,5 @@
--- The lines at which a run ends as at one whose kind is not built: a line that links a site with a replicated volume group over its group of disks, and a packet that
--- goes to one; and at such a site a deport and an import, those on volumes and plexes of the group, writes to a volume that is no data volume, and an apply.
+-- The lines at which a run ends as at one whose kind is not built: one that links a site with a replicated volume group over its group of disks; and at such a site a
+-- deport and an import, those on volumes and plexes of the group, writes to a volume that is no data volume, and an apply.
 use Rattle.std.specs.Prelude.{◌≡◌, ◌&&◌, ℕ, Bool, true, false, List, None, not}
 use Rattle.vx_history.specs.World.{Node, World}
 use Rattle.vx_order.specs.Calls.{is_data}

@@ -22,7 +22,7 @@ mod views;
 mod volume;
 mod write;
 
-pub use above::{has_rvg, has_rvg_in};
+pub use above::has_rvg;
 pub use blocks::filled;
 pub use found::{holds_group, recover_found};
 pub use lines::{is_of_group, is_plain, work_group};

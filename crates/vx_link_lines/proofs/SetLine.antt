@@ -156,7 +156,7 @@ module _ {R : Type 0} {g : Ghosts R} (d : Doubted) (old : Yard R g) (first secon
   }
 
   noted : StandsFor (noted_by (note_one s) d) old
-  noted = stands_noted d old s before stands here.below at set_raw
+  noted = stands_noted d old s before stands here.below at
 
   numbers : (prot : Prot) → link_events w (Set first second sync prot) ≡ event ∷ []
   numbers prot =

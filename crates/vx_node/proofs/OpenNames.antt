@@ -82,20 +82,19 @@ module _ {R : Type 0} {g : Ghosts R} where
 -- ---- whether it is open
 
 module _ (w : World) where
-  pub open_nowhere : (line : ScriptLine) → open_site line ≡ None → ((number : ℕ) → line ≡ Deliver number → ⊥) → is_open w line ≡ false
-  open_nowhere (GroupDeport name) none sites = absurd (cc)
-  open_nowhere (GroupImport name) none sites = absurd (cc)
-  open_nowhere (Volume name volume blocks mirrors layout log map policy) none sites = absurd (cc)
-  open_nowhere (PlexDetach name volume plex) none sites = absurd (cc)
-  open_nowhere (PlexAttach name volume plex) none sites = absurd (cc)
-  open_nowhere (Write name volume start count fill) none sites = absurd (cc)
-  open_nowhere (Put name volume start bytes) none sites = absurd (cc)
-  open_nowhere (Read name volume start count) none sites = absurd (cc)
-  open_nowhere (Show name volume start count) none sites = absurd (cc)
-  open_nowhere (Apply name to) none sites = absurd (cc)
-  open_nowhere (Link p s sync prot) none sites = absurd (cc)
-  open_nowhere (Deliver number) none sites = absurd (sites number refl)
-  open_nowhere other none sites = refl
+  pub open_nowhere : (line : ScriptLine) → open_site line ≡ None → is_open w line ≡ false
+  open_nowhere (GroupDeport name) none = absurd (cc)
+  open_nowhere (GroupImport name) none = absurd (cc)
+  open_nowhere (Volume name volume blocks mirrors layout log map policy) none = absurd (cc)
+  open_nowhere (PlexDetach name volume plex) none = absurd (cc)
+  open_nowhere (PlexAttach name volume plex) none = absurd (cc)
+  open_nowhere (Write name volume start count fill) none = absurd (cc)
+  open_nowhere (Put name volume start bytes) none = absurd (cc)
+  open_nowhere (Read name volume start count) none = absurd (cc)
+  open_nowhere (Show name volume start count) none = absurd (cc)
+  open_nowhere (Apply name to) none = absurd (cc)
+  open_nowhere (Link p s sync prot) none = absurd (cc)
+  open_nowhere other none = refl
 
   -- at the site of its name
   over_first : (name site : List ℕ) (b : Bool) → (let o : Option (List ℕ) = Some name in o ≡ Some site) → over_rvg_at w site ≡ b → over_rvg_at w name ≡ b

@@ -18,7 +18,6 @@ use Rattle.vx_diskset.proofs.KeepsFailing.{alone_same, failing_same}
 use Rattle.vx_above.proofs.Works.{leads_whole, works_either, works_short, works_whole}
 use Rattle.vx_events.proofs.Opens.{open_data, open_inside}
 use Rattle.vx_events.specs.OpenLines.{is_open}
-use Rattle.vx_events.specs.RvgLinks.{links_rvg}
 use Rattle.vx_node.proofs.Built.{neither}
 use Rattle.vx_yard.specs.AboveLines.{WorksIs}
 use Rattle.vx_node.proofs.answering.work.Goals as goal
@@ -299,13 +298,13 @@ pub returns-in-Deliver-clause-leads : goal.returns-in-Deliver-clause-leads
 returns-in-Deliver-clause-leads g c = λ d stands goes closed carries good.
     let shut = subst (λ line. is_open d.world line ≡ false) c.in-Deliver.is closed in
     subst (λ line. WorksIs d line c.args.yard.now c.deliver_line.new.yard c.deliver_line.result) (sym c.in-Deliver.is)
-    (works_whole d _ c.args.yard.now c.deliver_line.new.yard tt shut refl c.deliver_line.result refl (c.deliver_line.ensures.leads d stands shut carries good))
+    (works_whole d _ c.args.yard.now c.deliver_line.new.yard tt shut refl c.deliver_line.result refl (c.deliver_line.ensures.leads d stands carries good))
 
 pub returns-in-Deliver-clause-asked : goal.returns-in-Deliver-clause-asked
-returns-in-Deliver-clause-asked g c = λ d stands goes off links. subst (λ line. AsAsked d.world line c.args.yard.now c.deliver_line.new.yard) (sym c.in-Deliver.is) (c.deliver_line.ensures.asked d stands (subst (λ line. links_rvg d.world line ≡ false) c.in-Deliver.is links))
+returns-in-Deliver-clause-asked g c = λ d stands goes off links. subst (λ line. AsAsked d.world line c.args.yard.now c.deliver_line.new.yard) (sym c.in-Deliver.is) (c.deliver_line.ensures.asked d stands)
 
 pub returns-in-Deliver-clause-called : goal.returns-in-Deliver-clause-called
-returns-in-Deliver-clause-called g c = λ d stands goes off links carries good. subst (λ line. IfOk c.deliver_line.result (λ said. HasCalled d.world line said c.args.yard.now c.deliver_line.new.yard)) (sym c.in-Deliver.is) (c.deliver_line.ensures.called d stands (subst (λ line. links_rvg d.world line ≡ false) c.in-Deliver.is links) carries)
+returns-in-Deliver-clause-called g c = λ d stands goes off links carries good. subst (λ line. IfOk c.deliver_line.result (λ said. HasCalled d.world line said c.args.yard.now c.deliver_line.new.yard)) (sym c.in-Deliver.is) (c.deliver_line.ensures.called d stands carries)
 
 pub returns-in-Site-clause-whole : goal.returns-in-Site-clause-whole
 returns-in-Site-clause-whole g c = λ none. memory_taken c.args.words.now _ c.in-Site.is refl none
