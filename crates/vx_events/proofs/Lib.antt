@@ -37,6 +37,7 @@ pub mod Over
 pub mod OverSeats
 pub mod Parts
 pub mod Opens
+pub mod OtherPlaces
 pub mod Passing
 pub mod Places
 pub mod Refused
