@@ -13,6 +13,7 @@ mod init;
 mod lines;
 mod marks;
 mod noting;
+mod numbers;
 mod plex;
 mod read;
 mod recover;
