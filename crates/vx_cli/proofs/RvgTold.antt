@@ -1,31 +1,29 @@
 -- What a line came to at sites with replicated volume groups over groups of disks where contents are told it came to where even more is told.
-use Rattle.std.proofs.Common.{◌⊎◌, ℕ, Bool, true, false, List, inl, inr}
+use Rattle.std.proofs.Common.{ℕ, Bool, true, false, inl, inr}
 use Rattle.std.specs.Prelude.{Option, Some, None}
 use Rattle.vx_history.specs.Doubts.{Doubted}
 use Rattle.vx_history.specs.Groups.{GroupNode}
 use Rattle.vx_model.specs.declared.no.No.{No}
 use Rattle.vx_model.specs.declared.units.Units.{Units}
 use Rattle.vx_script.specs.declared.line.ScriptLine.{ScriptLine}
-use Rattle.vx_order.specs.Calls.{is_data}
 use Rattle.vx_script.specs.declared.line.ScriptLine.TheVariants.{Read, Recover, Rvg, Show}
 use Rattle.vx_events.specs.Ends.{place_of}
 use Rattle.vx_events.specs.Facts.{site_number}
 use Rattle.vx_events.specs.Fails.{Fails}
-use Rattle.vx_events.specs.GroupLines.{plain_number}
 use Rattle.vx_events.specs.GroupNotes.{note_at}
-use Rattle.vx_events.specs.GroupReplies.{GivesPlain}
 use Rattle.vx_events.specs.Parts.{StopsBetween, StopsDown, StopsInPart, StopsRead, StopsShort}
 use Rattle.vx_events.specs.RvgBack.{GroupHeld, GroupUnfound, LogFails, LogLacks, FindsNoRvg, FindsPlain, FindsRvg, RvgBack, RvgFinds, RvgUp}
 use Rattle.vx_events.specs.OpenLines.{is_open}
 use Rattle.vx_events.specs.RvgMakes.{MakesRvg, RvgCut, RvgDone, RvgFails, RvgLacks}
 use Rattle.vx_events.specs.RvgNotes.{NotesLacking, NotesNarrowed, NotesNoRvg, NotesRvg}
-use Rattle.vx_events.specs.RvgOver.{EndsOver, EndsRead, OverRvg, ReadOut, ReadsBeside, kind_named}
+use Rattle.vx_events.specs.RvgOver.{EndsOver, OverRvg}
 use Rattle.vx_events.specs.RvgParts.{RvgShort, ShortFull, ShortGroup, ShortLog, ShortMade, short_place}
 use Rattle.vx_events.specs.RvgSteps.{AsBefore, FoundOne, FullBy, WorksAbove, WorksBeside, WorksFull, is_for_rvg, rvg_place}
 use Rattle.vx_events.specs.StepsOver.{group_place, is_for_group}
 use Rattle.vx_events.specs.declared.said.Said.{Said}
-use Rattle.vx_events.proofs.GroupTold.{back_told, gives_told, known_told, nothing_told, shows_told}
+use Rattle.vx_events.proofs.GroupTold.{back_told, known_told, nothing_told, shows_told}
 use Rattle.vx_events.proofs.LineTold.{ends_told}
+use Rattle.vx_events.proofs.ReadsLeave.{read_told}
 use Rattle.vx_events.proofs.Tolds.{works_told}
 
 module _ {T U : Type 0} (f : U → T) where
@@ -87,24 +85,11 @@ module _ {T U : Type 0} (f : U → T) where
     left = x.left;
   }
 
-  read_told : (d : Doubted) (volume : List ℕ) (start count s : ℕ) (fails : Fails) (said : Said) (new : Doubted) → ReadsBeside T d volume start count s fails said new → ReadsBeside U d volume start count s fails said new
-  read_told d volume start count s fails said new x = record { are = x.are; reads = by x.reads; left = x.left }
-    where
-      by : GivesPlain T (note_at (d.world.nodes s)) (plain_number (note_at (d.world.nodes s)) volume) start count said ⊎ ReadOut s fails (note_at (d.world.nodes s)) (plain_number (note_at (d.world.nodes s)) volume) said
-          → GivesPlain U (note_at (d.world.nodes s)) (plain_number (note_at (d.world.nodes s)) volume) start count said ⊎ ReadOut s fails (note_at (d.world.nodes s)) (plain_number (note_at (d.world.nodes s)) volume) said
-      by (inl gives) = inl (gives_told f (note_at (d.world.nodes s)) (plain_number (note_at (d.world.nodes s)) volume) start count said gives)
-      by (inr out) = inr out
-
-  either_told : (mine : Bool) (d : Doubted) (line : ScriptLine) (volume : List ℕ) (start count s : ℕ) (fails : Fails) (said : Said) (new : Doubted) → EndsRead mine T d line volume start count s fails said new
-      → EndsRead mine U d line volume start count s fails said new
-  either_told true d line volume start count s fails said new x = over_told d line s fails said new x
-  either_told false d line volume start count s fails said new x = read_told d volume start count s fails said new x
-
   place_told : (d : Doubted) (line : ScriptLine) (s : ℕ) (fails : Fails) (said : Said) (new : Doubted) → OverRvg T d line s fails said new → OverRvg U d line s fails said new
   place_told d (Recover site) s fails said new (inl x) = inl (came_told d (Recover site) s fails said new x)
   place_told d (Recover site) s fails said new (inr x) = inr (found_told d (Recover site) s fails said new x)
-  place_told d (Read site volume start count) s fails said new x = either_told (is_data (kind_named (d.world.nodes s) volume)) d (Read site volume start count) volume start count s fails said new x
-  place_told d (Show site volume start count) s fails said new x = either_told (is_data (kind_named (d.world.nodes s) volume)) d (Show site volume start count) volume start count s fails said new x
+  place_told d (Read site volume start count) s fails said new x = read_told f d (Read site volume start count) volume start count s fails said new (over_told d (Read site volume start count) s fails said new) x
+  place_told d (Show site volume start count) s fails said new x = read_told f d (Show site volume start count) volume start count s fails said new (over_told d (Show site volume start count) s fails said new) x
   place_told d other s fails said new x = over_told d other s fails said new x
 
   -- ---- any line

@@ -44,6 +44,15 @@ data_by true Map is closed = absurd (cc)
 data_by true Plain is closed = absurd (cc)
 data_by false kind is closed = absurd (cc)
 
+-- neither
+pub first_off : (a b : Bool) → (a || b) ≡ false → a ≡ false
+first_off true b is = absurd (let clash : true ≡ false = is in cc)
+first_off false b is = refl
+
+pub last_off : (a b : Bool) → (a || b) ≡ false → b ≡ false
+last_off true b is = absurd (let clash : true ≡ false = is in cc)
+last_off false b is = is
+
 -- the volume that such a line names at such a site is a data volume
 pub open_data : (n : Node) (volume : List ℕ) → is_over_rvg n ≡ true → is_open_volume n volume ≡ false → kind_named n volume ≡ Data
 open_data n volume over closed = data_by (is_over_rvg n) (kind_named n volume) over closed

@@ -1,8 +1,8 @@
 -- Lines that read a volume of a group below a replicated volume group.
-use Rattle.std.proofs.Common.{◌≡◌, ◌∙◌, ◌+◌, ◌*◌, ◌⊎◌, inl, inr, ℕ, Bool, true, false, List, length, ap, arith, refl, subst, sym, IsTrue}
+use Rattle.std.proofs.Common.{◌≡◌, ◌∙◌, ◌+◌, ◌*◌, ◌⊎◌, inl, inr, ℕ, Bool, false, List, length, ap, arith, refl, subst, sym, IsTrue}
 use Rattle.std.proofs.lemmas.Bool.{false_from_ne_true}
 use Rattle.std.proofs.lemmas.Option.{slice_get_within}
-use Rattle.std.specs.Prelude.{None, Option, Some, slice_get, slice_set, Ok, Err, Result}
+use Rattle.std.specs.Prelude.{Some, slice_get, Ok, Err}
 use Rattle.vx_model.specs.declared.no.No.{No}
 use Rattle.vx_model.specs.declared.no.No.TheVariants.{Device}
 use Rattle.vx_disk.specs.declared.shelf.Shelf.{Ghosts}
@@ -11,7 +11,6 @@ use Rattle.vx_history.specs.Groups.{GroupNode}
 use Rattle.vx_history.specs.Steps.{worked, worked_on}
 use Rattle.vx_history.specs.World.{Node}
 use Rattle.vx_order.specs.Calls.{is_data}
-use Rattle.vx_order.specs.declared.facts.SiteFacts.{SiteFacts}
 use Rattle.vx_script.specs.declared.line.ScriptLine.{ScriptLine}
 use Rattle.vx_script.specs.declared.line.ScriptLine.TheVariants.{Read, Show}
 use Rattle.vx_watched.specs.Since.{CalledSince}
@@ -23,7 +22,7 @@ use Rattle.vx_diskset.specs.Asked.{FailsAs, FusedAs, SameFailing}
 use Rattle.vx_diskset.specs.GroupCalls.{CalledOn}
 use Rattle.vx_diskset.specs.GroupSets.{cut_value}
 use Rattle.vx_diskset.specs.Holds.{KeptBeside, beside_of}
-use Rattle.vx_diskset.specs.Noted.{IsNamed, NotedOver, SiteNoted, below_rvg}
+use Rattle.vx_diskset.specs.Noted.{NotedOver, SiteNoted, below_rvg}
 use Rattle.vx_diskset.specs.OverKeeps.{KeepsOver, KeptBy, StaysHere}
 use Rattle.vx_diskset.specs.OverPlains.{OnOver}
 use Rattle.vx_diskset.specs.Stands.{IsRackTold, RoleIs, SiteStands, faults_at}
@@ -38,7 +37,7 @@ use Rattle.vx_events.proofs.RvgEvents.{rvg_apart}
 use Rattle.vx_events.specs.Effects.{EffectAt}
 use Rattle.vx_events.specs.Facts.{site_number}
 use Rattle.vx_events.specs.Fails.{Fails}
-use Rattle.vx_events.specs.GroupEnds.{AreOf, VolumeOut}
+use Rattle.vx_events.specs.GroupEnds.{VolumeOut}
 use Rattle.vx_events.specs.GroupLines.{plain_number}
 use Rattle.vx_events.specs.GroupNotes.{IsKnown, note_at}
 use Rattle.vx_events.specs.GroupReplies.{GivesPlain}
@@ -58,7 +57,6 @@ use Rattle.vx_yard.proofs.OverGroup.{begins_apart}
 use Rattle.vx_yard.proofs.Rows.{apart_same, fact_like}
 use Rattle.vx_yard.specs.AboveLines.{LeadsAbove}
 use Rattle.vx_yard.specs.Standing.{BeginsFirst, StandsFor}
-use Rattle.vx_yard.specs.Stands.{RoseAll}
 use Rattle.vx_yard.specs.Yards.{IsTold, count_of}
 use Rattle.vx_yard.specs.declared.yard.Yard.{Yard}
 use Rattle.vx_above.proofs.Fails.{calls_of}

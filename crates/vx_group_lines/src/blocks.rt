@@ -1,5 +1,5 @@
 // The lines that write and read blocks of a volume of a group.
-ghost use Rattle.std.specs.Prelude.{◌≡◌, ◌*◌, ℕ, IfOk, false, min, replicate, true};
+ghost use Rattle.std.specs.Prelude.{◌≡◌, ◌*◌, IfOk, false, min, replicate, true};
 ghost use Rattle.vx_history.specs.Doubts.{Doubted};
 ghost use Rattle.vx_script.specs.declared.line.ScriptLine.{ScriptLine};
 ghost use Rattle.vx_script.specs.declared.line.ScriptLine.TheVariants.{Put as PutLine, Write as WriteLine};

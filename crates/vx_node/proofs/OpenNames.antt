@@ -10,7 +10,7 @@ use Rattle.vx_order.specs.Subject.{first_name, second_name}
 use Rattle.vx_order.specs.declared.facts.SiteFacts.{SiteFacts}
 use Rattle.vx_order.specs.declared.facts.VolumeKind.{VolumeKind}
 use Rattle.vx_script.specs.declared.line.ScriptLine.{ScriptLine}
-use Rattle.vx_script.specs.declared.line.ScriptLine.TheVariants.{Apply, Deliver, GroupDeport, GroupImport, Link, PlexAttach, PlexDetach, Put, Read, Show, Volume, Write}
+use Rattle.vx_script.specs.declared.line.ScriptLine.TheVariants.{Apply, Deliver, GroupDeport, GroupImport, Link, PlexAttach, PlexDetach, Put, Volume, Write}
 use Rattle.vx_events.proofs.Places.{some_same}
 use Rattle.vx_events.proofs.Refused.{named, passes}
 use Rattle.vx_events.proofs.RvgEvents.{rvg_apart}
@@ -39,8 +39,6 @@ first_of (PlexDetach name volume plex) site is = is
 first_of (PlexAttach name volume plex) site is = is
 first_of (Write name volume start count fill) site is = is
 first_of (Put name volume start bytes) site is = is
-first_of (Read name volume start count) site is = is
-first_of (Show name volume start count) site is = is
 first_of (Apply name to) site is = is
 first_of (Link p s sync prot) site is = is
 first_of other site is = absurd (cc)
@@ -53,8 +51,6 @@ second_of other site is = absurd (cc)
 blocks_worded : (line : ScriptLine) (site volume : List ℕ) → open_site line ≡ Some site → block_volume line ≡ Some volume → (site_worded line ≡ Some site) × (volume_worded line ≡ Some volume)
 blocks_worded (Write name v start count fill) site volume is same = (is, same)
 blocks_worded (Put name v start bytes) site volume is same = (is, same)
-blocks_worded (Read name v start count) site volume is same = (is, same)
-blocks_worded (Show name v start count) site volume is same = (is, same)
 blocks_worded other site volume is same = absurd (cc)
 
 none_delivered : (line : ScriptLine) (site : List ℕ) → open_site line ≡ Some site → (number : ℕ) → line ≡ Deliver number → ⊥
@@ -90,8 +86,6 @@ module _ (w : World) where
   open_nowhere (PlexAttach name volume plex) none = absurd (cc)
   open_nowhere (Write name volume start count fill) none = absurd (cc)
   open_nowhere (Put name volume start bytes) none = absurd (cc)
-  open_nowhere (Read name volume start count) none = absurd (cc)
-  open_nowhere (Show name volume start count) none = absurd (cc)
   open_nowhere (Apply name to) none = absurd (cc)
   open_nowhere (Link p s sync prot) none = absurd (cc)
   open_nowhere other none = refl
@@ -111,13 +105,11 @@ module _ (w : World) where
   open_there (PlexAttach name volume plex) site is none over = over_first name site true is over
   open_there (Write name volume start count fill) site is none over = absurd (cc)
   open_there (Put name volume start bytes) site is none over = absurd (cc)
-  open_there (Read name volume start count) site is none over = absurd (cc)
-  open_there (Show name volume start count) site is none over = absurd (cc)
   open_there (Apply name to) site is none over = over_first name site true is over
   open_there (Link p s sync prot) site is none over = either_first p site s true is over
   open_there other site is none over = absurd (cc)
 
-  -- of a line on blocks it is said by its volume
+  -- of a line that writes blocks it is said by its volume
   plain_by : (a b : Bool) (k : VolumeKind) → b ≡ true → (b ≡ true → a ≡ false) → (a || (b && not (is_data k))) ≡ (b && not (is_data k))
   plain_by true b k is apart = absurd (let clash : true ≡ false = apart is in cc)
   plain_by false b k is apart = refl
@@ -135,8 +127,6 @@ module _ (w : World) where
   pub open_block : (line : ScriptLine) (site volume : List ℕ) → open_site line ≡ Some site → block_volume line ≡ Some volume → over_rvg_at w site ≡ true → plain_at w site volume ≡ is_open w line
   open_block (Write name v start count fill) site volume is same over = block_there name site v volume is same over
   open_block (Put name v start bytes) site volume is same over = block_there name site v volume is same over
-  open_block (Read name v start count) site volume is same over = block_there name site v volume is same over
-  open_block (Show name v start count) site volume is same over = block_there name site v volume is same over
   open_block other site volume is same over = absurd (cc)
 
   -- where the first site has none
@@ -151,8 +141,6 @@ module _ (w : World) where
   open_not (PlexAttach name volume plex) site is none off = over_first name site false is off
   open_not (Write name volume start count fill) site is none off = volume_off name site volume is off
   open_not (Put name volume start bytes) site is none off = volume_off name site volume is off
-  open_not (Read name volume start count) site is none off = volume_off name site volume is off
-  open_not (Show name volume start count) site is none off = volume_off name site volume is off
   open_not (Apply name to) site is none off = over_first name site false is off
   open_not (Link p s sync prot) site is none off = absurd (cc)
   open_not other site is none off = absurd (cc)

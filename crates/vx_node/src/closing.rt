@@ -16,7 +16,7 @@ use vx_model::Name;
 use vx_script::ScriptLine;
 use vx_yard::Yard;
 
-// A site at which a line is open, or works on blocks, where a replicated volume group is over its group.
+// A site at which a line is open, or writes blocks, where a replicated volume group is over its group.
 fn open_site(line: &ScriptLine) -> Option<Name>
     ensures { result ≡ open_site line.now }
 {
@@ -28,8 +28,6 @@ fn open_site(line: &ScriptLine) -> Option<Name>
         | ScriptLine::PlexAttach { site, .. }
         | ScriptLine::Write { site, .. }
         | ScriptLine::Put { site, .. }
-        | ScriptLine::Read { site, .. }
-        | ScriptLine::Show { site, .. }
         | ScriptLine::Apply { site, .. } => Some(*site),
         ScriptLine::Link { primary, .. } => Some(*primary),
         _ => None,
@@ -46,15 +44,12 @@ fn open_second(line: &ScriptLine) -> Option<Name>
     }
 }
 
-// The volume whose blocks it writes or reads.
+// The volume whose blocks it writes.
 fn block_volume(line: &ScriptLine) -> Option<Name>
     ensures { result ≡ block_volume line.now }
 {
     match line {
-        ScriptLine::Write { volume, .. }
-        | ScriptLine::Put { volume, .. }
-        | ScriptLine::Read { volume, .. }
-        | ScriptLine::Show { volume, .. } => Some(*volume),
+        ScriptLine::Write { volume, .. } | ScriptLine::Put { volume, .. } => Some(*volume),
         _ => None,
     }
 }
