@@ -2,9 +2,12 @@
 use Rattle.std.proofs.Common.{◌≡◌, ℕ, List, sym, subst, refl}
 use Rattle.vx_history.specs.Doubts.{Doubted}
 use Rattle.vx_history.specs.World.{Fuse}
+use Rattle.vx_order.specs.Calls.{is_data}
+use Rattle.vx_order.specs.declared.facts.VolumeKind.{VolumeKind}
+use Rattle.vx_order.specs.declared.facts.VolumeKind.TheVariants.{Data}
 use Rattle.vx_script.specs.declared.line.ScriptLine.TheVariants.{Put, Read, Show, Write}
 use Rattle.vx_events.specs.Fails.{Fails}
-use Rattle.vx_events.specs.RvgOver.{EndsOver, fuse_behind, OverRvg, NotesLine, burnt_over}
+use Rattle.vx_events.specs.RvgOver.{EndsOver, EndsRead, fuse_behind, kind_named, OverRvg, NotesLine, burnt_over}
 use Rattle.vx_events.specs.declared.said.Said.{Said}
 use Rattle.vx_events.specs.RvgWorks.{FuseRanOut, NotesWork}
 use Rattle.vx_history.specs.Groups.{GroupNode}
@@ -41,18 +44,22 @@ module _ (told : Type 0) (d : Doubted) (name volume : List ℕ) (s : ℕ) (numbe
     fuse = λ old now. refl;
   }
 
-  pub line_read : (start count : ℕ) → LineOver told d s (Read name volume start count)
-  line_read start count = record {
+  pub line_read : (start count : ℕ) → kind_named (d.world.nodes s) volume ≡ Data → LineOver told d s (Read name volume start count)
+  line_read start count kind = record {
     place = number;
     lined = λ inner fails next works. works;
-    wrap = λ fails said new ends. subst (λ (k : ℕ). OverRvg told d (Read name volume start count) k fails said new) (sym number) ends;
+    wrap = λ fails said new ends.
+        subst (λ (k : ℕ). OverRvg told d (Read name volume start count) k fails said new) (sym number)
+        (subst (λ (x : VolumeKind). EndsRead (is_data x) told d (Read name volume start count) volume start count s fails said new) (sym kind) ends);
     fuse = λ old now. refl;
   }
 
-  pub line_show : (start count : ℕ) → LineOver told d s (Show name volume start count)
-  line_show start count = record {
+  pub line_show : (start count : ℕ) → kind_named (d.world.nodes s) volume ≡ Data → LineOver told d s (Show name volume start count)
+  line_show start count kind = record {
     place = number;
     lined = λ inner fails next works. works;
-    wrap = λ fails said new ends. subst (λ (k : ℕ). OverRvg told d (Show name volume start count) k fails said new) (sym number) ends;
+    wrap = λ fails said new ends.
+        subst (λ (k : ℕ). OverRvg told d (Show name volume start count) k fails said new) (sym number)
+        (subst (λ (x : VolumeKind). EndsRead (is_data x) told d (Show name volume start count) volume start count s fails said new) (sym kind) ends);
     fuse = λ old now. refl;
   }

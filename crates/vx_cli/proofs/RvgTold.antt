@@ -6,7 +6,7 @@ use Rattle.vx_history.specs.Groups.{GroupNode}
 use Rattle.vx_model.specs.declared.no.No.{No}
 use Rattle.vx_model.specs.declared.units.Units.{Units}
 use Rattle.vx_script.specs.declared.line.ScriptLine.{ScriptLine}
-use Rattle.vx_script.specs.declared.line.ScriptLine.TheVariants.{Recover, Rvg}
+use Rattle.vx_script.specs.declared.line.ScriptLine.TheVariants.{Read, Recover, Rvg, Show}
 use Rattle.vx_events.specs.Ends.{place_of}
 use Rattle.vx_events.specs.Facts.{site_number}
 use Rattle.vx_events.specs.Fails.{Fails}
@@ -23,6 +23,7 @@ use Rattle.vx_events.specs.StepsOver.{group_place, is_for_group}
 use Rattle.vx_events.specs.declared.said.Said.{Said}
 use Rattle.vx_events.proofs.GroupTold.{back_told, known_told, nothing_told, shows_told}
 use Rattle.vx_events.proofs.LineTold.{ends_told}
+use Rattle.vx_events.proofs.ReadsLeave.{read_told}
 use Rattle.vx_events.proofs.Tolds.{works_told}
 
 module _ {T U : Type 0} (f : U → T) where
@@ -87,6 +88,8 @@ module _ {T U : Type 0} (f : U → T) where
   place_told : (d : Doubted) (line : ScriptLine) (s : ℕ) (fails : Fails) (said : Said) (new : Doubted) → OverRvg T d line s fails said new → OverRvg U d line s fails said new
   place_told d (Recover site) s fails said new (inl x) = inl (came_told d (Recover site) s fails said new x)
   place_told d (Recover site) s fails said new (inr x) = inr (found_told d (Recover site) s fails said new x)
+  place_told d (Read site volume start count) s fails said new x = read_told f d (Read site volume start count) volume start count s fails said new (over_told d (Read site volume start count) s fails said new) x
+  place_told d (Show site volume start count) s fails said new x = read_told f d (Show site volume start count) volume start count s fails said new (over_told d (Show site volume start count) s fails said new) x
   place_told d other s fails said new x = over_told d other s fails said new x
 
   -- ---- any line

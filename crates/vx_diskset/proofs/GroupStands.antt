@@ -128,7 +128,7 @@ module _ (n k : Node) (like : IsLikeGroup n k) where
     }
 
 -- what a line that works on a site notes of its fuse
-burned_like : (n : Node) → IsLikeGroup n (record n { fuse = burned n.fuse })
+pub burned_like : (n : Node) → IsLikeGroup n (record n { fuse = burned n.fuse })
 burned_like n = record {
   state = refl;
   disks = refl;

@@ -10,7 +10,7 @@ use Rattle.vx_grouped.specs.declared.group_site.GroupSite.TheVariants.{Up, Depor
 use Rattle.vx_events.specs.GroupNotes.{no_note}
 use Rattle.vx_events.specs.GroupViews.{config_of}
 use Rattle.vx_history.specs.Groups.{GroupNode}
-use Rattle.vx_history.specs.Steps.{crashed}
+use Rattle.vx_history.specs.Steps.{crashed, worked}
 use Rattle.vx_history.specs.World.{Fuse, FuseSet, Node}
 use Rattle.vx_model.specs.declared.site.SiteState.TheVariants.{Up as IsUp}
 use Rattle.vx_model.specs.declared.units.Units.{Units}
@@ -25,7 +25,7 @@ use Rattle.vx_diskset.specs.declared.disk_set.DiskSet.{DiskSet}
 use Rattle.vx_diskset.specs.declared.disk_set.DiskSet.TheVariants.{Bare, Spoiled, Up as UpSet, Receives, Down as DownSet, OfGroup, Over, Gone as GoneSet}
 use Rattle.vx_diskset.specs.declared.group_set.CutWrite.{CutWrite}
 use Rattle.vx_diskset.specs.declared.over_set.OverSet.{OverSet}
-use Rattle.vx_diskset.proofs.GroupStands.{IsLikeGroup, away_like, down_like, up_like}
+use Rattle.vx_diskset.proofs.GroupStands.{IsLikeGroup, away_like, burned_like, down_like, up_like}
 use Rattle.vx_diskset.proofs.OverNoted.{down_again, noted_up, up_noted}
 
 module _ {R : Type 0} {g : Ghosts R} where
@@ -104,6 +104,30 @@ module _ (n m : Node) (like : NotesAs n m) where
     noted_stays (DownSet rack) new stays noted = noted_apart m new stays
     noted_stays (OfGroup s) new stays noted = noted_apart m new stays
     noted_stays GoneSet new stays noted = noted_apart m new stays
+
+-- behind a line that works on the site, by which less is known of its fuse
+module _ {R : Type 0} {g : Ghosts R} (n : Node) where
+  on_worked : (note : GroupNode) (s : GroupSite R g) → NotedOn (below_rvg n) note s → NotedOn (below_rvg (worked n)) note s
+  on_worked note (Up laid) it = up_like (below_rvg n) (below_rvg (worked n)) (burned_like (below_rvg n)) note (laid_below laid).tells laid.core (laid_disks laid) it
+  on_worked note (Deported idle) it = away_like (below_rvg n) (below_rvg (worked n)) (burned_like (below_rvg n)) note idle.agreed (idle_below idle).tells (idle_disks idle) it
+  on_worked note (Down idle) it = down_like (below_rvg n) (below_rvg (worked n)) (burned_like (below_rvg n)) note idle.agreed (idle_below idle).tells (idle_disks idle) it
+  on_worked note (Marked rack) it = absurd it
+  on_worked note Gone it = absurd it
+
+  pub noted_worked : (e : DiskSet R g) → NotedOver n e → NotedOver (worked n) e
+  noted_worked (Over o) noted = (
+    (λ note is.
+        let was = noted.0 note is in
+        (on_worked note (site_in o) was.0, was.1, was.2, was.3, was.4)),
+    noted.1,
+  )
+  noted_worked (Bare rack) noted = tt
+  noted_worked (Spoiled rack) noted = tt
+  noted_worked (UpSet rvg) noted = tt
+  noted_worked (Receives s) noted = tt
+  noted_worked (DownSet rack) noted = tt
+  noted_worked (OfGroup s) noted = tt
+  noted_worked GoneSet noted = tt
 
 module _ {R : Type 0} {g : Ghosts R} (beside : KeptBeside) (n m : Node) where
   over_fused : (calls : ℕ) (like : NotesAs (record n { fuse = FuseSet calls }) m) (o s : OverSet R g) → SiteStands beside n (Over o) → n.state ≡ IsUp → FusesNoted calls o s → NotedOver n (Over o) → NotedOver m (Over s)

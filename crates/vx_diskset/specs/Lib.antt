@@ -30,5 +30,6 @@ pub mod Zeros
 pub mod Works
 pub mod OverAsks
 pub mod OverKeeps
+pub mod OverPlains
 pub mod OverRises
 pub mod OverStarts

@@ -17,6 +17,7 @@ ghost use Rattle.vx_diskset.specs.Asked.{FuseGoesOn, SameFailing};
 ghost use Rattle.vx_diskset.specs.DiskSets.{Later};
 ghost use Rattle.vx_diskset.specs.GroupCalls.{AtPlain, AtSite, CalledOn, OnSites, config_in, cut_in};
 ghost use Rattle.vx_diskset.specs.GroupSets.{cut_behind, cut_value};
+ghost use Rattle.vx_diskset.specs.OverPlains.{OnOver, ReadsBelow};
 ghost use Rattle.vx_watched.specs.Traces.{TellsLess};
 
 use crate::DiskSet;
@@ -195,6 +196,7 @@ impl<R: Rack> DiskSet<R> {
     pub fn read_plain(&mut self, volume: u32, start: u64, into: &mut [u8]) -> Result<(), No>
         ensures read { (n : Node) (note : GroupNode) → AtSite (UpNoted n note) self.old → FitsPlain note volume start (length into.old) → OnSites (λ o e. PlainRead n note volume start into.new o e result) self.old self.new }
         ensures maps { (n : Node) (note : GroupNode) → AtSite (UpNoted n note) self.old → FitsPlain note volume start (length into.old) → OnSites StaysMapped self.old self.new }
+        ensures over { OnOver (ReadsBelow volume start (length into.old) into.new result) self.old self.new }
         ensures cut { cut_in self.new ≡ cut_in self.old }
         ensures fuse { (n : Node) (note : GroupNode) → AtSite (UpNoted n note) self.old → FitsPlain note volume start (length into.old) → FuseGoesOn self.old self.new }
         ensures failing { SameFailing self.old self.new }
@@ -203,6 +205,7 @@ impl<R: Rack> DiskSet<R> {
     {
         match self {
             DiskSet::OfGroup(group) => group.site.read(volume, start, into),
+            DiskSet::Over(over) => over.read_plain(volume, start, into),
             _ => Err(No::Role),
         }
     }

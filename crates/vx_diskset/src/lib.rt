@@ -16,6 +16,7 @@ mod over_asked;
 mod over_calls;
 mod over_disks;
 mod over_group;
+mod over_plain;
 mod over_set;
 mod over_starts;
 mod over_work;

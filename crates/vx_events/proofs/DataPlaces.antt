@@ -23,7 +23,7 @@ named name v = bytes_eq v.name name
 
 -- ---- the other volumes
 
-never_data : (v : VolumeFacts) → is_data v.kind ≡ false → v.kind ≡ Data → ⊥
+pub never_data : (v : VolumeFacts) → is_data v.kind ≡ false → v.kind ≡ Data → ⊥
 never_data v off is = let clash : false ≡ true = sym off ∙ ap is_data is in absurd (cc)
 
 kind_off : (units : Units) (place : ℕ) → is_data (kind_at units place) ≡ false

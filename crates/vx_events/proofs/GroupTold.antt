@@ -21,7 +21,7 @@ module _ {T U : Type 0} (f : U → T) where
   pub known_told : (note : GroupNode) → IsKnown U note → IsKnown T note
   known_told note k = (f k.0, k.1)
 
-  gives_told : (note : GroupNode) (volume start count : ℕ) (said : Said) → GivesPlain T note volume start count said → GivesPlain U note volume start count said
+  pub gives_told : (note : GroupNode) (volume start count : ℕ) (said : Said) → GivesPlain T note volume start count said → GivesPlain U note volume start count said
   gives_told note volume start count said x = record { bytes = x.bytes; got = x.got; size = x.size; each = λ k. x.each (known_told note k) }
 
   pub back_told : (s : ℕ) (n : Node) (fails : Fails) (note new : GroupNode) → NotesBack T s n fails note new → NotesBack U s n fails note new

@@ -8,6 +8,7 @@ pub mod GroupStopping
 pub mod GroupTold
 pub mod LineTold
 pub mod RvgStopping
+pub mod ReadsLeave
 pub mod RvgEnding
 pub mod RvgEvents
 pub mod RvgFull
@@ -36,6 +37,7 @@ pub mod Over
 pub mod OverSeats
 pub mod Parts
 pub mod Opens
+pub mod OtherPlaces
 pub mod Passing
 pub mod Places
 pub mod Refused

@@ -28,7 +28,6 @@ use Rattle.vx_order.specs.Sites.{site_named}
 use Rattle.vx_order.specs.Subject.{first_name, second_name, need_of, halt_of}
 use Rattle.vx_script.specs.declared.line.ScriptLine.TheVariants.{Set, Connect, Cut, Pause, Resume, Tick, Pump, Deliver}
 use Rattle.vx_events.specs.Facts.{site_number}
-use Rattle.vx_events.specs.GroupLines.{is_over_group}
 use Rattle.vx_events.specs.LinkedFacts.{link_fact}
 use Rattle.vx_events.specs.StepsOver.{fact_over, facts_over, refused_over}
 use Rattle.vx_events.proofs.LinkTesting.{OnLink, on_link_by}
@@ -61,12 +60,12 @@ module _ (w : World) (files : Bool) (p s : List ℕ) where
       let t = passes (facts_over w) files (Set p s sync prot) free in
       ap (λ (o : Outcome). o.said) (passes_link w p s is_origin _ (on_link_by w p s has_writes is_origin (λ n. refl) refl t.known t.other_known t.up t.running t.link_role t.link))
 
-  -- the site of such a line is over no group
-  pub set_apart : (sync : SyncMode) (prot : Prot) → refused_over w files (Set p s sync prot) ≡ None → is_over_group (w.nodes a) ≡ false
+  -- and there is the link
+  pub set_link : (sync : SyncMode) (prot : Prot) → refused_over w files (Set p s sync prot) ≡ None → OnLink w p s is_origin
   unfolding first_name second_name need_of halt_of ask_of
-  set_apart sync prot free =
+  set_link sync prot free =
       let t = passes (facts_over w) files (Set p s sync prot) free in
-      (on_link_by w p s has_writes is_origin (λ n. refl) refl t.known t.other_known t.up t.running t.link_role t.link).apart
+      on_link_by w p s has_writes is_origin (λ n. refl) refl t.known t.other_known t.up t.running t.link_role t.link
 
   pub connect_agrees : refused_over w files (Connect p s) ≡ None → (step w (ConnectAt a b)).said ≡ Done
   unfolding first_name second_name need_of halt_of ask_of

@@ -1,17 +1,16 @@
--- What is left of a line that is not open: it works on no link of a site with a replicated volume group over its group of disks, and at such a site on blocks of data
+-- What is left of a line that is not open: it links no site with a replicated volume group over its group of disks, and at such a site on blocks of data
 -- volumes alone. Where there is no such site no line is open.
-use Rattle.std.proofs.Common.{◌≡◌, ◌∙◌, ℕ, Bool, true, false, List, Option, Some, None, refl, ap}
-use Rattle.std.specs.Prelude.{◌&&◌, ◌||◌, ltb, not}
-use Rattle.vx_history.specs.Events.{packet_at}
-use Rattle.vx_history.specs.World.{Node, Packet, World}
+use Rattle.std.proofs.Common.{◌≡◌, ◌∙◌, ℕ, Bool, true, false, List, refl, ap}
+use Rattle.std.specs.Prelude.{◌&&◌, ◌||◌, not}
+use Rattle.vx_history.specs.World.{Node, World}
 use Rattle.vx_order.specs.Calls.{is_data}
 use Rattle.vx_order.specs.declared.facts.VolumeKind.{VolumeKind}
 use Rattle.vx_order.specs.declared.facts.VolumeKind.TheVariants.{Data, Map, Plain, Srl}
 use Rattle.vx_script.specs.declared.line.ScriptLine.{ScriptLine}
-use Rattle.vx_script.specs.declared.line.ScriptLine.TheVariants.{Apply, Crash, Deliver, Disk, Fuse, GroupDeport, GroupImport, Link, PlexAttach, PlexDetach, Pump, Put, Read, Recover, Set, Settle, Show, Status, Volume, Write}
+use Rattle.vx_script.specs.declared.line.ScriptLine.TheVariants.{Apply, Crash, Disk, Fuse, GroupDeport, GroupImport, Link, PlexAttach, PlexDetach, Put, Read, Recover, Show, Status, Volume, Write}
 use Rattle.vx_events.specs.Facts.{site_number}
 use Rattle.vx_events.specs.OpenLines.{HasNoOpen, is_open, is_open_volume}
-use Rattle.vx_events.specs.RvgLinks.{links_rvg, rvg_target}
+use Rattle.vx_events.specs.RvgLinks.{links_rvg}
 use Rattle.vx_events.specs.RvgOver.{is_plain_kind, kind_named}
 use Rattle.vx_events.specs.RvgSteps.{HasNoRvgs, is_for_rvg}
 use Rattle.vx_events.specs.RvgViews.{is_over_rvg}
@@ -24,8 +23,6 @@ open_links w (PlexDetach site volume plex) closed = refl
 open_links w (PlexAttach site volume plex) closed = refl
 open_links w (Write site volume start count fill) closed = refl
 open_links w (Put site volume start bytes) closed = refl
-open_links w (Read site volume start count) closed = refl
-open_links w (Show site volume start count) closed = refl
 open_links w (Apply site to) closed = refl
 open_links w other closed = closed
 
@@ -37,8 +34,6 @@ open_beside w (PlexDetach site volume plex) off links = off
 open_beside w (PlexAttach site volume plex) off links = off
 open_beside w (Write site volume start count fill) off links = ap (λ (b : Bool). b && not (is_data (kind_named (w.nodes (site_number w site)) volume))) off
 open_beside w (Put site volume start bytes) off links = ap (λ (b : Bool). b && not (is_data (kind_named (w.nodes (site_number w site)) volume))) off
-open_beside w (Read site volume start count) off links = ap (λ (b : Bool). b && not (is_data (kind_named (w.nodes (site_number w site)) volume))) off
-open_beside w (Show site volume start count) off links = ap (λ (b : Bool). b && not (is_data (kind_named (w.nodes (site_number w site)) volume))) off
 open_beside w (Apply site to) off links = off
 open_beside w other off links = links
 
@@ -48,6 +43,15 @@ data_by true Srl is closed = absurd (cc)
 data_by true Map is closed = absurd (cc)
 data_by true Plain is closed = absurd (cc)
 data_by false kind is closed = absurd (cc)
+
+-- neither
+pub first_off : (a b : Bool) → (a || b) ≡ false → a ≡ false
+first_off true b is = absurd (let clash : true ≡ false = is in cc)
+first_off false b is = refl
+
+pub last_off : (a b : Bool) → (a || b) ≡ false → b ≡ false
+last_off true b is = absurd (let clash : true ≡ false = is in cc)
+last_off false b is = is
 
 -- the volume that such a line names at such a site is a data volume
 pub open_data : (n : Node) (volume : List ℕ) → is_over_rvg n ≡ true → is_open_volume n volume ≡ false → kind_named n volume ≡ Data
@@ -60,20 +64,8 @@ module _ (w : World) (none : HasNoRvgs w) where
   either_none : (a b : Bool) → a ≡ false → b ≡ false → (a || b) ≡ false
   either_none a b e f = ap (λ (x : Bool). x || b) e ∙ f
 
-  target_none : (o : Option Packet) → rvg_target w o ≡ false
-  target_none None = refl
-  target_none (Some p) = by (ltb p.target w.sites) (is_over_rvg (w.nodes p.target)) (none p.target)
-    where
-      by : (a b : Bool) → b ≡ false → (a && b) ≡ false
-      by true b is = is
-      by false b is = refl
-
   links_none : (line : ScriptLine) → links_rvg w line ≡ false
   links_none (Link p s sync prot) = either_none (is_over_rvg (w.nodes (site_number w p))) (is_over_rvg (w.nodes (site_number w s))) (none (site_number w p)) (none (site_number w s))
-  links_none (Set p s sync prot) = none (site_number w p)
-  links_none (Pump p s) = none (site_number w p)
-  links_none (Deliver number) = target_none (packet_at w.packets number)
-  links_none (Settle p s) = either_none (is_over_rvg (w.nodes (site_number w p))) (is_over_rvg (w.nodes (site_number w s))) (none (site_number w p)) (none (site_number w s))
   links_none other = refl
 
   pub for_none : (line : ScriptLine) → is_for_rvg w line ≡ false
@@ -105,7 +97,5 @@ module _ (w : World) (none : HasNoRvgs w) where
   open_none (PlexAttach site volume plex) = none (site_number w site)
   open_none (Write site volume start count fill) = volume_none site volume
   open_none (Put site volume start bytes) = volume_none site volume
-  open_none (Read site volume start count) = volume_none site volume
-  open_none (Show site volume start count) = volume_none site volume
   open_none (Apply site to) = none (site_number w site)
   open_none other = links_none other

@@ -18,6 +18,8 @@ use Rattle.vx_events.proofs.KnownLaws.{finds_none}
 use Rattle.vx_events.proofs.Noting.{as_like, disks_like, like_disks, like_noted, like_self, like_then, like_site}
 use Rattle.vx_events.proofs.RvgStopping.{ended as ended_rvg, same_doubted}
 use Rattle.vx_events.proofs.Stopping.{BeginsWrite, Recovers, ended, runs_as}
+use Rattle.vx_order.specs.Calls.{is_data}
+use Rattle.vx_events.proofs.ReadsLeave.{read_by, read_stops}
 use Rattle.vx_events.specs.Doubts.{run_as, with_disks}
 use Rattle.vx_events.specs.Ends.{place_of}
 use Rattle.vx_events.specs.Facts.{site_number}
@@ -28,7 +30,7 @@ use Rattle.vx_events.specs.GroupNotes.{IsKnown, note_at}
 use Rattle.vx_events.specs.Lists.{Choice, events_of, recovery_of, crash_count}
 use Rattle.vx_events.specs.RvgBack.{FindsNoRvg, FindsPlain, FindsRvg, GroupHeld, GroupUnfound, IsLeftBack, IsLeftBut, LogFails, LogLacks, RvgBack, RvgFinds, RvgUp, fall_first, fuse_left}
 use Rattle.vx_events.specs.RvgMakes.{RvgStops}
-use Rattle.vx_events.specs.RvgOver.{EndsOver, OpensFor, OverRvg, noting_over, fuse_behind}
+use Rattle.vx_events.specs.RvgOver.{EndsOver, OpensFor, OverRvg, kind_named, noting_over, fuse_behind}
 use Rattle.vx_events.specs.RvgParts.{RvgShort, ShortGroup, ShortLog, ShortMade}
 use Rattle.vx_events.specs.declared.said.Said.{Said}
 
@@ -199,6 +201,10 @@ module _ (told : Type 0) (d : Doubted) (s : ℕ) (fails : Fails) (said : Said) (
   -- the line ended as events do, or found something on disks of which nothing is known
   pub stops_or_finds : (line : ScriptLine) → OpensFor d.world line → OverRvg told d line s fails said new → RvgStops d new ⊎ RvgFinds told d line s fails said new
   stops_or_finds (Recover site) opens ends = back_or (Recover site) ends
+  stops_or_finds (Read site volume start count) opens ends =
+      read_by told d (Read site volume start count) volume start count s fails said new (RvgStops d new ⊎ RvgFinds told d (Read site volume start count) s fails said new) (λ it. inl (over_stops told d (Read site volume start count) s fails said new (λ recovers. recovers) (opens_at d.world (Read site volume start count) opens) it)) (λ left. inl (read_stops d new s left)) (is_data (kind_named (d.world.nodes s) volume)) ends
+  stops_or_finds (Show site volume start count) opens ends =
+      read_by told d (Show site volume start count) volume start count s fails said new (RvgStops d new ⊎ RvgFinds told d (Show site volume start count) s fails said new) (λ it. inl (over_stops told d (Show site volume start count) s fails said new (λ recovers. recovers) (opens_at d.world (Show site volume start count) opens) it)) (λ left. inl (read_stops d new s left)) (is_data (kind_named (d.world.nodes s) volume)) ends
   stops_or_finds other opens ends = inl (over_stops told d other s fails said new (λ recovers. recovers) (opens_at d.world other opens) ends)
 
   pub over_rvg_stops : (line : ScriptLine) → new.strayed ≡ false → OpensFor d.world line → OverRvg told d line s fails said new → RvgStops d new

@@ -11,6 +11,8 @@ use Rattle.vx_config.specs.declared.config.Config.{Config}
 use Rattle.vx_model.specs.declared.units.Units.{Units}
 use Rattle.vx_script.specs.declared.line.ScriptLine.{ScriptLine}
 use Rattle.vx_script.specs.declared.line.ScriptLine.TheVariants.{Put, Read, Recover, Show, Write}
+use Rattle.vx_order.specs.Calls.{is_data}
+use Rattle.vx_events.proofs.ReadsLeave.{read_by, read_note}
 use Rattle.vx_events.proofs.KnownLaws.{back_known, finds_none, group_stays, no_rise, same_note}
 use Rattle.vx_events.specs.Doubts.{with_disks}
 use Rattle.vx_events.specs.Fails.{Fails}
@@ -21,7 +23,7 @@ use Rattle.vx_events.specs.Known.{MayDarken}
 use Rattle.vx_events.specs.RvgBack.{FindsNoRvg, FindsPlain, FindsRvg, GroupHeld, GroupUnfound, IsLeftBack, LogFails, LogLacks, RvgBack, RvgFinds, RvgUp, fuse_left}
 use Rattle.vx_events.specs.RvgMakes.{IsLeftRvg, MakesRvg, RvgCut, RvgDone, RvgFails, RvgLacks, units_at}
 use Rattle.vx_events.specs.RvgNotes.{NotesNarrowed}
-use Rattle.vx_events.specs.RvgOver.{EndsOver, NotesLine, OverRvg, noting_over, fuse_behind}
+use Rattle.vx_events.specs.RvgOver.{EndsOver, NotesLine, OverRvg, kind_named, noting_over, fuse_behind}
 use Rattle.vx_events.specs.RvgWorks.{FuseRanOut, NotesWork, WorksAs}
 use Rattle.vx_events.specs.declared.said.Said.{Said}
 
@@ -130,4 +132,8 @@ module _ (told : Type 0) (tells : told) (d : Doubted) (s : ℕ) (known : (note_a
 
   pub over_known : (line : ScriptLine) → (MayDarken here line said → ⊥) → OverRvg told d line s fails said new → (note_at (new.world.nodes s)).dark ≡ false
   over_known (Recover site) free ends = back_or_known (Recover site) free ends
+  over_known (Read site volume start count) free ends =
+      read_by told d (Read site volume start count) volume start count s fails said new ((note_at (new.world.nodes s)).dark ≡ false) (λ it. line_known (Read site volume start count) it) (λ left. ap (λ (g : GroupNode). g.dark) (read_note d new s left) ∙ known) (is_data (kind_named (d.world.nodes s) volume)) ends
+  over_known (Show site volume start count) free ends =
+      read_by told d (Show site volume start count) volume start count s fails said new ((note_at (new.world.nodes s)).dark ≡ false) (λ it. line_known (Show site volume start count) it) (λ left. ap (λ (g : GroupNode). g.dark) (read_note d new s left) ∙ known) (is_data (kind_named (d.world.nodes s) volume)) ends
   over_known other free ends = line_known other ends

@@ -15,7 +15,9 @@ use Rattle.vx_events.specs.Fails.{Fails}
 use Rattle.vx_events.specs.GroupEnds.{NotFoundLeaves}
 use Rattle.vx_events.specs.GroupNotes.{NotesBack, NotesRefused, no_note, note_at}
 use Rattle.vx_events.specs.RvgBack.{GroupHeld, GroupUnfound, LogFails, LogLacks, RvgBack, RvgFinds, RvgUp}
-use Rattle.vx_events.specs.RvgOver.{EndsOver, NotesLine, OverRvg, SaysOver}
+use Rattle.vx_order.specs.Calls.{is_data}
+use Rattle.vx_events.proofs.ReadsLeave.{read_by, read_note}
+use Rattle.vx_events.specs.RvgOver.{EndsOver, NotesLine, OverRvg, SaysOver, kind_named}
 use Rattle.vx_events.specs.RvgWorks.{FuseRanOut, NoneFailed, NoteAgrees, NotesWork}
 use Rattle.vx_events.specs.declared.said.Said.{Said}
 use Rattle.vx_events.proofs.RvgKnown.{noted_over_here}
@@ -82,4 +84,8 @@ module _ (told : Type 0) (tells : told) (d : Doubted) (s : ℕ) (fails : Fails) 
 
   pub over_agrees : (line : ScriptLine) → OverRvg told d line s fails said new → NoteAgrees (note_at (new.world.nodes s))
   over_agrees (Recover site) ends = back_or (Recover site) ends
+  over_agrees (Read site volume start count) ends =
+      read_by told d (Read site volume start count) volume start count s fails said new (NoteAgrees (note_at (new.world.nodes s))) (λ it. line_ends (Read site volume start count) it) (λ left. agrees_note (note_at (d.world.nodes s)) (note_at (new.world.nodes s)) (read_note d new s left) a) (is_data (kind_named (d.world.nodes s) volume)) ends
+  over_agrees (Show site volume start count) ends =
+      read_by told d (Show site volume start count) volume start count s fails said new (NoteAgrees (note_at (new.world.nodes s))) (λ it. line_ends (Show site volume start count) it) (λ left. agrees_note (note_at (d.world.nodes s)) (note_at (new.world.nodes s)) (read_note d new s left) a) (is_data (kind_named (d.world.nodes s) volume)) ends
   over_agrees other ends = line_ends other ends

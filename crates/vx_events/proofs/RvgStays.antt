@@ -17,13 +17,15 @@ use Rattle.vx_events.proofs.RvgKnown.{back_dark, lost_group, noted_here, noted_o
 use Rattle.vx_events.specs.Doubts.{with_disks}
 use Rattle.vx_events.specs.Fails.{Fails}
 use Rattle.vx_events.specs.GroupConfigs.{ConfigLoses}
+use Rattle.vx_order.specs.Calls.{is_data}
+use Rattle.vx_events.proofs.ReadsLeave.{read_by, read_note}
 use Rattle.vx_events.specs.GroupEnds.{NotFoundLeaves}
 use Rattle.vx_events.specs.GroupLines.{group_noted, noting}
 use Rattle.vx_events.specs.GroupNotes.{IsKnown, NotesBack, NotesRefused, NotesUnfound, Reconfigures, no_note, note_at}
 use Rattle.vx_events.specs.GroupViews.{config_of}
 use Rattle.vx_events.specs.RvgBack.{FindsNoRvg, FindsPlain, FindsRvg, GroupHeld, GroupUnfound, IsLeftBack, IsLeftBut, LogFails, LogLacks, RvgBack, RvgFinds, RvgUp}
 use Rattle.vx_events.specs.RvgFits.{KeepsRvg, KeptConfig, NoteKeepsRvg, config_rvg, rvg_noted}
-use Rattle.vx_events.specs.RvgOver.{NotesLine, OverRvg, EndsOver}
+use Rattle.vx_events.specs.RvgOver.{NotesLine, OverRvg, EndsOver, kind_named}
 use Rattle.vx_events.specs.RvgViews.{is_over_rvg}
 use Rattle.vx_events.specs.RvgWorks.{NotesWork, FuseRanOut, WorksCut}
 use Rattle.vx_events.specs.declared.said.Said.{Said}
@@ -166,6 +168,10 @@ module _ (told : Type 0) (d : Doubted) (s : ℕ) (fails : Fails) (said : Said) (
   -- the line left it noted so, or found something on disks of which nothing is known
   pub stays_or_finds : (line : ScriptLine) → OverRvg told d line s fails said new → Stays ⊎ RvgFinds told d line s fails said new
   stays_or_finds (Recover site) ends = back_or (Recover site) ends
+  stays_or_finds (Read site volume start count) ends =
+      read_by told d (Read site volume start count) volume start count s fails said new (Stays ⊎ RvgFinds told d (Read site volume start count) s fails said new) (λ it. inl (line_stays told d (Read site volume start count) s fails said new over it)) (λ left. inl (same_note (note_at (d.world.nodes s)) (note_at (new.world.nodes s)) (read_note d new s left))) (is_data (kind_named (d.world.nodes s) volume)) ends
+  stays_or_finds (Show site volume start count) ends =
+      read_by told d (Show site volume start count) volume start count s fails said new (Stays ⊎ RvgFinds told d (Show site volume start count) s fails said new) (λ it. inl (line_stays told d (Show site volume start count) s fails said new over it)) (λ left. inl (same_note (note_at (d.world.nodes s)) (note_at (new.world.nodes s)) (read_note d new s left))) (is_data (kind_named (d.world.nodes s) volume)) ends
   stays_or_finds other ends = inl (line_stays told d other s fails said new over ends)
 
   pub over_stays : told → (line : ScriptLine) → OverRvg told d line s fails said new → (note_at (new.world.nodes s)).dark ≡ false → Stays

@@ -8,7 +8,7 @@ use Rattle.vx_history.specs.World.{Node, World}
 use Rattle.vx_history.specs.declared.event.Event.{Event}
 use Rattle.vx_history.specs.declared.event.Event.TheVariants.{Crash as CrashAt, Fault, Recover as RecoverAt}
 use Rattle.vx_script.specs.declared.line.ScriptLine.{ScriptLine}
-use Rattle.vx_script.specs.declared.line.ScriptLine.TheVariants.{Recover, Rvg}
+use Rattle.vx_script.specs.declared.line.ScriptLine.TheVariants.{Read, Recover, Rvg, Show}
 use Rattle.vx_events.proofs.Straying.{run_strays, runs_strays}
 use Rattle.vx_events.specs.Doubts.{IsAs}
 use Rattle.vx_events.specs.Ends.{AllDone, DiskFails, Ends, FindsLinks, FindsNone, FromBare, FromDown, FromUp, FuseRunsOut, HeaderFails, NoNumber, Recovering, ShowsReceived, place_of as site_of}
@@ -27,7 +27,9 @@ use Rattle.vx_events.specs.RvgBack.{FindsNoRvg, FindsPlain, FindsRvg, GroupHeld,
 use Rattle.vx_events.specs.RvgMakes.{MakesRvg, RvgCut, RvgDone, RvgFails, RvgLacks, noting_in, units_at}
 use Rattle.vx_events.specs.RvgNotes.{volume_events}
 use Rattle.vx_events.specs.GroupNotes.{IsKnown, note_at}
-use Rattle.vx_events.specs.RvgOver.{EndsOver, OverRvg}
+use Rattle.vx_order.specs.Calls.{is_data}
+use Rattle.vx_events.proofs.ReadsLeave.{read_by}
+use Rattle.vx_events.specs.RvgOver.{EndsOver, OverRvg, kind_named}
 use Rattle.vx_events.specs.RvgParts.{RvgShort, ShortFull, ShortGroup, ShortLog, ShortMade, short_place}
 use Rattle.vx_events.specs.RvgSteps.{AsBefore, FoundOne, FullBy, StepFull, WorksAbove, WorksBeside, WorksFull, is_for_rvg, rvg_place}
 use Rattle.vx_events.specs.StepsOver.{WorksOver, group_place, is_for_group, refused_over}
@@ -146,6 +148,10 @@ module _ (told : Type 0) (d : Doubted) (fails : Fails) (said : Said) (new : Doub
 
   over_found : (line : ScriptLine) (s : ℕ) → OverRvg told d line s fails said new → CalmOrFinds s line
   over_found (Recover site) s ends = either_strays (Recover site) s ends
+  over_found (Read site volume start count) s ends =
+      read_by told d (Read site volume start count) volume start count s fails said new (CalmOrFinds s (Read site volume start count)) (λ it. inl (ends_over_strays told d (Read site volume start count) s fails said new it)) (λ left. inl left.strayed) (is_data (kind_named (d.world.nodes s) volume)) ends
+  over_found (Show site volume start count) s ends =
+      read_by told d (Show site volume start count) volume start count s fails said new (CalmOrFinds s (Show site volume start count)) (λ it. inl (ends_over_strays told d (Show site volume start count) s fails said new it)) (λ left. inl left.strayed) (is_data (kind_named (d.world.nodes s) volume)) ends
   over_found other s ends = inl (ends_over_strays told d other s fails said new ends)
 
   beside_found : (line : ScriptLine) → WorksBeside told d line fails said new → CalmOrFinds (group_place d.world line) line

@@ -1,11 +1,13 @@
 -- How a line that is not open ends at a site over a group of disks with a replicated volume group: as at a raw set, but that disks may fail which a mirror
--- bears, and that the site notes what the line made of its group.
-use Rattle.std.specs.Prelude.{◌≡◌, ◌⊎◌, ℕ, ◌<◌, Bool, true, false, List, ◌++◌, Option, Some, None, slice_get, unwrap_or}
+-- bears, and that the site notes what the line made of its group. One that reads a volume of the group which is no data volume reads that alone.
+use Rattle.std.specs.Prelude.{◌≡◌, ◌⊎◌, ℕ, ◌<◌, Bool, true, false, List, ◌++◌, Option, Some, None, slice_get, unwrap_or, Contains}
+use Rattle.vx_model.specs.declared.no.No.TheVariants.{Device}
 use Rattle.vx_history.specs.Doubts.{Doubted}
 use Rattle.vx_history.specs.Groups.{GroupNode}
 use Rattle.vx_history.specs.Stops.{IsOpen}
-use Rattle.vx_history.specs.Steps.{burned}
+use Rattle.vx_history.specs.Steps.{burned, worked_on}
 use Rattle.vx_history.specs.World.{Fuse, FuseLit, FuseSet, NoFuse, Node, World, with_node}
+use Rattle.vx_order.specs.Calls.{is_data}
 use Rattle.vx_order.specs.declared.facts.VolumeFacts.{VolumeFacts}
 use Rattle.vx_order.specs.declared.facts.VolumeKind.{VolumeKind}
 use Rattle.vx_order.specs.declared.facts.VolumeKind.TheVariants.{Data, Srl, Map, Plain}
@@ -15,13 +17,15 @@ use Rattle.vx_events.specs.Doubts.{IsAs}
 use Rattle.vx_events.specs.Ends.{Ends, place_of as site_of}
 use Rattle.vx_events.specs.Facts.{place_of, site_number}
 use Rattle.vx_events.specs.Fails.{Fails}
-use Rattle.vx_events.specs.GroupEnds.{AreOf}
+use Rattle.vx_events.specs.GroupEnds.{AreOf, VolumeOut}
+use Rattle.vx_events.specs.GroupLines.{plain_number}
 use Rattle.vx_events.specs.GroupNotes.{IsKnown, note_at}
+use Rattle.vx_events.specs.GroupReplies.{GivesPlain}
 use Rattle.vx_events.specs.RvgBack.{RvgBack, RvgFinds}
 use Rattle.vx_events.specs.RvgViews.{over_disks, table_at}
 use Rattle.vx_events.specs.RvgWorks.{NotesWork, FuseRanOut}
 use Rattle.vx_events.specs.declared.said.Said.{Said}
-use Rattle.vx_events.specs.declared.said.Said.TheVariants.{Shown}
+use Rattle.vx_events.specs.declared.said.Said.TheVariants.{Refused, Shown}
 
 -- ---- kinds of lines
 
@@ -91,9 +95,32 @@ pub record EndsOver (told : Type 0) (d : Doubted) (line : ScriptLine) (s : ℕ) 
   pub says : SaysOver (d.world.nodes s) next inner said
   pub left : IsAs middle (noting_over line d.world middle.world s next) new
 
--- a line at site s over a group with a replicated volume group, but for those on links: a recovery, or another
+-- no plex of a volume of the group could be read, as calls failed
+pub record ReadOut (s : ℕ) (fails : Fails) (note : GroupNode) (volume : ℕ) (said : Said) : Type 0 where
+  pub disk : ℕ
+  pub failed : Contains fails (s, disk)
+  pub out : VolumeOut s fails note volume
+  pub says : said ≡ Refused (Device disk)
+
+-- A line that reads blocks of a volume of the group alone, by its name: of each it shows a value that the site may note of it, or none could be read.
+pub record ReadsBeside (told : Type 0) (d : Doubted) (volume : List ℕ) (start count : ℕ) (s : ℕ) (fails : Fails) (said : Said) (new : Doubted) : Type 0 where
+  pub are : AreOf s fails
+  pub reads : GivesPlain told (note_at (d.world.nodes s)) (plain_number (note_at (d.world.nodes s)) volume) start count said
+      ⊎ ReadOut s fails (note_at (d.world.nodes s)) (plain_number (note_at (d.world.nodes s)) volume) said
+  pub left : IsAs d (worked_on d.world s) new
+
+-- one that reads a data volume, or another volume of the group
+abbrev pub EndsRead : (mine : Bool) → Type 0 → Doubted → ScriptLine → (volume : List ℕ) (start count : ℕ) (s : ℕ) → Fails → Said → Doubted → Type 0
+EndsRead true told d line volume start count s fails said new = EndsOver told d line s fails said new
+EndsRead false told d line volume start count s fails said new = ReadsBeside told d volume start count s fails said new
+
+-- a line at site s over a group with a replicated volume group, but for those on links: a recovery, a read, or another
 abbrev pub OverRvg : Type 0 → Doubted → ScriptLine → ℕ → Fails → Said → Doubted → Type 0
 OverRvg told d (Recover site) s fails said new = RvgBack told d (Recover site) s fails said new ⊎ RvgFinds told d (Recover site) s fails said new
+OverRvg told d (Read site volume start count) s fails said new =
+    EndsRead (is_data (kind_named (d.world.nodes s) volume)) told d (Read site volume start count) volume start count s fails said new
+OverRvg told d (Show site volume start count) s fails said new =
+    EndsRead (is_data (kind_named (d.world.nodes s) volume)) told d (Show site volume start count) volume start count s fails said new
 OverRvg told d other s fails said new = EndsOver told d other s fails said new
 
 -- where the line writes to the replicated volume group, its site is up and runs

@@ -1,6 +1,6 @@
 -- A run of blocks of a volume of a group that is up, as a line names it.
 use Rattle.std.proofs.Common.{◌≡◌, ◌∙◌, ◌+◌, ◌*◌, ◌≤◌, ℕ, zero, suc, true, List, [], ◌∷◌, map, ap, sym, arith}
-use Rattle.std.specs.Prelude.{Option, Some, slice_get, unwrap_or}
+use Rattle.std.specs.Prelude.{Option, Some, is_some, slice_get, unwrap_or}
 use Rattle.vx_model.specs.declared.site.SiteState.TheVariants.{Up as IsUp}
 use Rattle.vx_config.specs.Checks.{blocks_of}
 use Rattle.vx_config.specs.declared.config.Config.{Config}
@@ -27,6 +27,8 @@ use Rattle.vx_yard.proofs.NamedSite.{named_same, place_at}
 use Rattle.vx_yard.specs.Standing.{StandsFor}
 use Rattle.vx_yard.specs.declared.yard.Yard.{Yard}
 use Rattle.vx_group_lines.proofs.GroupAt.{GroupAt, group_at, up_noted}
+use Rattle.vx_group_lines.proofs.Numbered.{placed_at}
+use Rattle.vx_group_lines.specs.Noting.{HasConfig, number_in}
 use Rattle.vx_above.proofs.GroupStatus.{config_is, table_is}
 
 -- how many blocks the tests see of a volume
@@ -76,6 +78,19 @@ module _ {R : Type 0} {g : Ghosts R} where
         some = may.some;
         within = omega (arith, may.range, size);
       }
+
+  -- the same by the number in the group
+  pub plain_numbered : (d : Doubted) (y : Yard R g) (name volume : List ℕ) (start count s place : ℕ) (e : DiskSet R g) → StandsFor d y → over_group_at d.world name ≡ true → CallMay y.facts.items name volume start count
+      → seat_of y.facts.items name ≡ Some s → slice_get y.disk_sets.items s ≡ Some e → ((c : Config) → HasConfig s c y → place ≡ number_in c.volumes volume) → PlainCall d y name volume start count s place e
+  plain_numbered d y name volume start count s place e stands over may seat there number =
+      let n : Node = d.world.nodes s in
+      let note : GroupNode = note_at n in
+      let at : GroupAt d y name s e = group_at d y name s e stands seat over there in
+      let fact : may.site.facts ≡ fact_of_group n note = named_same y name s (fact_of_group n note) may.site seat at.fact in
+      let up : n.state ≡ IsUp = ap (λ (f : SiteFacts). f.state) (sym fact) ∙ may.up in
+      plain_call d y name volume start count s place e stands over may seat there
+      (placed_at y s e volume place n note at.set at.is_set (up_noted n at.set.site at.stands.stands up) at.fact there number
+      (λ f shown. ap (λ (k : SiteFacts). is_some (place_of k.volumes volume)) (sym (named_same y name s f may.site seat shown)) ∙ ap (λ (o : Option ℕ). is_some o) may.at.is))
 
   -- such bytes fit it
   pub plain_fits : (d : Doubted) (y : Yard R g) (name volume : List ℕ) (start count s place : ℕ) (e : DiskSet R g) (size : ℕ) → PlainCall d y name volume start count s place e → size ≡ 512 * count

@@ -1,6 +1,6 @@
 -- What a read of a volume of a group leads a yard to.
-use Rattle.std.proofs.Common.{◌≡◌, ◌∙◌, ◌+◌, ◌-◌, ◌*◌, ◌<◌, ℕ, Bool, true, List, length, take, drop, ap, sym, subst, refl, arith}
-use Rattle.std.specs.Prelude.{Option, Some, Ok, Err, Contains, IsTrue, slice_get, slice_set}
+use Rattle.std.proofs.Common.{◌≡◌, ◌∙◌, ◌+◌, ◌-◌, ◌*◌, ◌<◌, ◌×◌, ℕ, Bool, true, List, length, take, drop, ap, sym, subst, refl, arith}
+use Rattle.std.specs.Prelude.{None, Option, Some, Ok, Err, Contains, IsSome, IsTrue, is_some, slice_get, slice_set}
 use Rattle.std.proofs.lemmas.Option.{slice_get_within}
 use Rattle.vx_model.specs.Content.{block_of}
 use Rattle.vx_model.specs.declared.no.No.{No}
@@ -11,22 +11,28 @@ use Rattle.vx_history.specs.Doubts.{Doubted}
 use Rattle.vx_history.specs.Groups.{BlockMay, GroupNode}
 use Rattle.vx_history.specs.Steps.{burned, worked, worked_on}
 use Rattle.vx_history.specs.World.{Node, World}
+use Rattle.vx_order.specs.declared.facts.SiteFacts.{SiteFacts}
 use Rattle.vx_script.specs.declared.line.ScriptLine.{ScriptLine}
-use Rattle.vx_grouped.specs.GroupSites.{UpNoted, site_disks, with_note}
+use Rattle.vx_script.specs.declared.line.ScriptLine.TheVariants.{Read, Show}
+use Rattle.vx_grouped.specs.GroupSites.{FitsPlain, UpNoted, site_disks, with_note}
 use Rattle.vx_grouped.specs.Plain.{ReadsPlain}
 use Rattle.vx_kept.specs.Cleans.{at_serial}
 use Rattle.vx_grouped.specs.SiteEnds.{PlainRead, SiteGivesUp}
 use Rattle.vx_grouped.specs.declared.group_site.GroupSite.{GroupSite}
 use Rattle.vx_grouped.specs.declared.group_site.GroupSite.TheVariants.{Up as SiteUp, Deported as SiteAway, Down as SiteDown, Marked, Gone as SiteGone}
+use Rattle.vx_diskset.specs.Aboves.{site_in}
 use Rattle.vx_diskset.specs.Asked.{FusedAs, SameFailing}
 use Rattle.vx_diskset.specs.GroupCalls.{CalledOn, OnSites, cut_in}
+use Rattle.vx_diskset.specs.OverPlains.{OnOver, ReadsBelow}
 use Rattle.vx_diskset.specs.Stands.{IsRackTold}
 use Rattle.vx_diskset.specs.declared.disk_set.DiskSet.{DiskSet}
-use Rattle.vx_diskset.specs.declared.disk_set.DiskSet.TheVariants.{OfGroup}
+use Rattle.vx_diskset.specs.declared.disk_set.DiskSet.TheVariants.{Bare, Spoiled, Up as RaisedSet, Receives, Down as DownSet, OfGroup, Over, Gone as GoneSet}
 use Rattle.vx_diskset.specs.declared.group_set.GroupSet.{GroupSet}
+use Rattle.vx_diskset.specs.declared.over_set.OverSet.{OverSet}
+use Rattle.vx_events.proofs.Places.{some_same}
 use Rattle.vx_events.proofs.RefusedCalls.{CallMay, read_may, show_may}
 use Rattle.vx_events.specs.Doubts.{IsAs}
-use Rattle.vx_events.specs.Facts.{seat_of, site_number}
+use Rattle.vx_events.specs.Facts.{place_of, seat_of, site_number}
 use Rattle.vx_events.specs.Fails.{Fails}
 use Rattle.vx_events.specs.GroupEnds.{AreOf, GroupDone, GroupEnds, GroupFails, VolumeOut}
 use Rattle.vx_events.specs.GroupLines.{noting, plain_number}
@@ -37,7 +43,7 @@ use Rattle.vx_events.specs.declared.said.Said.{Said}
 use Rattle.vx_events.specs.declared.said.Said.TheVariants.{Got, Refused}
 use Rattle.vx_yard.proofs.Carrying.{SameLoad}
 use Rattle.vx_yard.proofs.Lists.{get-set_same, set_same}
-use Rattle.vx_yard.proofs.NamedSite.{asks_at}
+use Rattle.vx_yard.proofs.NamedSite.{asks_at, named_same}
 use Rattle.vx_yard.specs.OfSites.{AsAsked, ReadsBy}
 use Rattle.vx_yard.specs.Standing.{LeadsOver, StandsFor}
 use Rattle.vx_yard.specs.Working.{IsFree}
@@ -51,12 +57,18 @@ use Rattle.vx_group_lines.proofs.GroupLeads.{Follows, leads_by}
 use Rattle.vx_group_lines.proofs.GroupMarks.{group_noted_at}
 use Rattle.vx_group_lines.proofs.GroupPlain.{PlainCall}
 use Rattle.vx_above.proofs.Losing.{Names, plex_fails}
-use Rattle.vx_group_lines.specs.Plain.{GavePlain, IsReadOf}
+use Rattle.vx_group_lines.specs.Plain.{GaveBelow, GavePlain, IsReadOf}
 use Rattle.vx_grouped.specs.SiteMaps.{StaysMapped}
 use Rattle.vx_group_lines.proofs.MapGoing.{on_both}
 use Rattle.vx_group_lines.specs.Plain.IsReadOf.{ByRead, ByShow}
 
 -- ---- the two lines
+
+-- the names in a line that reads
+abbrev pub read_words : ScriptLine → Option (List ℕ × List ℕ)
+read_words (Read site volume start count) = Some (site, volume)
+read_words (Show site volume start count) = Some (site, volume)
+read_words other = None
 
 pub read_over : (w : World) (line : ScriptLine) (name volume : List ℕ) (start count : ℕ) → IsReadOf line name volume start count → is_for_group w line ≡ true → over_group_at w name ≡ true
 read_over w line name volume start count (ByRead is) over = subst (λ (l : ScriptLine). is_for_group w l ≡ true) is over
@@ -82,7 +94,7 @@ unread_ends told d e line name volume start count s disk fails (ByShow is) are h
 
 -- ---- the blocks
 
-reads_block : (note : GroupNode) (m : Meaning) (v start count : ℕ) (bytes : List ℕ) → ReadsPlain note m v start bytes → length bytes ≡ 512 * count → IsTrue m.tells → (k : ℕ) → k < count → BlockMay note v (start + k) (block_of bytes k)
+pub reads_block : (note : GroupNode) (m : Meaning) (v start count : ℕ) (bytes : List ℕ) → ReadsPlain note m v start bytes → length bytes ≡ 512 * count → IsTrue m.tells → (k : ℕ) → k < count → BlockMay note v (start + k) (block_of bytes k)
 reads_block note m v start count bytes reads size tells k below =
     let back : (start + k) - start ≡ k = omega arith in
     subst (λ (j : ℕ). BlockMay note v (start + k) (take 512 (drop (512 * j) bytes))) back
@@ -109,7 +121,7 @@ module _ {R : Type 0} {g : Ghosts R} where
       (asks_at (ReadsBy (over_group_at d.world name)) d old new name s before after stands seat there sets (subst (λ (b : Bool). ReadsBy b before after) (sym over) failing))
 
   -- no plex could be read, as the calls that the line names say
-  volume_out : (n : Node) (note : GroupNode) (e : GroupSite R g) (v s many : ℕ) (fails : Fails) (behind : Meaning) → UpNoted n note e → Names s many fails (site_disks e) behind → SiteGivesUp v e behind → VolumeOut s fails note v
+  pub volume_out : (n : Node) (note : GroupNode) (e : GroupSite R g) (v s many : ℕ) (fails : Fails) (behind : Meaning) → UpNoted n note e → Names s many fails (site_disks e) behind → SiteGivesUp v e behind → VolumeOut s fails note v
   volume_out n note (SiteUp group) v s many fails behind up names gone = record {
     config = at_serial 0 group.core.inner.config;
     is = notes_config note group.core.inner.config (record { is = up.at.lies.config; spells = up.spells });
@@ -192,3 +204,65 @@ module _ {R : Type 0} {g : Ghosts R} where
   pub gave_none : (n : Node) (note : GroupNode) (v start : ℕ) (into : List ℕ) (before after : DiskSet R g) (no : No) → OnSites (λ o e. PlainRead n note v start into o e (Err no)) before after → OnSites (λ o e. GavePlain n note v start o e (Err no)) before after
   gave_none n kept v start into before after (Device disk) read = read
   gave_none n kept v start into before after other read = read
+
+  -- the same below a replicated volume group
+  on_over_each : (P Q : OverSet R g → OverSet R g → Type 0) → ((o s : OverSet R g) → P o s → Q o s) → (before after : DiskSet R g) → OnOver P before after → OnOver Q before after
+  on_over_each P Q f (Over o) (Over s) it = f o s it
+  on_over_each P Q f (Over o) (Bare rack) it = absurd it
+  on_over_each P Q f (Over o) (Spoiled rack) it = absurd it
+  on_over_each P Q f (Over o) (RaisedSet rvg) it = absurd it
+  on_over_each P Q f (Over o) (Receives s) it = absurd it
+  on_over_each P Q f (Over o) (DownSet rack) it = absurd it
+  on_over_each P Q f (Over o) (OfGroup s) it = absurd it
+  on_over_each P Q f (Over o) GoneSet it = absurd it
+  on_over_each P Q f (Bare rack) after it = tt
+  on_over_each P Q f (Spoiled rack) after it = tt
+  on_over_each P Q f (RaisedSet rvg) after it = tt
+  on_over_each P Q f (Receives s) after it = tt
+  on_over_each P Q f (DownSet rack) after it = tt
+  on_over_each P Q f (OfGroup s) after it = tt
+  on_over_each P Q f GoneSet after it = tt
+
+  pub gave_below : (v start size long : ℕ) (into bytes : List ℕ) (before after : DiskSet R g) (done : Unit {0}) → bytes ≡ into → long ≡ size → OnOver (ReadsBelow v start long into (Ok done)) before after
+      → OnOver (GaveBelow v start size (Ok bytes)) before after
+  gave_below v start size long into bytes before after done is same read =
+      on_over_each (ReadsBelow v start long into (Ok done)) (GaveBelow v start size (Ok bytes))
+      (λ o s x. record {
+        gave = λ n note up fits. subst (λ (bs : List ℕ). GavePlain n note v start (site_in o) (site_in s) (Ok bs)) (sym is) (x.read n note up (subst (λ (k : ℕ). FitsPlain note v start k) (sym same) fits));
+        cut = x.cut;
+        kept = x.kept;
+      }) before after read
+
+  gave_no : (n : Node) (note : GroupNode) (v start : ℕ) (into : List ℕ) (o e : GroupSite R g) (no : No) → PlainRead n note v start into o e (Err no) → GavePlain n note v start o e (Err no)
+  gave_no n note v start into o e (Device disk) read = read
+  gave_no n note v start into o e other read = read
+
+  pub none_below : (v start size long : ℕ) (into : List ℕ) (before after : DiskSet R g) (no : No) → long ≡ size → OnOver (ReadsBelow v start long into (Err no)) before after → OnOver (GaveBelow v start size (Err no)) before after
+  none_below v start size long into before after no same read =
+      on_over_each (ReadsBelow v start long into (Err no)) (GaveBelow v start size (Err no))
+      (λ o s x. record {
+        gave = λ n note up fits. gave_no n note v start into (site_in o) (site_in s) no (x.read n note up (subst (λ (k : ℕ). FitsPlain note v start k) (sym same) fits));
+        cut = x.cut;
+        kept = x.kept;
+      }) before after read
+
+  -- ---- the names of such a line
+
+  by_names : (y : Yard R g) (line : ScriptLine) (name volume : List ℕ) (start count : ℕ) → IsReadOf line name volume start count → IsFree y line → (s : ℕ) (f : SiteFacts) → seat_of y.facts.items name ≡ Some s
+      → slice_get y.facts.items s ≡ Some f → IsSome (place_of f.volumes volume)
+  by_names y line name volume start count is free s f seat at =
+      let may = may_read y line name volume start count is free in
+      ap (λ (k : SiteFacts). is_some (place_of k.volumes volume)) (sym (named_same y name s f may.site seat at)) ∙ ap (λ (o : Option ℕ). is_some o) may.at.is
+
+  -- the site that it names has the volume
+  pub reads_there : (y : Yard R g) (words : ScriptLine) (name volume : List ℕ) → read_words words ≡ Some (name, volume) → IsFree y words → (s : ℕ) (f : SiteFacts) → seat_of y.facts.items name ≡ Some s → slice_get y.facts.items s ≡ Some f
+      → IsSome (place_of f.volumes volume)
+  reads_there y (Read site wanted start count) name volume is free s f seat at =
+      let same : (site, wanted) ≡ (name, volume) = some_same is in
+      subst (λ (v : List ℕ). IsSome (place_of f.volumes v)) (ap (λ (p : List ℕ × List ℕ). p.1) same)
+      (by_names y (Read site wanted start count) site wanted start count (ByRead refl) free s f (ap (λ (p : List ℕ × List ℕ). seat_of y.facts.items p.0) same ∙ seat) at)
+  reads_there y (Show site wanted start count) name volume is free s f seat at =
+      let same : (site, wanted) ≡ (name, volume) = some_same is in
+      subst (λ (v : List ℕ). IsSome (place_of f.volumes v)) (ap (λ (p : List ℕ × List ℕ). p.1) same)
+      (by_names y (Show site wanted start count) site wanted start count (ByShow refl) free s f (ap (λ (p : List ℕ × List ℕ). seat_of y.facts.items p.0) same ∙ seat) at)
+  reads_there y other name volume is free s f seat at = absurd (let clash : None ≡ Some (name, volume) = is in cc)

@@ -16,9 +16,12 @@ pub mod RvgStays
 pub mod RvgRefused
 pub mod RvgOff
 pub mod RvgEnds
+pub mod Numbered
 pub mod GroupPlain
 pub mod GroupWrite
 pub mod GroupRead
+pub mod BelowAt
+pub mod BelowReads
 pub mod BareSites
 pub mod GroupInit
 pub mod GroupEnding

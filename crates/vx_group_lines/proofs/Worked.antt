@@ -1,15 +1,17 @@
 -- What a line leads to that goes to the group of its site: one that finds no replicated volume group over it, and one that may find one.
-use Rattle.std.proofs.Common.{◌≡◌, ◌∙◌, Bool, true, false, List, ℕ, sym, subst, refl}
-use Rattle.std.specs.Prelude.{◌||◌, Result}
+use Rattle.std.proofs.Common.{◌≡◌, ◌∙◌, Bool, true, false, List, ℕ, ap, sym, subst, refl}
+use Rattle.std.specs.Prelude.{◌&&◌, ◌||◌, Result, not}
 use Rattle.vx_model.specs.declared.errors.OutOfMemory.{OutOfMemory}
 use Rattle.vx_disk.specs.declared.shelf.Shelf.{Ghosts}
 use Rattle.vx_history.specs.Doubts.{Doubted}
 use Rattle.vx_history.specs.World.{World}
+use Rattle.vx_order.specs.Calls.{is_data}
 use Rattle.vx_script.specs.declared.line.ScriptLine.{ScriptLine}
 use Rattle.vx_script.specs.declared.line.ScriptLine.TheVariants.{GroupInit, GroupDeport, GroupImport, Volume, PlexDetach, PlexAttach, Rvg, Disk, Crash, Fuse, Recover, Status, Write, Put, Read, Show}
 use Rattle.vx_events.proofs.RvgTests.{group_alone}
 use Rattle.vx_events.specs.Facts.{site_number}
 use Rattle.vx_events.specs.OpenLines.{is_open}
+use Rattle.vx_events.specs.RvgOver.{kind_named}
 use Rattle.vx_events.specs.RvgSteps.{MakesNoRvg, is_for_rvg, over_rvg_at}
 use Rattle.vx_events.specs.StepsOver.{is_for_group, over_group_at}
 use Rattle.vx_events.specs.declared.said.Said.{Said}
@@ -20,7 +22,8 @@ use Rattle.vx_yard.specs.Working.{IsFree}
 use Rattle.vx_yard.specs.Yards.{IsYardKept, in_files}
 use Rattle.vx_yard.specs.declared.yard.Yard.{Yard}
 use Rattle.vx_above.proofs.Works.{works_above, works_beside, works_over, works_rvg}
-use Rattle.vx_group_lines.specs.Plain.{goes_to_group}
+use Rattle.vx_group_lines.specs.Plain.{IsReadOf, goes_to_group, plain_at}
+use Rattle.vx_group_lines.specs.Plain.IsReadOf.{ByRead, ByShow}
 use Rattle.vx_group_lines.proofs.Going.{grouped_is}
 use Rattle.vx_group_lines.proofs.GroupLeads.{or_stops}
 use Rattle.vx_group_lines.proofs.Tests.{UpMay, attach_may, deport_may, detach_may, import_may, volume_may}
@@ -29,11 +32,25 @@ or_left : (a b : Bool) → (a || b) ≡ true → b ≡ false → a ≡ true
 or_left true b is off = refl
 or_left false b is off = absurd (let clash : true ≡ false = sym is ∙ off in cc)
 
--- a line that may do nothing but work on the group, or that makes it
+-- of a volume that is one of a group, and no data volume, at a site with a replicated volume group over it, and at one without
+plain_off : (group over mine : Bool) → (group || (over && not mine)) ≡ true → over ≡ false → group ≡ true
+plain_off true over mine is off = refl
+plain_off false true mine is off = absurd (let clash : true ≡ false = off in cc)
+plain_off false false mine is off = is
+
+plain_on : (group over mine : Bool) → (group || (over && not mine)) ≡ true → over ≡ true → (group ≡ true → over ≡ false) → mine ≡ false
+plain_on true over mine is here apart = absurd (let clash : true ≡ false = sym here ∙ apart refl in cc)
+plain_on false true true is here apart = absurd (let clash : false ≡ true = is in cc)
+plain_on false true false is here apart = refl
+plain_on false false mine is here apart = absurd (let clash : false ≡ true = here in cc)
+
+-- a line that may do nothing but work on the group, or that makes it, and reads no volume
 abbrev pub WorksAlone : ScriptLine → Type 0
 WorksAlone (GroupImport site) = ⊥
 WorksAlone (Recover site) = ⊥
 WorksAlone (Rvg site srl maps volumes) = ⊥
+WorksAlone (Read site volume start count) = ⊥
+WorksAlone (Show site volume start count) = ⊥
 WorksAlone other = Unit {0}
 
 alone_makes : (line : ScriptLine) → WorksAlone line → MakesNoRvg line
@@ -56,8 +73,8 @@ alone_off w (Recover site) alone goes closed = absurd alone
 alone_off w (Status site) alone goes closed = group_alone (w.nodes (site_number w site)) goes
 alone_off w (Write site volume start count fill) alone goes closed = group_alone (w.nodes (site_number w site)) goes
 alone_off w (Put site volume start bytes) alone goes closed = group_alone (w.nodes (site_number w site)) goes
-alone_off w (Read site volume start count) alone goes closed = group_alone (w.nodes (site_number w site)) goes
-alone_off w (Show site volume start count) alone goes closed = group_alone (w.nodes (site_number w site)) goes
+alone_off w (Read site volume start count) alone goes closed = absurd alone
+alone_off w (Show site volume start count) alone goes closed = absurd alone
 alone_off w other alone goes closed = absurd (let clash : false ≡ true = goes in cc)
 
 module _ {R : Type 0} {g : Ghosts R} (d : Doubted) (y : Yard R g) where
@@ -86,8 +103,8 @@ module _ {R : Type 0} {g : Ghosts R} (d : Doubted) (y : Yard R g) where
   alone_goes (Status name) none stands kept free goes off = goes
   alone_goes (Write name volume start count fill) none stands kept free goes off = goes
   alone_goes (Put name volume start bytes) none stands kept free goes off = goes
-  alone_goes (Read name volume start count) none stands kept free goes off = goes
-  alone_goes (Show name volume start count) none stands kept free goes off = goes
+  alone_goes (Read name volume start count) none stands kept free goes off = plain_off (over_group_at d.world name) (over_rvg_at d.world name) (is_data (kind_named (d.world.nodes (site_number d.world name)) volume)) goes off
+  alone_goes (Show name volume start count) none stands kept free goes off = plain_off (over_group_at d.world name) (over_rvg_at d.world name) (is_data (kind_named (d.world.nodes (site_number d.world name)) volume)) goes off
   alone_goes other none stands kept free goes off = absurd (let clash : false ≡ true = goes in cc)
 
   -- the words of the line
@@ -138,6 +155,30 @@ module _ {R : Type 0} {g : Ghosts R} (d : Doubted) (y : Yard R g) where
         → (is_for_rvg d.world (Recover name) ≡ true → LeadsAboveIs d (Recover name) y new r) → WorksIs d words y new r
     works_recover words name r is goes beside above =
         subst (λ (x : ScriptLine). WorksIs d x y new r) (sym is) (recover_works name r (subst (λ (x : ScriptLine). goes_to_group d.world x ≡ true) is goes) beside above)
+
+    -- ---- one that reads a volume
+
+    reads_works : (line : ScriptLine) (name volume : List ℕ) (r : Result Said OutOfMemory) → MakesNoRvg line → is_open d.world line ≡ false → is_for_rvg d.world line ≡ over_rvg_at d.world name
+        → is_for_group d.world line ≡ over_group_at d.world name → plain_at d.world name volume ≡ true → (is_for_group d.world line ≡ true → LeadsOverIs d line y new r)
+        → (over_rvg_at d.world name ≡ true → is_data (kind_named (d.world.nodes (site_number d.world name)) volume) ≡ false → LeadsAboveIs d line y new r) → WorksIs d line y new r
+    reads_works line name volume r none closed there group plain beside above = by (over_rvg_at d.world name) refl
+      where
+        by : (b : Bool) → over_rvg_at d.world name ≡ b → WorksIs d line y new r
+        by true over =
+            works_above d line y new none closed (there ∙ over) r
+            (above over (plain_on (over_group_at d.world name) (over_rvg_at d.world name) (is_data (kind_named (d.world.nodes (site_number d.world name)) volume)) plain over (λ here. group_alone (d.world.nodes (site_number d.world name)) here)))
+        by false off =
+            let here : is_for_group d.world line ≡ true = group ∙ plain_off (over_group_at d.world name) (over_rvg_at d.world name) (is_data (kind_named (d.world.nodes (site_number d.world name)) volume)) plain off in
+            works_over d line y new none closed (there ∙ off) r here (or_stops d line y new r (beside here))
+
+    pub works_read : (line : ScriptLine) (name volume : List ℕ) (start count : ℕ) (r : Result Said OutOfMemory) → IsReadOf line name volume start count → goes_to_group d.world line ≡ true → (is_for_group d.world line ≡ true → LeadsOverIs d line y new r)
+        → (over_rvg_at d.world name ≡ true → is_data (kind_named (d.world.nodes (site_number d.world name)) volume) ≡ false → LeadsAboveIs d line y new r) → WorksIs d line y new r
+    works_read line name volume start count r (ByRead is) goes beside above =
+        reads_works line name volume r (subst (λ (x : ScriptLine). MakesNoRvg x) (sym is) tt) (ap (λ (x : ScriptLine). is_open d.world x) is) (ap (λ (x : ScriptLine). is_for_rvg d.world x) is)
+        (ap (λ (x : ScriptLine). is_for_group d.world x) is) (sym (ap (λ (x : ScriptLine). goes_to_group d.world x) is) ∙ goes) beside above
+    works_read line name volume start count r (ByShow is) goes beside above =
+        reads_works line name volume r (subst (λ (x : ScriptLine). MakesNoRvg x) (sym is) tt) (ap (λ (x : ScriptLine). is_open d.world x) is) (ap (λ (x : ScriptLine). is_for_rvg d.world x) is)
+        (ap (λ (x : ScriptLine). is_for_group d.world x) is) (sym (ap (λ (x : ScriptLine). goes_to_group d.world x) is) ∙ goes) beside above
 
     -- ---- one that makes one
 

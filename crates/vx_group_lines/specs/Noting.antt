@@ -1,6 +1,9 @@
 -- What a yard keeps where the tests of a line see something else of one site.
-use Rattle.std.specs.Prelude.{◌≡◌, ℕ, Option, Some, None, slice_get, slice_set, Result, Ok, Err}
+use Rattle.std.specs.List.{position}
+use Rattle.std.specs.Prelude.{◌≡◌, ℕ, List, Option, Some, None, slice_get, slice_set, unwrap_or, Result, Ok, Err}
+use Rattle.std.specs.Str.{bytes_eq}
 use Rattle.vx_config.specs.declared.config.Config.{Config}
+use Rattle.vx_config.specs.declared.entry.VolumeEntry.{VolumeEntry}
 use Rattle.vx_disk.specs.declared.shelf.Shelf.{Ghosts}
 use Rattle.vx_model.specs.declared.errors.OutOfMemory.{OutOfMemory}
 use Rattle.vx_model.specs.declared.errors.Stop.{Stop}
@@ -19,6 +22,10 @@ use Rattle.vx_yard.specs.GroupFacts.{group_up_facts}
 use Rattle.vx_yard.specs.Loads.{LetGoBy}
 use Rattle.vx_yard.specs.Writes.{below_facts}
 use Rattle.vx_yard.specs.declared.yard.Yard.{Yard}
+
+-- the number of the first volume of this name, or 0
+abbrev pub number_in : List VolumeEntry → List ℕ → ℕ
+number_in volumes name = unwrap_or (position (λ volume. bytes_eq volume.name name) volumes) 0
 
 -- what the tests see of a site that comes up as a group of this configuration, with this replicated volume group over it
 abbrev pub made_facts : Core → Config → SiteFacts → SiteFacts

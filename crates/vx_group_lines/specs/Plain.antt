@@ -6,10 +6,13 @@ use Rattle.vx_disk.specs.declared.shelf.Shelf.{Ghosts}
 use Rattle.vx_history.specs.Groups.{GroupNode}
 use Rattle.vx_history.specs.Steps.{worked}
 use Rattle.vx_history.specs.World.{Node, World}
-use Rattle.vx_grouped.specs.GroupSites.{UpNoted, site_disks}
+use Rattle.vx_grouped.specs.GroupSites.{FitsPlain, UpNoted, site_disks}
 use Rattle.vx_grouped.specs.Plain.{ReadsPlain}
 use Rattle.vx_grouped.specs.SiteEnds.{PlainRead}
 use Rattle.vx_grouped.specs.declared.group_site.GroupSite.{GroupSite}
+use Rattle.vx_diskset.specs.Aboves.{site_in}
+use Rattle.vx_diskset.specs.OverKeeps.{KeepsOver}
+use Rattle.vx_diskset.specs.declared.over_set.OverSet.{OverSet}
 use Rattle.vx_script.specs.declared.line.ScriptLine.{ScriptLine}
 use Rattle.vx_script.specs.declared.line.ScriptLine.TheVariants.{GroupInit, GroupDeport, GroupImport, Volume, PlexDetach, PlexAttach, Rvg, Disk, Crash, Fuse, Recover, Status, Write as WriteLine, Put as PutLine, Read as ReadLine, Show as ShowLine}
 use Rattle.vx_yard.specs.Working.{IsFree}
@@ -71,8 +74,8 @@ goes_to_group w (Recover site) = grouped_at w site
 goes_to_group w (Status site) = over_group_at w site
 goes_to_group w (WriteLine site volume start count fill) = over_group_at w site
 goes_to_group w (PutLine site volume start bytes) = over_group_at w site
-goes_to_group w (ReadLine site volume start count) = over_group_at w site
-goes_to_group w (ShowLine site volume start count) = over_group_at w site
+goes_to_group w (ReadLine site volume start count) = plain_at w site volume
+goes_to_group w (ShowLine site volume start count) = plain_at w site volume
 goes_to_group w (Disk site disk state) = over_group_at w site
 goes_to_group w (Crash site pick) = over_group_at w site
 goes_to_group w (Fuse site calls pick) = over_group_at w site
@@ -118,3 +121,9 @@ module _ {R : Type 0} {g : Ghosts R} where
   abbrev pub GavePlain : Node → GroupNode → (volume start : ℕ) → GroupSite R g → GroupSite R g → Result (List ℕ) No → Type 0
   GavePlain n note volume start old new (Ok bytes) = ReadsPlain note (site_disks old) volume start bytes × UpNoted (worked n) note new
   GavePlain n note volume start old new (Err why) = PlainRead n note volume start [] old new (Err why)
+
+  -- so it is below a replicated volume group, of a place for so many bytes: what stood over the group stands
+  pub record GaveBelow (volume start size : ℕ) (r : Result (List ℕ) No) (old new : OverSet R g) : Type 0 where
+    pub gave : (n : Node) (note : GroupNode) → UpNoted n note (site_in old) → FitsPlain note volume start size → GavePlain n note volume start (site_in old) (site_in new) r
+    pub cut : new.cut ≡ old.cut
+    pub kept : KeepsOver old new

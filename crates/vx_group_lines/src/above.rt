@@ -12,8 +12,8 @@ use vx_disk::Rack;
 use vx_model::Name;
 use vx_yard::Yard;
 
-/// Whether the site of this number has one.
-pub fn has_rvg_in<R: Rack>(yard: &Yard<R>, site: usize) -> bool
+// Whether the site of this number has one.
+fn has_rvg_in<R: Rack>(yard: &Yard<R>, site: usize) -> bool
     requires there { site < length yard.now.facts.items }
     ensures { (d : Doubted) → StandsFor d yard.now → result ≡ is_over_rvg (d.world.nodes site) }
 {

@@ -1,10 +1,15 @@
 // The lines that write and read blocks of a volume of a group.
-ghost use Rattle.std.specs.Prelude.{◌≡◌, ◌*◌, ℕ, IfOk, min, replicate, true};
+ghost use Rattle.std.specs.Prelude.{◌≡◌, ◌*◌, IfOk, false, min, replicate, true};
 ghost use Rattle.vx_history.specs.Doubts.{Doubted};
 ghost use Rattle.vx_script.specs.declared.line.ScriptLine.{ScriptLine};
 ghost use Rattle.vx_script.specs.declared.line.ScriptLine.TheVariants.{Put as PutLine, Write as WriteLine};
+ghost use Rattle.vx_order.specs.Calls.{is_data};
+ghost use Rattle.vx_events.specs.Facts.{site_number};
+ghost use Rattle.vx_events.specs.RvgOver.{kind_named};
+ghost use Rattle.vx_events.specs.RvgSteps.{over_rvg_at};
 ghost use Rattle.vx_events.specs.StepsOver.{is_for_group};
 ghost use Rattle.vx_group_lines.specs.Plain.{IsReadAt, IsReadOf};
+ghost use Rattle.vx_yard.specs.AboveLines.{LeadsAboveIs};
 ghost use Rattle.vx_yard.specs.OfSites.{AsAsked, HasCalled};
 ghost use Rattle.vx_yard.specs.Standing.{LeadsOver, LeadsOverIs, StandsFor};
 ghost use Rattle.vx_yard.specs.Working.{IsFree};
@@ -84,6 +89,8 @@ pub(crate) fn read_line<R: Rack>(
     requires free { IsReadAt yard.old name.now volume.now start count }
     ensures leads { (d : Doubted) (line : ScriptLine) → StandsFor d yard.old → IsReadOf line name.now volume.now start count → IsFree yard.old line → is_for_group d.world line ≡ true → LeadsOverIs d line yard.old yard.new result }
     ensures asked { (d : Doubted) (line : ScriptLine) → StandsFor d yard.old → IsReadOf line name.now volume.now start count → IsFree yard.old line → is_for_group d.world line ≡ true → AsAsked d.world line yard.old yard.new }
+    ensures above { (d : Doubted) (line : ScriptLine) → StandsFor d yard.old → IsReadOf line name.now volume.now start count → IsFree yard.old line → over_rvg_at d.world name.now ≡ true
+        → is_data (kind_named (d.world.nodes (site_number d.world name.now)) volume.now) ≡ false → LeadsAboveIs d line yard.old yard.new result }
     ensures told { IsTold yard.new → IsTold yard.old }
     ensures files { in_files yard.new ≡ in_files yard.old }
 {

@@ -13,6 +13,7 @@ mod init;
 mod lines;
 mod marks;
 mod noting;
+mod numbers;
 mod plex;
 mod read;
 mod recover;
@@ -22,7 +23,7 @@ mod views;
 mod volume;
 mod write;
 
-pub use above::{has_rvg, has_rvg_in};
+pub use above::has_rvg;
 pub use blocks::filled;
 pub use found::{holds_group, recover_found};
 pub use lines::{is_of_group, is_plain, work_group};

@@ -4,7 +4,7 @@ use Rattle.std.specs.Prelude.{Option, Some, None, slice_get}
 use Rattle.vx_model.specs.Content.{Write}
 use Rattle.vx_model.specs.Sites.{is_origin, is_up}
 use Rattle.vx_model.specs.declared.site.SiteState.TheVariants.{Bare as IsBare, Up as IsUp, Deported as IsDeported, Down as IsDown}
-use Rattle.vx_history.specs.Doubts.{Doubted, happened}
+use Rattle.vx_history.specs.Doubts.{Doubted}
 use Rattle.vx_events.proofs.Steps.{no_sites}
 use Rattle.vx_events.specs.GroupLines.{is_over_group}
 use Rattle.vx_events.specs.LinkedFacts.{link_facts, links_by}
@@ -15,27 +15,19 @@ use Rattle.vx_history.specs.Events.{delivered, linked_sites, packet_at}
 use Rattle.vx_history.specs.Refusals.{Outcome, says}
 use Rattle.vx_history.specs.Stops.{IsOpen}
 use Rattle.vx_history.specs.World.{Link, Node, Packet, Update, World}
-use Rattle.vx_history.specs.declared.event.Event.TheVariants.{Deliver as DeliverAt}
 use Rattle.vx_history.specs.declared.event.Said.{Said as EventSaid}
 use Rattle.vx_history.specs.declared.event.Said.TheVariants.{Ignored as IsIgnored, Taken as IsTaken}
 use Rattle.vx_history.proofs.GoodLemmas.{bare_or_made}
 use Rattle.vx_disk.specs.declared.shelf.Shelf.{Ghosts}
-use Rattle.vx_effects.proofs.Fitting.{fit_happened}
-use Rattle.vx_effects.proofs.Leaving.{fit_worked}
-use Rattle.vx_effects.proofs.Packets.{update_effect}
 use Rattle.vx_effects.specs.Facts.{fact_of, received_fact}
 use Rattle.vx_events.proofs.Places.{some_same}
 use Rattle.vx_linked.proofs.Heard.{site_apart}
-use Rattle.vx_yard.proofs.OverGroup.{both_ways, over_rvg, set_notes}
-use Rattle.vx_events.specs.RvgViews.{is_over_rvg}
-use Rattle.vx_events.specs.declared.said.Said.TheVariants.{Ignored}
+use Rattle.vx_yard.proofs.OverGroup.{set_notes}
 use Rattle.vx_net.specs.Flights.{Flying}
 use Rattle.vx_order.specs.declared.facts.RvgFacts.{RvgFacts}
 use Rattle.vx_order.specs.declared.facts.SiteFacts.{SiteFacts}
 use Rattle.vx_packet.specs.Assemblies.{Assembled}
-use Rattle.vx_script.specs.declared.line.ScriptLine.TheVariants.{Deliver}
-use Rattle.vx_diskset.specs.Asked.{LeavesAlone}
-use Rattle.vx_diskset.specs.Holds.{KeptBeside, beside_of}
+use Rattle.vx_diskset.specs.Holds.{KeptBeside}
 use Rattle.vx_diskset.specs.Stands.{IsRackTold, RoleIs, SiteStands}
 use Rattle.vx_diskset.specs.declared.disk_set.DiskSet.{DiskSet}
 use Rattle.vx_diskset.specs.declared.disk_set.DiskSet.TheVariants.{Bare, Spoiled, Up, Receives as HasRoom, Down, OfGroup, Over, Gone}
@@ -43,15 +35,10 @@ use Rattle.vx_joins.proofs.TakesUpdate.{ignored_is}
 use Rattle.vx_joins.specs.Deliveries.{IsUnheard, TakesNone, TakesOne, TookTo}
 use Rattle.vx_yard.specs.Changes.{last_facts}
 use Rattle.vx_yard.specs.Deliveries.{Receives}
-use Rattle.vx_yard.specs.Standing.{Leads, StandsFor}
+use Rattle.vx_yard.specs.Standing.{StandsFor}
 use Rattle.vx_yard.specs.Stands.{AreTold}
-use Rattle.vx_yard.specs.Yards.{IsTold}
 use Rattle.vx_yard.specs.declared.yard.Yard.{Yard}
-use Rattle.vx_yard.proofs.ApplySite.{worked_effect, worked_for}
-use Rattle.vx_yard.proofs.Carrying.{SameLoad, carries_node}
-use Rattle.vx_yard.proofs.OneSite.{Changed}
 use Rattle.vx_yard.proofs.RecoverLine.{rack_told_or}
-use Rattle.vx_link_lines.proofs.UpdateLine.{done_as, leads_same}
 
 pub last_received : (number : ℕ) (f : SiteFacts) → last_facts number f ≡ received_fact number f
 last_received number f = by f.rvg
@@ -131,27 +118,14 @@ module _ {R : Type 0} {g : Ghosts R} where
 
   module _ (d : Doubted) (number : ℕ) (p : Packet) (k : ℕ) (x : Write) (at : packet_at d.world.packets number ≡ Some p) (message : p.message ≡ Update k x) where
     -- disks that receive nothing
-    ignored_by : (beside : KeptBeside) (e : DiskSet R g) (b : Bool) → Receives e b → b ≡ false → RoleIs (d.world.nodes p.target) e → is_over_rvg (d.world.nodes p.target) ≡ false → SiteStands beside (d.world.nodes p.target) e → outcome_at d number ≡ says d.world IsIgnored
-    ignored_by beside (Bare rack) b is none role off stands = ignored_is d.world number p k x at message (inl (inl (ap (λ (m : Node). is_up m.state) stands.bare.is)))
-    ignored_by beside (Spoiled rack) b is none role off stands = ignored_is d.world number p k x at message (inl (inl (ap (λ (m : Node). is_up m.state) stands.is)))
-    ignored_by beside (Up rvg) b is none role off stands = ignored_is d.world number p k x at message (inr role)
-    ignored_by beside (HasRoom s) b is none role off stands = absurd (let e : true ≡ false = sym is ∙ none in cc)
-    ignored_by beside (Down rack) b is none role off stands = ignored_is d.world number p k x at message (inl (inl (ap is_up stands.state)))
-    ignored_by beside (OfGroup s) b is none role off stands = ⊎_elim
+    pub ignored_by : (beside : KeptBeside) (e : DiskSet R g) (b : Bool) → Receives e b → b ≡ false → RoleIs (d.world.nodes p.target) e → SiteStands beside (d.world.nodes p.target) e → outcome_at d number ≡ says d.world IsIgnored
+    ignored_by beside (Bare rack) b is none role stands = ignored_is d.world number p k x at message (inl (inl (ap (λ (m : Node). is_up m.state) stands.bare.is)))
+    ignored_by beside (Spoiled rack) b is none role stands = ignored_is d.world number p k x at message (inl (inl (ap (λ (m : Node). is_up m.state) stands.is)))
+    ignored_by beside (Up rvg) b is none role stands = ignored_is d.world number p k x at message (inr role)
+    ignored_by beside (HasRoom s) b is none role stands = absurd (let e : true ≡ false = sym is ∙ none in cc)
+    ignored_by beside (Down rack) b is none role stands = ignored_is d.world number p k x at message (inl (inl (ap is_up stands.state)))
+    ignored_by beside (OfGroup s) b is none role stands = ⊎_elim
         (λ (bare : (d.world.nodes p.target).state ≡ IsBare). ignored_is d.world number p k x at message (inl (inl (ap is_up bare))))
         (λ made. ignored_is d.world number p k x at message (inr (ap is_origin (set_notes beside (d.world.nodes p.target) s stands made).1.none.role))) (bare_or_made (d.world.nodes p.target).state)
-    ignored_by beside (Over s) b is none role off stands = absurd (both_ways (over_rvg beside (d.world.nodes p.target) s stands) off)
-    ignored_by beside Gone b is none role off stands = absurd stands
-
-    pub deaf_leads : (old new : Yard R g) (before after : DiskSet R g) (b : Bool) → StandsFor d old → p.target < d.world.sites → Changed old new p.target before after → LeavesAlone before after → Receives after b → b ≡ false → RoleIs (d.world.nodes p.target) after → is_over_rvg (d.world.nodes p.target) ≡ false → SiteStands (beside_of d p.target) (d.world.nodes p.target) after
-        → new.facts.items ≡ old.facts.items → SameLoad old new → (IsTold new → IsTold old) → Leads d (Deliver number) Ignored old new
-    deaf_leads old new before after b stands below changed alone is none role off here facts load told =
-        let h : Doubted = happened d (DeliverAt number) false in
-        let ignored : outcome_at d number ≡ says d.world IsIgnored = ignored_by (beside_of d p.target) after b is none role off here in
-        let node : (outcome_at d number).world.nodes p.target ≡ d.world.nodes p.target = ap (λ (r : Outcome). r.world.nodes p.target) ignored in
-        let effect = update_effect d number p k x false at message in
-        let noted = worked_effect p.target d h ((outcome_at d number).world.nodes p.target) (d.world.links p.target) (d.world.headers p.target) (d.after p.target) (outcome_at d number).world.packets ((outcome_at d number).world.gathering p.target) effect in
-        leads_same d number p old new before after stands below changed alone role off h ((outcome_at d number).world.nodes p.target) (outcome_at d number).world.packets ((outcome_at d number).world.gathering p.target) Ignored effect (fit_worked h p.target (fit_happened d (DeliverAt number) false tt stands.links))
-        (done_as (IsTold new) d number p Ignored IsIgnored at below (ap (λ (r : Outcome). r.said) ignored) refl) node (subst (λ (m : Node). SiteStands (beside_of d p.target) m after) (sym node) here) facts
-        (λ carries. carries_node p.target d (worked_for h p.target) ((worked_for h p.target).world.nodes p.target) old new load noted.site (ap (λ (r : Outcome). r.world.packets) ignored) (ap (λ (r : Outcome). r.world.gathering p.target) ignored) refl
-        (ap (λ (m : Node). m.state) noted.is.node ∙ ap (λ (m : Node). m.state) node) (ap (λ (m : Node). m.role) noted.is.node ∙ ap (λ (m : Node). m.role) node) (ap (λ (m : Node). m.fed_by) noted.is.node ∙ ap (λ (m : Node). m.fed_by) node) told carries)
+    ignored_by beside (Over s) b is none role stands = ignored_is d.world number p k x at message (inr stands.0.5)
+    ignored_by beside Gone b is none role stands = absurd stands

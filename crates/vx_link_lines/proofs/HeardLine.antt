@@ -79,8 +79,7 @@ use Rattle.vx_link_lines.proofs.HeardWorld.{answer_says, heard_effect, heard_hea
 use Rattle.vx_yard.proofs.LinkLines.{Relinks, carries_kept, stands_kept}
 use Rattle.vx_yard.proofs.Lists.{get-set_other, get-set_same, length-set}
 use Rattle.vx_link_lines.proofs.NotedYard.{note_one, notes_one, stands_noted, sure_open}
-use Rattle.vx_yard.proofs.OverGroup.{none_rvg, noted_none}
-use Rattle.vx_events.specs.RvgViews.{is_over_rvg}
+use Rattle.vx_yard.proofs.OverGroup.{noted_none}
 use Rattle.vx_yard.proofs.OneSite.{Changed, role_kept, told_by}
 use Rattle.vx_link_lines.proofs.PartLine.{header_done}
 use Rattle.vx_yard.proofs.Rows.{row_links_same}
@@ -219,7 +218,7 @@ module _ {R : Type 0} {g : Ghosts R} where
     to = noted_by (note_one s) (behind d event)
 
     noted : StandsFor start old
-    noted = stands_noted d old s before stands below changed.there (none_rvg n none)
+    noted = stands_noted d old s before stands below changed.there
 
     role : RoleIs n after
     role = role_kept d old s before after stands below changed.there keeps
@@ -382,16 +381,15 @@ module _ {R : Type 0} {g : Ghosts R} where
 
   -- nothing changes but the note of the fuse of its target
   pub unheard_stays : (d : Doubted) (number : ℕ) (p : Packet) (y : Yard R g) (e : DiskSet R g) → packet_at d.world.packets number ≡ Some p → StandsFor d y → p.target < d.world.sites → slice_get y.disk_sets.items p.target ≡ Some e
-      → is_over_rvg (d.world.nodes p.target) ≡ false
       → delivered d.world number (packet_at d.world.packets number) ≡ says d.world IsIgnored → Leads d (Deliver number) Ignored y y
-  unheard_stays d number p y e at stands below there off is =
+  unheard_stays d number p y e at stands below there is =
       let s : ℕ = p.target in
       let start : Doubted = noted_by (note_one s) d in
       let v : World = worked_on (step d.world (DeliverAt number)).world s in
       let left : LeavesDisks start.world v =
       subst (λ (o : Outcome). LeavesDisks start.world (worked_on (headers_counted d.world (DeliverAt number) o).world s)) (sym is)
       (record { sites = refl; nodes = λ i. refl; kept = λ i. refl; headers = λ i. none_more d.world i (packet_at d.world.packets number); gathering = λ i. refl }) in
-      let noted = stands_noted d y s e stands below there off in
+      let noted = stands_noted d y s e stands below there in
       let sent : v.packets ≡ start.world.packets ++ [] = ap (λ (o : Outcome). o.world.packets) is ∙ sym (append-nil d.world.packets) in
       let same : Relinks y y = record { disk_sets = refl; racks = refl; assemblies = refl; feeders = refl } in
       record {

@@ -46,7 +46,6 @@ use Rattle.vx_yard.specs.declared.yard.Yard.{Yard}
 use Rattle.vx_link_lines.proofs.HeadedEnds.{IsBehind, headed_ends}
 use Rattle.vx_link_lines.proofs.LinkChain as chain
 use Rattle.vx_link_lines.proofs.NotedBoth.{carries_both, note_both, notes_both, stands_both}
-use Rattle.vx_yard.proofs.OverGroup.{none_rvg}
 use Rattle.vx_yard.proofs.BothSites.{UnderJoined, UnderMade, UnderMarked, UnderOpened, link_burns, stops_joined, stops_made, stops_marked, stops_opened, under_joined, under_made, under_marked, under_opened}
 use Rattle.vx_yard.proofs.HeadNeeds.{head_passes, head_works, refused_undone}
 use Rattle.vx_yard.proofs.RecoverLine.{rose_then}
@@ -105,7 +104,7 @@ module _ {R : Type 0} {g : Ghosts R} where
     start =
         let e = get_there old.disk_sets.items p (omega (arith, l.below, stands.disk_sets.few, stands.disk_sets.eight)) in
         let f = get_there old.disk_sets.items s (omega (arith, l.below_too, stands.disk_sets.few, stands.disk_sets.eight)) in
-        stands_both d old p s e.0 f.0 stands l.below l.below_too e.1 f.1 (none_rvg (d.world.nodes p) l.apart) (none_rvg (d.world.nodes s) l.apart_too)
+        stands_both d old p s e.0 f.0 stands l.below l.below_too e.1 f.1
 
     numbers : link_events d.world line ≡ link_parts p s sync
     numbers = ap (λ (k : ℕ). link_parts k (site_number d.world second) sync) l.number ∙ ap (λ (k : ℕ). link_parts p k sync) l.number_too

@@ -1,14 +1,11 @@
 -- A note of the fuses of two sites.
-use Rattle.std.proofs.Common.{◌≡◌, ◌∙◌, ◌⊎◌, ◌<◌, ℕ, false, refl}
+use Rattle.std.proofs.Common.{◌≡◌, ◌∙◌, ◌⊎◌, ◌<◌, ℕ}
 use Rattle.std.specs.Prelude.{Some, slice_get}
-use Rattle.vx_history.proofs.Updates.{all_updated}
 use Rattle.vx_history.specs.Doubts.{Doubted}
-use Rattle.vx_history.specs.Steps.{worked}
 use Rattle.vx_history.specs.World.{Node}
 use Rattle.vx_disk.specs.declared.shelf.Shelf.{Ghosts}
 use Rattle.vx_diskset.specs.declared.disk_set.DiskSet.{DiskSet}
 use Rattle.vx_effects.proofs.Notes.{both_here}
-use Rattle.vx_events.specs.RvgViews.{is_over_rvg}
 use Rattle.vx_yard.specs.Carries.{Carries}
 use Rattle.vx_link_lines.specs.Headed.{NotesAt, noted_by}
 use Rattle.vx_yard.specs.Standing.{StandsFor}
@@ -26,15 +23,10 @@ notes_both a b s one = record {
   fits = λ d fit. (notes_one b).fits (noted_by (note_one a) d) ((notes_one a).fits d fit);
 }
 
--- the note changes no group
-rvg_noted_one : (a : ℕ) (nodes : ℕ → Node) (i : ℕ) → is_over_rvg (note_one a nodes i) ≡ is_over_rvg (nodes i)
-rvg_noted_one a nodes = all_updated (λ (i : ℕ) (m : Node). is_over_rvg m ≡ is_over_rvg (nodes i)) nodes a (worked (nodes a)) refl (λ i apart. refl)
-
 module _ {R : Type 0} {g : Ghosts R} where
   pub stands_both : (d : Doubted) (y : Yard R g) (a b : ℕ) (e f : DiskSet R g) → StandsFor d y → a < d.world.sites → b < d.world.sites → slice_get y.disk_sets.items a ≡ Some e → slice_get y.disk_sets.items b ≡ Some f
-      → is_over_rvg (d.world.nodes a) ≡ false → is_over_rvg (d.world.nodes b) ≡ false → StandsFor (noted_by (note_both a b) d) y
-  stands_both d y a b e f stands below below_too at at_too off off_too =
-      stands_noted (noted_by (note_one a) d) y b f (stands_noted d y a e stands below at off) below_too at_too (rvg_noted_one a d.world.nodes b ∙ off_too)
+      → StandsFor (noted_by (note_both a b) d) y
+  stands_both d y a b e f stands below below_too at at_too = stands_noted (noted_by (note_one a) d) y b f (stands_noted d y a e stands below at) below_too at_too
 
   pub carries_both : (d : Doubted) (y : Yard R g) (a b : ℕ) → Carries d y → Carries (noted_by (note_both a b) d) y
   carries_both d y a b carries = carries_noted (noted_by (note_one a) d) y b (carries_noted d y a carries)

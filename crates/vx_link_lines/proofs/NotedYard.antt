@@ -1,5 +1,5 @@
 -- A yard that stands for a world stands for it with the fuse of a site noted too.
-use Rattle.std.proofs.Common.{false, ◌≡◌, ◌∙◌, ◌<◌, ℕ, ap, sym, subst, refl, ⊎_elim, arith}
+use Rattle.std.proofs.Common.{◌≡◌, ◌∙◌, ◌<◌, ℕ, ap, sym, subst, refl, ⊎_elim, arith}
 use Rattle.std.specs.Prelude.{Option, Some, None, slice_get}
 use Rattle.std.proofs.lemmas.Bool.{cases_eq}
 use Rattle.vx_history.proofs.Updates.{all_updated, at_place}
@@ -9,10 +9,12 @@ use Rattle.vx_history.specs.Steps.{burned, worked}
 use Rattle.vx_history.specs.Stops.{IsOpen}
 use Rattle.vx_history.specs.World.{Fuse, FuseLit, FuseSet, NoFuse, Node, updated}
 use Rattle.vx_disk.specs.declared.shelf.Shelf.{Ghosts}
+use Rattle.vx_diskset.proofs.NotedLikes.{noted_worked}
 use Rattle.vx_diskset.proofs.Worked.{stands_worked}
 use Rattle.vx_diskset.specs.Asked.{FailsAs, FusedAs}
 use Rattle.vx_diskset.specs.Fuses.{LeftAs}
 use Rattle.vx_diskset.specs.Holds.{beside_of}
+use Rattle.vx_diskset.specs.Noted.{NotedOver}
 use Rattle.vx_diskset.specs.Stands.{SiteStands}
 use Rattle.vx_diskset.specs.declared.disk_set.DiskSet.{DiskSet}
 use Rattle.vx_effects.proofs.Fitting.{updated_other}
@@ -30,8 +32,6 @@ use Rattle.vx_yard.proofs.Lists.{set_same}
 use Rattle.vx_yard.proofs.OneSite.{Changed}
 use Rattle.vx_link_lines.proofs.Turned.{stands_turned}
 use Rattle.vx_yard.proofs.FirstSites.{begins_like}
-use Rattle.vx_yard.proofs.OverGroup.{noted_off}
-use Rattle.vx_events.specs.RvgViews.{is_over_rvg}
 
 -- the note of one site
 abbrev pub note_one : ℕ → (ℕ → Node) → ℕ → Node
@@ -64,9 +64,8 @@ sure_open d s fit opens = by (d.after s) refl
     by (Some a) is = absurd (let f = sym (fit.doubts s a is).halted ∙ ap (λ (h : Option ℕ). is_running h) opens.1 in cc)
 
 module _ {R : Type 0} {g : Ghosts R} where
-  pub stands_noted : (d : Doubted) (y : Yard R g) (s : ℕ) (e : DiskSet R g) → StandsFor d y → s < d.world.sites → slice_get y.disk_sets.items s ≡ Some e → is_over_rvg (d.world.nodes s) ≡ false
-      → StandsFor (noted_by (note_one s) d) y
-  stands_noted d y s e stands below there off =
+  pub stands_noted : (d : Doubted) (y : Yard R g) (s : ℕ) (e : DiskSet R g) → StandsFor d y → s < d.world.sites → slice_get y.disk_sets.items s ≡ Some e → StandsFor (noted_by (note_one s) d) y
+  stands_noted d y s e stands below there =
       let to : Doubted = noted_by (note_one s) d in
       let here : to.world.nodes s ≡ worked (d.world.nodes s) = at_place d.world.nodes s (worked (d.world.nodes s)) in
       let fails : FailsAs (d.world.nodes s) e = stands.failing s e below there in
@@ -90,7 +89,7 @@ module _ {R : Type 0} {g : Ghosts R} where
         role = role_like (d.world.nodes s) (to.world.nodes s) e (ap (λ (n : Node). is_origin n.role) here) (stands.roles.each s e below there);
       })
       (λ first. subst (λ (n : Node). BeginsFirst s n) (sym here) (begins_like s (d.world.nodes s) (worked (d.world.nodes s)) (λ bare. bare) refl refl refl refl first))
-      (λ _. noted_off (beside_of d s) (d.world.nodes s) (to.world.nodes s) e (stands.disk_sets.sites s e below there) off)
+      (λ noted. subst (λ (n : Node). NotedOver n e) (sym here) (noted_worked (d.world.nodes s) e noted))
       (stands.facts ∙ sym (worked_shows d.world s))
       (λ a is. subst (λ (n : Node). IsSameSite n a.node) (sym here)
       (let same = stands.doubts s a is in record { name = same.name; disks = same.disks; blocks = same.blocks; volumes = same.volumes }))

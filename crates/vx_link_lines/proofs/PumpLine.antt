@@ -16,6 +16,7 @@ use Rattle.vx_events.specs.Fails.{IsLogDisk}
 use Rattle.vx_events.specs.LinkEnds.{LinksDone, LinksFind, LogUnread}
 use Rattle.vx_events.specs.LinkFinds.{FindsOther, IsUnreadable, PumpSends, ReadsNone, SendsOther, SentBy, pumped_with}
 use Rattle.vx_events.specs.GroupLines.{is_over_group}
+use Rattle.vx_events.specs.RvgViews.{is_over_rvg}
 use Rattle.vx_events.specs.LinkedFacts.{link_fact}
 use Rattle.vx_events.specs.StepsOver.{facts_over}
 use Rattle.vx_events.specs.Lines.{IsDone}
@@ -74,6 +75,7 @@ use Rattle.vx_yard.proofs.NamedSite.{SiteAt, place_at, site_at}
 use Rattle.vx_yard.proofs.NoteSite.{comes_same}
 use Rattle.vx_yard.proofs.OneSite.{Changed, role_kept, rose_at, stands_still}
 use Rattle.vx_yard.proofs.OverGroup.{noted_none}
+use Rattle.vx_link_lines.proofs.OverGroups.{linked_off}
 
 -- a link that is one stands among those that the header keeps
 among_kept : (row : ℕ → Link) (s : ℕ) (ss : List ℕ) → IsAmong s ss → (k : ℕ) × (slice_get (kept_links row ss) k ≡ Some (kept_link s (row s)))
@@ -145,6 +147,7 @@ module _ {R : Type 0} {g : Ghosts R} where
     pub up : (d.world.nodes here).state ≡ Up
     pub running : (d.world.nodes here).halted ≡ None
     pub origin : is_origin (d.world.nodes here).role ≡ true
+    pub raw : is_over_rvg (d.world.nodes here) ≡ false
     pub to : link.site ≡ site_number d.world s
     pub link_is : link ≡ plain_link link.site (d.world.links here link.site)
     pub place : ℕ
@@ -170,6 +173,7 @@ module _ {R : Type 0} {g : Ghosts R} where
         up = subst (λ (k : ℕ). (w.nodes k).state ≡ Up) seat.number on.up;
         running = subst (λ (k : ℕ). (w.nodes k).halted ≡ None) seat.number on.running;
         origin = subst (λ (k : ℕ). is_origin (w.nodes k).role ≡ true) seat.number (stands.links.starts a b on.linked);
+        raw = subst (λ (k : ℕ). is_over_rvg (w.nodes k) ≡ false) seat.number (linked_off d y a b stands on.here on.linked);
         to = to;
         link_is = plain ∙ ap (λ (k : ℕ). plain_link k (w.links a k)) (sym to) ∙ ap (λ (k : ℕ). plain_link l.link.site (w.links k l.link.site)) seat.number;
         place = place.0;

@@ -1,16 +1,14 @@
 -- The sites of a line of links that are over no group of disks with a replicated volume group: their disks are those of raw sets.
-use Rattle.std.proofs.Common.{◌≡◌, ◌∙◌, ◌<◌, ◌≤◌, ℕ, List, Bool, true, false, refl, ap, subst, sym, arith}
-use Rattle.std.proofs.lemmas.Bool.Decides.{nat_tests}
-use Rattle.std.specs.Prelude.{◌||◌, ◌&&◌, ltb, Option, Some, None, slice_get}
+use Rattle.std.proofs.Common.{◌≡◌, ◌∙◌, ◌<◌, ℕ, List, Bool, true, false, refl, ap, subst}
+use Rattle.std.specs.Prelude.{◌||◌, Some, None, slice_get}
 use Rattle.vx_history.specs.Doubts.{Doubted}
-use Rattle.vx_history.specs.World.{Node, Packet, World}
+use Rattle.vx_history.specs.World.{Node}
 use Rattle.vx_disk.specs.declared.shelf.Shelf.{Ghosts}
 use Rattle.vx_diskset.specs.Asked.{IsRawSet}
 use Rattle.vx_diskset.specs.Holds.{beside_of}
 use Rattle.vx_diskset.specs.declared.disk_set.DiskSet.{DiskSet}
 use Rattle.vx_events.specs.Facts.{seat_of}
 use Rattle.vx_events.specs.GroupLines.{is_over_group}
-use Rattle.vx_events.specs.RvgLinks.{rvg_target}
 use Rattle.vx_events.specs.RvgSteps.{over_rvg_at}
 use Rattle.vx_events.specs.RvgViews.{is_over_rvg}
 use Rattle.vx_link_lines.specs.Headed.{NotesAt, noted_by}
@@ -28,24 +26,6 @@ first_off false b off = refl
 pub second_off : (a b : Bool) → (a || b) ≡ false → b ≡ false
 second_off true b off = absurd (let e : true ≡ false = off in cc)
 second_off false b off = off
-
--- the target of a packet
-is_below : (a b : ℕ) → a < b → ltb a b ≡ true
-is_below a b low = grind (arith, nat_tests)
-
-pub target_is : (w : World) (o : Option Packet) (p : Packet) (t : ℕ) → o ≡ Some p → p.target ≡ t → t < w.sites → rvg_target w o ≡ is_over_rvg (w.nodes t)
-target_is w o p t is to below =
-    ap (λ (x : Option Packet). rvg_target w x) is ∙ ap (λ (k : ℕ). ltb k w.sites && is_over_rvg (w.nodes k)) to ∙ ap (λ (b : Bool). b && is_over_rvg (w.nodes t)) (is_below t w.sites below)
-
-pub target_off : (w : World) (o : Option Packet) (p : Packet) (t : ℕ) → o ≡ Some p → p.target ≡ t → t < w.sites → rvg_target w o ≡ false → is_over_rvg (w.nodes t) ≡ false
-target_off w o p t is to below off = sym (target_is w o p t is to below) ∙ off
-
-is_past : (a b : ℕ) → b ≤ a → ltb a b ≡ false
-is_past a b past = grind (arith, nat_tests)
-
-pub target_past : (w : World) (o : Option Packet) (p : Packet) → o ≡ Some p → w.sites ≤ p.target → rvg_target w o ≡ false
-target_past w o p is past =
-    ap (λ (x : Option Packet). rvg_target w x) is ∙ ap (λ (b : Bool). b && is_over_rvg (w.nodes p.target)) (is_past p.target w.sites past)
 
 module _ {R : Type 0} {g : Ghosts R} where
   pub raw_there : (d : Doubted) (y : Yard R g) (s : ℕ) (e : DiskSet R g) → StandsFor d y → s < d.world.sites → slice_get y.disk_sets.items s ≡ Some e

@@ -38,7 +38,8 @@ use Rattle.vx_diskset.specs.declared.disk_set.DiskSet.{DiskSet}
 use Rattle.vx_effects.proofs.Fitting.{fit_happened}
 use Rattle.vx_effects.proofs.Rises.{set_effect}
 use Rattle.vx_effects.proofs.Tests
-use Rattle.vx_events.proofs.LinkAgreeing.{set_agrees, set_apart}
+use Rattle.vx_events.proofs.LinkAgreeing.{set_agrees, set_link}
+use Rattle.vx_events.proofs.LinkTesting.{OnLink}
 use Rattle.vx_events.specs.Effects.{EffectAt}
 use Rattle.vx_events.specs.Facts.{seat_of, site_number}
 use Rattle.vx_events.specs.Fuses.{MayPass, header_calls}
@@ -50,9 +51,9 @@ use Rattle.vx_events.specs.Sayings.{RepeatsSaid}
 use Rattle.vx_events.specs.declared.said.Said.{Said}
 use Rattle.vx_events.specs.declared.said.Said.TheVariants.{Done, Refused}
 use Rattle.vx_linked.proofs.PartFacts.{sets}
-use Rattle.vx_link_lines.proofs.RawParts.{named_off, none_seat}
+use Rattle.vx_link_lines.proofs.OverGroups.{linked_off}
 use Rattle.vx_link_lines.specs.Headed.{NextFor, behind, noted_by}
-use Rattle.vx_events.specs.RvgSteps.{over_rvg_at}
+use Rattle.vx_events.specs.RvgViews.{is_over_rvg}
 use Rattle.vx_yard.specs.Standing.{Leads, StandsFor}
 use Rattle.vx_yard.specs.Working.{IsFree}
 use Rattle.vx_yard.specs.Writes.{noted_facts}
@@ -64,6 +65,7 @@ use Rattle.vx_yard.proofs.HeadNeeds.{head_passes, head_works, refused_undone}
 use Rattle.vx_yard.proofs.NamedSite.{PlaceAt, SiteAt, place_at, site_at}
 use Rattle.vx_link_lines.proofs.NotedYard.{carries_noted, note_one, notes_one, stands_noted, sure_open}
 use Rattle.vx_yard.proofs.OneSite.{Changed}
+use Rattle.vx_yard.proofs.OverGroup.{none_noted}
 use Rattle.vx_link_lines.proofs.PartLine.{IsKeptHeader, kept_done, kept_refused}
 use Rattle.vx_yard.proofs.Rows.{row_links_same}
 use Rattle.vx_link_lines.proofs.SetLink.{set_needs}
@@ -79,8 +81,7 @@ set_open w p s sync said =
     (λ _. Tests.site_ends Q w none s (at_work w p led) (λ _. Tests.work_ends Q w none p led (λ up runs _. (up, runs)))) said
 
 module _ {R : Type 0} {g : Ghosts R} (d : Doubted) (old : Yard R g) (first second : List ℕ) (sync : SyncMode) (free_prot : Prot) (s q : ℕ) (before : DiskSet R g) (stands : StandsFor d old)
-    (free : IsFree old (Set first second sync free_prot)) (seat : seat_of old.facts.items first ≡ Some s) (seat_too : seat_of old.facts.items second ≡ Some q) (at : slice_get old.disk_sets.items s ≡ Some before)
-    (off : over_rvg_at d.world first ≡ false) where
+    (free : IsFree old (Set first second sync free_prot)) (seat : seat_of old.facts.items first ≡ Some s) (seat_too : seat_of old.facts.items second ≡ Some q) (at : slice_get old.disk_sets.items s ≡ Some before) where
   abbrev n : Node
   n = d.world.nodes s
 
@@ -96,9 +97,17 @@ module _ {R : Type 0} {g : Ghosts R} (d : Doubted) (old : Yard R g) (first secon
   tested : refused_over w (in_files old) (Set first second sync free_prot) ≡ None
   tested = ap (λ (fs : List SiteFacts). line_refusal fs (in_files old) (Set first second sync free_prot)) (sym stands.facts) ∙ free
 
-  -- the site of the line is over no group
+  -- the link of the line
+  on : OnLink w first second is_origin
+  on = set_link w (in_files old) first second sync free_prot tested
+
+  -- its site is over no group
   pub set_alone : is_over_group n ≡ false
-  set_alone = subst (λ (k : ℕ). is_over_group (w.nodes k) ≡ false) (place_at d old first s stands seat).number (set_apart w (in_files old) first second sync free_prot tested)
+  set_alone = subst (λ (k : ℕ). is_over_group (w.nodes k) ≡ false) (place_at d old first s stands seat).number on.apart
+
+  -- with a replicated volume group or without one
+  pub set_raw : is_over_rvg n ≡ false
+  set_raw = subst (λ (k : ℕ). is_over_rvg (w.nodes k) ≡ false) (place_at d old first s stands seat).number (linked_off d old (site_number w first) (site_number w second) stands on.here on.linked)
 
   here : SiteAt d old first s
   here = site_at d old first s stands set_alone seat
@@ -139,7 +148,7 @@ module _ {R : Type 0} {g : Ghosts R} (d : Doubted) (old : Yard R g) (first secon
       fits_before = stands.links;
       sets = refl;
       opens = set_opens;
-      none = none_seat d old first s stands seat set_alone off;
+      none = none_noted n set_alone set_raw;
       writes = refl;
     };
     role = refl;
@@ -147,7 +156,7 @@ module _ {R : Type 0} {g : Ghosts R} (d : Doubted) (old : Yard R g) (first secon
   }
 
   noted : StandsFor (noted_by (note_one s) d) old
-  noted = stands_noted d old s before stands here.below at (named_off d old first s stands seat off)
+  noted = stands_noted d old s before stands here.below at
 
   numbers : (prot : Prot) → link_events w (Set first second sync prot) ≡ event ∷ []
   numbers prot =

@@ -1,12 +1,10 @@
 // The line that hands a packet to its target.
-ghost use Rattle.std.specs.Prelude.{◌≡◌, ◌<◌, ℕ, IfOk, Some, false, length};
+ghost use Rattle.std.specs.Prelude.{◌≡◌, ◌<◌, ℕ, IfOk, Some, length};
 ghost use Rattle.vx_model.specs.Content.{Write as LogWrite};
 ghost use Rattle.vx_model.specs.declared.limits.TheConstants.{MOST_SITES};
 ghost use Rattle.vx_history.specs.Doubts.{Doubted};
 ghost use Rattle.vx_history.specs.Events.{packet_at};
 ghost use Rattle.vx_history.specs.World.{Packet, Update};
-ghost use Rattle.vx_events.specs.RvgLinks.{links_rvg};
-ghost use Rattle.vx_events.specs.RvgViews.{is_over_rvg};
 ghost use Rattle.vx_script.specs.declared.line.ScriptLine.TheVariants.{Deliver};
 ghost use Rattle.vx_yard.specs.Carries.{Carries};
 ghost use Rattle.vx_yard.specs.OfSites.{AllSameFailing, AsAsked, HasCalled, OfSite, TouchesNone};
@@ -37,7 +35,7 @@ fn hand_update<R: Rack>(yard: &mut Yard<R>, target: usize, number: u64) -> Resul
     requires place { target < length yard.old.assemblies.items }
     requires feeder { target < length yard.old.feeders.items }
     requires few { target < MOST_SITES }
-    ensures leads { (d : Doubted) (p : Packet) (k : ℕ) (x : LogWrite) → StandsFor d yard.old → is_over_rvg (d.world.nodes target) ≡ false → Carries d yard.old → GoodFor d yard.old → packet_at d.world.packets number ≡ Some p → p.target ≡ target
+    ensures leads { (d : Doubted) (p : Packet) (k : ℕ) (x : LogWrite) → StandsFor d yard.old → Carries d yard.old → GoodFor d yard.old → packet_at d.world.packets number ≡ Some p → p.target ≡ target
         → target < d.world.sites → p.message ≡ Update k x → LeadsIs d (Deliver number) yard.old yard.new result }
     ensures asked { AllSameFailing yard.old yard.new }
     // It waits in memory, and no disk is touched.
@@ -74,9 +72,9 @@ pub fn deliver_line<R: Rack>(
 ) -> Result<Said, OutOfMemory>
     requires kept { IsYardKept yard.old }
     requires free { IsFree yard.old (Deliver number) }
-    ensures leads { (d : Doubted) → StandsFor d yard.old → links_rvg d.world (Deliver number) ≡ false → Carries d yard.old → GoodFor d yard.old → LeadsIs d (Deliver number) yard.old yard.new result }
-    ensures asked { (d : Doubted) → StandsFor d yard.old → links_rvg d.world (Deliver number) ≡ false → AsAsked d.world (Deliver number) yard.old yard.new }
-    ensures called { (d : Doubted) → StandsFor d yard.old → links_rvg d.world (Deliver number) ≡ false → Carries d yard.old → IfOk result (λ said. HasCalled d.world (Deliver number) said yard.old yard.new) }
+    ensures leads { (d : Doubted) → StandsFor d yard.old → Carries d yard.old → GoodFor d yard.old → LeadsIs d (Deliver number) yard.old yard.new result }
+    ensures asked { (d : Doubted) → StandsFor d yard.old → AsAsked d.world (Deliver number) yard.old yard.new }
+    ensures called { (d : Doubted) → StandsFor d yard.old → Carries d yard.old → IfOk result (λ said. HasCalled d.world (Deliver number) said yard.old yard.new) }
     ensures told { IsTold yard.new → IsTold yard.old }
     ensures files { in_files yard.new ≡ in_files yard.old }
 {

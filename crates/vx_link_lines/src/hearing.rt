@@ -11,7 +11,6 @@ ghost use Rattle.vx_history.specs.World.{Link as LinkOf, Node, Packet, World};
 ghost use Rattle.vx_script.specs.declared.line.ScriptLine.TheVariants.{Deliver};
 ghost use Rattle.vx_events.specs.LinkedFacts.{needed_by};
 ghost use Rattle.vx_events.specs.GroupLines.{is_over_group};
-ghost use Rattle.vx_events.specs.RvgViews.{is_over_rvg};
 ghost use Rattle.vx_events.specs.StepsOver.{facts_over};
 ghost use Rattle.vx_events.specs.LinksFit.{LinksFit, is_plain_mode};
 ghost use Rattle.vx_srlfmt.specs.Headers.{CanSpellState};
@@ -124,11 +123,11 @@ pub(crate) fn hear_answer<R: Rack>(
     requires site { target < length yard.old.facts.items }
     requires place { target < length yard.old.assemblies.items }
     requires few { target < MOST_SITES }
-    ensures leads { (d : Doubted) (p : Packet) → StandsFor d yard.old → is_over_rvg (d.world.nodes target) ≡ false → Carries d yard.old → GoodFor d yard.old → packet_at d.world.packets number ≡ Some p → p.target ≡ target
+    ensures leads { (d : Doubted) (p : Packet) → StandsFor d yard.old → Carries d yard.old → GoodFor d yard.old → packet_at d.world.packets number ≡ Some p → p.target ≡ target
         → p.source ≡ source → target < d.world.sites → is_answer p.message ≡ true → LeadsIs d (Deliver number) yard.old yard.new result }
     ensures asked { (d : Doubted) → StandsFor d yard.old → target < d.world.sites → AllSameFailing yard.old yard.new }
     // One header where the link comes to count more as stored, and else no call.
-    ensures called { (d : Doubted) (p : Packet) → StandsFor d yard.old → is_over_rvg (d.world.nodes target) ≡ false → Carries d yard.old → packet_at d.world.packets number ≡ Some p → p.target ≡ target → p.source ≡ source → target < d.world.sites
+    ensures called { (d : Doubted) (p : Packet) → StandsFor d yard.old → Carries d yard.old → packet_at d.world.packets number ≡ Some p → p.target ≡ target → p.source ≡ source → target < d.world.sites
         → is_answer p.message ≡ true → IfOk result (λ said. OfSite (HeadUnder (heard_calls d.world number target source) said) target yard.old yard.new) }
     ensures told { IsTold yard.new → IsTold yard.old }
     ensures files { in_files yard.new ≡ in_files yard.old }

@@ -1,7 +1,6 @@
 // The line that sends what the receiver of a link may lack.
-ghost use Rattle.std.specs.Prelude.{◌≡◌, IfOk, false};
+ghost use Rattle.std.specs.Prelude.{◌≡◌, IfOk};
 ghost use Rattle.vx_history.specs.Doubts.{Doubted};
-ghost use Rattle.vx_events.specs.RvgLinks.{links_rvg};
 ghost use Rattle.vx_script.specs.declared.line.ScriptLine.TheVariants.{Pump};
 ghost use Rattle.vx_yard.specs.Carries.{Carries};
 ghost use Rattle.vx_yard.specs.OfSites.{AsAsked, HasCalled};
@@ -26,9 +25,9 @@ pub fn pump_line<R: Rack>(
 ) -> Result<Said, OutOfMemory>
     requires kept { IsYardKept yard.old }
     requires free { IsFree yard.old (Pump first.now second.now) }
-    ensures leads { (d : Doubted) → StandsFor d yard.old → links_rvg d.world (Pump first.now second.now) ≡ false → Carries d yard.old → LeadsIs d (Pump first.now second.now) yard.old yard.new result }
+    ensures leads { (d : Doubted) → StandsFor d yard.old → Carries d yard.old → LeadsIs d (Pump first.now second.now) yard.old yard.new result }
     ensures asked { (d : Doubted) → StandsFor d yard.old → AsAsked d.world (Pump first.now second.now) yard.old yard.new }
-    ensures called { (d : Doubted) → StandsFor d yard.old → links_rvg d.world (Pump first.now second.now) ≡ false → IfOk result (λ said. HasCalled d.world (Pump first.now second.now) said yard.old yard.new) }
+    ensures called { (d : Doubted) → StandsFor d yard.old → IfOk result (λ said. HasCalled d.world (Pump first.now second.now) said yard.old yard.new) }
     ensures told { IsTold yard.new → IsTold yard.old }
     ensures files { in_files yard.new ≡ in_files yard.old }
 {

@@ -14,7 +14,6 @@ ghost use Rattle.vx_srlfmt.specs.Headers.{CanSpellState};
 ghost use Rattle.vx_diskset.specs.Holds.{KeptBeside, header_links, state_with};
 ghost use Rattle.vx_diskset.specs.Stands.{SiteStands};
 ghost use Rattle.vx_events.specs.GroupLines.{is_over_group};
-ghost use Rattle.vx_events.specs.RvgLinks.{links_rvg};
 ghost use Rattle.vx_events.specs.StepsOver.{facts_over};
 ghost use Rattle.vx_yard.specs.OfSites.{AsAsked, HasCalled};
 ghost use Rattle.vx_yard.specs.Standing.{LeadsIs, StandsFor};
@@ -68,11 +67,11 @@ pub(crate) fn set_line<R: Rack>(
 ) -> Result<Said, OutOfMemory>
     requires kept { IsYardKept yard.old }
     requires free { (prot : Prot) × IsFree yard.old (Set first.now second.now sync prot) }
-    ensures leads { (d : Doubted) (prot : Prot) → StandsFor d yard.old → links_rvg d.world (Set first.now second.now sync prot) ≡ false → LeadsIs d (Set first.now second.now sync prot) yard.old yard.new result }
+    ensures leads { (d : Doubted) (prot : Prot) → StandsFor d yard.old → LeadsIs d (Set first.now second.now sync prot) yard.old yard.new result }
     // It makes no disk fail, and touches no other site.
-    ensures asked { (d : Doubted) (prot : Prot) → StandsFor d yard.old → links_rvg d.world (Set first.now second.now sync prot) ≡ false → AsAsked d.world (Set first.now second.now sync prot) yard.old yard.new }
+    ensures asked { (d : Doubted) (prot : Prot) → StandsFor d yard.old → AsAsked d.world (Set first.now second.now sync prot) yard.old yard.new }
     // It is one header, and no other call.
-    ensures called { (d : Doubted) (prot : Prot) → StandsFor d yard.old → links_rvg d.world (Set first.now second.now sync prot) ≡ false → IfOk result (λ said. HasCalled d.world (Set first.now second.now sync prot) said yard.old yard.new) }
+    ensures called { (d : Doubted) (prot : Prot) → StandsFor d yard.old → IfOk result (λ said. HasCalled d.world (Set first.now second.now sync prot) said yard.old yard.new) }
     ensures flight { yard.new.flight ≡ yard.old.flight }
     ensures told { IsTold yard.new → IsTold yard.old }
     ensures files { in_files yard.new ≡ in_files yard.old }

@@ -5,7 +5,6 @@ pub mod Replies
 pub mod SentText
 pub mod SettleEnds
 pub mod SettleLine
-pub mod SettleOver
 pub mod SettleParts
 pub mod SettleRaw
 pub mod SettleSent

@@ -10,7 +10,7 @@ use Rattle.vx_order.specs.Subject.{first_name, second_name}
 use Rattle.vx_order.specs.declared.facts.SiteFacts.{SiteFacts}
 use Rattle.vx_order.specs.declared.facts.VolumeKind.{VolumeKind}
 use Rattle.vx_script.specs.declared.line.ScriptLine.{ScriptLine}
-use Rattle.vx_script.specs.declared.line.ScriptLine.TheVariants.{Apply, Deliver, GroupDeport, GroupImport, Link, PlexAttach, PlexDetach, Pump, Put, Read, Set, Settle, Show, Volume, Write}
+use Rattle.vx_script.specs.declared.line.ScriptLine.TheVariants.{Apply, Deliver, GroupDeport, GroupImport, Link, PlexAttach, PlexDetach, Put, Volume, Write}
 use Rattle.vx_events.proofs.Places.{some_same}
 use Rattle.vx_events.proofs.Refused.{named, passes}
 use Rattle.vx_events.proofs.RvgEvents.{rvg_apart}
@@ -39,26 +39,18 @@ first_of (PlexDetach name volume plex) site is = is
 first_of (PlexAttach name volume plex) site is = is
 first_of (Write name volume start count fill) site is = is
 first_of (Put name volume start bytes) site is = is
-first_of (Read name volume start count) site is = is
-first_of (Show name volume start count) site is = is
 first_of (Apply name to) site is = is
 first_of (Link p s sync prot) site is = is
-first_of (Set p s sync prot) site is = is
-first_of (Pump p s) site is = is
-first_of (Settle p s) site is = is
 first_of other site is = absurd (cc)
 
 second_of : (line : ScriptLine) (site : List ℕ) → open_second line ≡ Some site → second_name line ≡ Some site
 unfolding second_name
 second_of (Link p s sync prot) site is = is
-second_of (Settle p s) site is = is
 second_of other site is = absurd (cc)
 
 blocks_worded : (line : ScriptLine) (site volume : List ℕ) → open_site line ≡ Some site → block_volume line ≡ Some volume → (site_worded line ≡ Some site) × (volume_worded line ≡ Some volume)
 blocks_worded (Write name v start count fill) site volume is same = (is, same)
 blocks_worded (Put name v start bytes) site volume is same = (is, same)
-blocks_worded (Read name v start count) site volume is same = (is, same)
-blocks_worded (Show name v start count) site volume is same = (is, same)
 blocks_worded other site volume is same = absurd (cc)
 
 none_delivered : (line : ScriptLine) (site : List ℕ) → open_site line ≡ Some site → (number : ℕ) → line ≡ Deliver number → ⊥
@@ -86,23 +78,17 @@ module _ {R : Type 0} {g : Ghosts R} where
 -- ---- whether it is open
 
 module _ (w : World) where
-  pub open_nowhere : (line : ScriptLine) → open_site line ≡ None → ((number : ℕ) → line ≡ Deliver number → ⊥) → is_open w line ≡ false
-  open_nowhere (GroupDeport name) none sites = absurd (cc)
-  open_nowhere (GroupImport name) none sites = absurd (cc)
-  open_nowhere (Volume name volume blocks mirrors layout log map policy) none sites = absurd (cc)
-  open_nowhere (PlexDetach name volume plex) none sites = absurd (cc)
-  open_nowhere (PlexAttach name volume plex) none sites = absurd (cc)
-  open_nowhere (Write name volume start count fill) none sites = absurd (cc)
-  open_nowhere (Put name volume start bytes) none sites = absurd (cc)
-  open_nowhere (Read name volume start count) none sites = absurd (cc)
-  open_nowhere (Show name volume start count) none sites = absurd (cc)
-  open_nowhere (Apply name to) none sites = absurd (cc)
-  open_nowhere (Link p s sync prot) none sites = absurd (cc)
-  open_nowhere (Set p s sync prot) none sites = absurd (cc)
-  open_nowhere (Pump p s) none sites = absurd (cc)
-  open_nowhere (Settle p s) none sites = absurd (cc)
-  open_nowhere (Deliver number) none sites = absurd (sites number refl)
-  open_nowhere other none sites = refl
+  pub open_nowhere : (line : ScriptLine) → open_site line ≡ None → is_open w line ≡ false
+  open_nowhere (GroupDeport name) none = absurd (cc)
+  open_nowhere (GroupImport name) none = absurd (cc)
+  open_nowhere (Volume name volume blocks mirrors layout log map policy) none = absurd (cc)
+  open_nowhere (PlexDetach name volume plex) none = absurd (cc)
+  open_nowhere (PlexAttach name volume plex) none = absurd (cc)
+  open_nowhere (Write name volume start count fill) none = absurd (cc)
+  open_nowhere (Put name volume start bytes) none = absurd (cc)
+  open_nowhere (Apply name to) none = absurd (cc)
+  open_nowhere (Link p s sync prot) none = absurd (cc)
+  open_nowhere other none = refl
 
   -- at the site of its name
   over_first : (name site : List ℕ) (b : Bool) → (let o : Option (List ℕ) = Some name in o ≡ Some site) → over_rvg_at w site ≡ b → over_rvg_at w name ≡ b
@@ -119,16 +105,11 @@ module _ (w : World) where
   open_there (PlexAttach name volume plex) site is none over = over_first name site true is over
   open_there (Write name volume start count fill) site is none over = absurd (cc)
   open_there (Put name volume start bytes) site is none over = absurd (cc)
-  open_there (Read name volume start count) site is none over = absurd (cc)
-  open_there (Show name volume start count) site is none over = absurd (cc)
   open_there (Apply name to) site is none over = over_first name site true is over
   open_there (Link p s sync prot) site is none over = either_first p site s true is over
-  open_there (Set p s sync prot) site is none over = over_first p site true is over
-  open_there (Pump p s) site is none over = over_first p site true is over
-  open_there (Settle p s) site is none over = either_first p site s true is over
   open_there other site is none over = absurd (cc)
 
-  -- of a line on blocks it is said by its volume
+  -- of a line that writes blocks it is said by its volume
   plain_by : (a b : Bool) (k : VolumeKind) → b ≡ true → (b ≡ true → a ≡ false) → (a || (b && not (is_data k))) ≡ (b && not (is_data k))
   plain_by true b k is apart = absurd (let clash : true ≡ false = apart is in cc)
   plain_by false b k is apart = refl
@@ -146,8 +127,6 @@ module _ (w : World) where
   pub open_block : (line : ScriptLine) (site volume : List ℕ) → open_site line ≡ Some site → block_volume line ≡ Some volume → over_rvg_at w site ≡ true → plain_at w site volume ≡ is_open w line
   open_block (Write name v start count fill) site volume is same over = block_there name site v volume is same over
   open_block (Put name v start bytes) site volume is same over = block_there name site v volume is same over
-  open_block (Read name v start count) site volume is same over = block_there name site v volume is same over
-  open_block (Show name v start count) site volume is same over = block_there name site v volume is same over
   open_block other site volume is same over = absurd (cc)
 
   -- where the first site has none
@@ -162,13 +141,8 @@ module _ (w : World) where
   open_not (PlexAttach name volume plex) site is none off = over_first name site false is off
   open_not (Write name volume start count fill) site is none off = volume_off name site volume is off
   open_not (Put name volume start bytes) site is none off = volume_off name site volume is off
-  open_not (Read name volume start count) site is none off = volume_off name site volume is off
-  open_not (Show name volume start count) site is none off = volume_off name site volume is off
   open_not (Apply name to) site is none off = over_first name site false is off
   open_not (Link p s sync prot) site is none off = absurd (cc)
-  open_not (Set p s sync prot) site is none off = over_first p site false is off
-  open_not (Pump p s) site is none off = over_first p site false is off
-  open_not (Settle p s) site is none off = absurd (cc)
   open_not other site is none off = absurd (cc)
 
   second_there : (p site s second : List ℕ) → (let o : Option (List ℕ) = Some p in o ≡ Some site) → (let o : Option (List ℕ) = Some s in o ≡ Some second) → over_rvg_at w site ≡ false
@@ -177,5 +151,4 @@ module _ (w : World) where
 
   pub open_by_second : (line : ScriptLine) (site second : List ℕ) → open_site line ≡ Some site → open_second line ≡ Some second → over_rvg_at w site ≡ false → over_rvg_at w second ≡ is_open w line
   open_by_second (Link p s sync prot) site second is same off = second_there p site s second is same off
-  open_by_second (Settle p s) site second is same off = second_there p site s second is same off
   open_by_second other site second is same off = absurd (cc)

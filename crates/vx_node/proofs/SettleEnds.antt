@@ -4,22 +4,20 @@ use Rattle.std.specs.Prelude.{eqb, if◌then◌else◌}
 use Rattle.vx_model.specs.Sites.{is_origin}
 use Rattle.vx_model.specs.declared.no.No.{No}
 use Rattle.vx_model.proofs.Lists.{get_there}
-use Rattle.vx_history.proofs.Updates.{all_updated, eqb_equal}
+use Rattle.vx_history.proofs.Updates.{eqb_equal}
 use Rattle.vx_history.specs.Doubts.{Doubted}
 use Rattle.vx_history.specs.Steps.{worked, worked_on}
-use Rattle.vx_history.specs.World.{Node, World}
+use Rattle.vx_history.specs.World.{World}
 use Rattle.vx_history.specs.declared.event.Event.{Event}
 use Rattle.vx_disk.specs.declared.shelf.Shelf.{Ghosts}
 use Rattle.vx_events.specs.Facts.{site_number}
 use Rattle.vx_events.specs.LinkEnds.{AreLeft}
 use Rattle.vx_events.specs.LinkLists.{link_events}
 use Rattle.vx_events.specs.Parts.{StopsInPart, StopsShort}
-use Rattle.vx_events.specs.RvgViews.{is_over_rvg}
 use Rattle.vx_events.specs.declared.said.Said.TheVariants.{Refused, Settled}
 use Rattle.vx_script.specs.declared.line.ScriptLine.TheVariants.{Settle}
 use Rattle.vx_settling.proofs.Burning.{both_burnt}
 use Rattle.vx_settling.proofs.Moving.{line_short, passes_then}
-use Rattle.vx_settling.proofs.Named.{moved_over}
 use Rattle.vx_settling.proofs.Running.{are_all, are_parts, run_is, runs_only}
 use Rattle.vx_settling.proofs.Stopping.{runs_then, settle_part}
 use Rattle.vx_settling.proofs.Working.{line_done, line_stopped}
@@ -28,7 +26,6 @@ use Rattle.vx_settling.specs.Kinds.{AreSettling}
 use Rattle.vx_settling.specs.Works.{CalmTold, Shortens, SettleWorks}
 use Rattle.vx_yard.specs.Carries.{Carries}
 use Rattle.vx_node.specs.Settling.{EndedFor, NotedFor, OnFor, ShortFor}
-use Rattle.vx_node.proofs.SettleOver.{stops_over}
 use Rattle.vx_yard.specs.Standing.{Leads, StandsFor, StopsFor}
 use Rattle.vx_yard.specs.Stands.{AreTold, RoseAll}
 use Rattle.vx_yard.specs.Yards.{IsTold, count_of}
@@ -42,15 +39,11 @@ use Rattle.vx_yard.proofs.RecoverLine.{rose_then}
 abbrev pub noted_two : (a b : ℕ) → Doubted → Doubted
 noted_two a b d = record d { world = worked_on (worked_on d.world a) b }
 
--- which gives no site a replicated volume group over its group
-noted_over : (w : World) (s i : ℕ) → is_over_rvg ((worked_on w s).nodes i) ≡ is_over_rvg (w.nodes i)
-noted_over w s = all_updated (λ (i : ℕ) (n : Node). is_over_rvg n ≡ is_over_rvg (w.nodes i)) w.nodes s (worked (w.nodes s)) refl (λ i apart. refl)
-
 module _ {R : Type 0} {g : Ghosts R} where
-  note_stands : (d : Doubted) (y : Yard R g) (s : ℕ) → StandsFor d y → s < d.world.sites → is_over_rvg (d.world.nodes s) ≡ false → StandsFor (record d { world = worked_on d.world s }) y
-  note_stands d y s stands below off =
+  note_stands : (d : Doubted) (y : Yard R g) (s : ℕ) → StandsFor d y → s < d.world.sites → StandsFor (record d { world = worked_on d.world s }) y
+  note_stands d y s stands below =
       let one = get_there y.disk_sets.items s (omega (arith, below, stands.disk_sets.few, stands.disk_sets.eight)) in
-      stands_noted d y s one.0 stands below one.1 off
+      stands_noted d y s one.0 stands below one.1
 
   note_carries : (d : Doubted) (y : Yard R g) (s : ℕ) → Carries d y → Carries (record d { world = worked_on d.world s }) y
   note_carries d y s carries =
@@ -64,12 +57,10 @@ module _ {R : Type 0} {g : Ghosts R} where
   both_same : (a b : ℕ) (d : Doubted) (y : Yard R g) (n : NotedFor a b d y) → noted_two a b (noted_as n.fuses d) ≡ noted_two a b d
   both_same a b d y n = ap (λ (w : World). let q : Doubted = record d { world = w } in q) (both_burnt a b n.fuses d.world n.burns)
 
-  pub both_stand : (a b : ℕ) (d : Doubted) (y : Yard R g) → NotedFor a b d y → a < d.world.sites → b < d.world.sites → is_over_rvg (d.world.nodes a) ≡ false → is_over_rvg (d.world.nodes b) ≡ false
-      → StandsFor (noted_two a b d) y
-  both_stand a b d y n first second off off_too =
+  pub both_stand : (a b : ℕ) (d : Doubted) (y : Yard R g) → NotedFor a b d y → a < d.world.sites → b < d.world.sites → StandsFor (noted_two a b d) y
+  both_stand a b d y n first second =
       subst (λ (q : Doubted). StandsFor q y) (both_same a b d y n)
-      (note_stands (record (noted_as n.fuses d) { world = worked_on (noted_as n.fuses d).world a }) y b (note_stands (noted_as n.fuses d) y a n.stands first off) second
-      (noted_over (noted_as n.fuses d).world a b ∙ off_too))
+      (note_stands (record (noted_as n.fuses d) { world = worked_on (noted_as n.fuses d).world a }) y b (note_stands (noted_as n.fuses d) y a n.stands first) second)
 
   pub both_carry : (a b : ℕ) (d : Doubted) (y : Yard R g) → NotedFor a b d y → Carries (noted_two a b d) y
   both_carry a b d y n =
@@ -109,18 +100,16 @@ module _ {R : Type 0} {g : Ghosts R} where
             works = tt;
             calls = tt;
           };
-          stands = both_stand a b e new on.serves.noted can.first can.second on.serves.raw on.serves.raw_too;
+          stands = both_stand a b e new on.serves.noted can.first can.second;
           carries = λ _. both_carry a b e new on.serves.noted;
           rose = on.rose;
         }
 
     -- it was refused
     pub settle_ended : (why : No) → (end : EndedFor (site_number d.world p) (site_number d.world s) d (link_events d.world (Settle p s)) why old new) → site_number d.world p < d.world.sites → site_number d.world s < d.world.sites
-        → is_over_rvg (d.world.nodes (site_number d.world p)) ≡ false → is_over_rvg (d.world.nodes (site_number d.world s)) ≡ false → Leads d (Settle p s) (Refused why) old new
-    settle_ended why end first second off off_too =
+        → Leads d (Settle p s) (Refused why) old new
+    settle_ended why end first second =
         let e : Doubted = end.last in
-        let over : (i : ℕ) → is_over_rvg (e.world.nodes i) ≡ is_over_rvg (d.world.nodes i)
-        = λ i. stops_over i (CalmTold (IsTold new) d) (calm_known d new) a b d all end.fails (Refused why) e (are_all d.world a b) end.stops in
         record {
           next = noted_two a b e;
           fails = end.fails;
@@ -130,7 +119,7 @@ module _ {R : Type 0} {g : Ghosts R} where
             works = tt;
             calls = tt;
           };
-          stands = both_stand a b e new end.noted (subst (λ (n : ℕ). a < n) (sym end.sites) first) (subst (λ (n : ℕ). b < n) (sym end.sites) second) (over a ∙ off) (over b ∙ off_too);
+          stands = both_stand a b e new end.noted (subst (λ (n : ℕ). a < n) (sym end.sites) first) (subst (λ (n : ℕ). b < n) (sym end.sites) second);
           carries = λ _. both_carry a b e new end.noted;
           rose = end.rose;
         }
@@ -152,16 +141,14 @@ module _ {R : Type 0} {g : Ghosts R} where
           (calm_known d new)
 
       pub settle_short : (CalmTold (IsTold new) d → link_events d.world (Settle p s) ≡ x ∷ rest) → SettleWorks (CalmTold (IsTold new) d) (site_number d.world p) (site_number d.world s) d (x ∷ []) m → RoseAll [] (count_of old) (count_of mid)
-          → site_number d.world p < d.world.sites → site_number d.world s < d.world.sites → is_over_rvg (d.world.nodes (site_number d.world p)) ≡ false → is_over_rvg (d.world.nodes (site_number d.world s)) ≡ false
-          → ShortFor (site_number d.world p) (site_number d.world s) m rest mid new → StopsFor d (Settle p s) old new
-      settle_short split one rose first second off off_too short =
+          → site_number d.world p < d.world.sites → site_number d.world s < d.world.sites → ShortFor (site_number d.world p) (site_number d.world s) m rest mid new → StopsFor d (Settle p s) old new
+      settle_short split one rose first second short =
           let e : Doubted = short.last in
           let moves = passes_then a b d m e one.moves short.short.moves in
           record {
             next = noted_two a b e;
             part = short_so split one e short.short;
-            stands = both_stand a b e new short.noted (subst (λ (n : ℕ). a < n) (sym moves.sites) first) (subst (λ (n : ℕ). b < n) (sym moves.sites) second) (moved_over a b d e a moves ∙ off)
-                (moved_over a b d e b moves ∙ off_too);
+            stands = both_stand a b e new short.noted (subst (λ (n : ℕ). a < n) (sym moves.sites) first) (subst (λ (n : ℕ). b < n) (sym moves.sites) second);
             carries = λ _. both_carry a b e new short.noted;
             rose = rose_then [] (count_of old) (count_of mid) (count_of new) rose short.rose;
           }

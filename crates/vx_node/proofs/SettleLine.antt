@@ -19,8 +19,6 @@ use Rattle.vx_events.proofs.Places.{some_same}
 use Rattle.vx_events.proofs.Tolds.{done_told}
 use Rattle.vx_events.specs.Facts.{seat_of, site_number}
 use Rattle.vx_events.specs.Parts.{StopsInPart}
-use Rattle.vx_events.specs.RvgLinks.{links_rvg}
-use Rattle.vx_events.specs.RvgViews.{is_over_rvg}
 use Rattle.vx_events.specs.Settles.{CanSettle}
 use Rattle.vx_events.specs.declared.said.Said.{Said}
 use Rattle.vx_events.specs.declared.said.Said.TheVariants.{Done, Refused, Settled}
@@ -42,7 +40,6 @@ use Rattle.vx_yard.specs.Yards.{IsTold, count_of, in_files}
 use Rattle.vx_node.specs.declared.going.Went.{Went}
 use Rattle.vx_node.specs.declared.going.Went.TheVariants.{Ended, On, Short}
 use Rattle.vx_yard.specs.declared.yard.Yard.{Yard}
-use Rattle.vx_link_lines.proofs.RawParts.{first_off, second_off}
 use Rattle.vx_yard.proofs.ChangeSite.{rose_none}
 use Rattle.vx_yard.proofs.NamedSite.{place_at}
 use Rattle.vx_yard.proofs.OfSites.{all_then}
@@ -55,19 +52,15 @@ use Rattle.vx_node.proofs.WentThen.{on_as, on_then, went_as, went_then}
 
 module _ {R : Type 0} {g : Ghosts R} where
   -- what no test refuses may be settled
-  pub begins : (d : Doubted) (y : Yard R g) (first second : List ℕ) (a b : ℕ) → StandsFor d y → links_rvg d.world (Settle first second) ≡ false → Carries d y → GoodFor d y → IsFree y (Settle first second) → seat_of y.facts.items first ≡ Some a → seat_of y.facts.items second ≡ Some b → SettlesFor first second a b d y
-  begins d y first second a b stands off carries good free one two =
+  pub begins : (d : Doubted) (y : Yard R g) (first second : List ℕ) (a b : ℕ) → StandsFor d y → Carries d y → GoodFor d y → IsFree y (Settle first second) → seat_of y.facts.items first ≡ Some a → seat_of y.facts.items second ≡ Some b → SettlesFor first second a b d y
+  begins d y first second a b stands carries good free one two =
       let here = place_at d y first a stands one in
       let there = place_at d y second b stands two in
-      let over : ℕ → Bool
-      = λ i. is_over_rvg (d.world.nodes i) in
       let can : CanSettle d.world (site_number d.world first) (site_number d.world second)
       = settle_agrees d (in_files y) first second stands.links (subst (λ (fs : List SiteFacts). line_refusal fs (in_files y) (Settle first second) ≡ None) stands.facts free) in
       record {
         noted = record { fuses = λ i. (d.world.nodes i).fuse; burns = burns_none a b d.world; stands = stands; carries = carries };
         may = may_move d a b stands.links (subst (λ (j : ℕ). CanSettle d.world a j) there.number (subst (λ (i : ℕ). CanSettle d.world i (site_number d.world second)) here.number can));
-        raw = subst (λ (i : ℕ). over i ≡ false) here.number (first_off (over (site_number d.world first)) (over (site_number d.world second)) off);
-        raw_too = subst (λ (i : ℕ). over i ≡ false) there.number (second_off (over (site_number d.world first)) (over (site_number d.world second)) off);
         good = good;
         from = here.number;
         to = there.number;
@@ -105,28 +98,22 @@ module _ {R : Type 0} {g : Ghosts R} where
       two (λ all origin stored. settle_leads d first second old new all origin stored))
 
   end_at : (d : Doubted) (old new : Yard R g) (first second : List ℕ) (i j : ℕ) → site_number d.world first ≡ i → site_number d.world second ≡ j → (why : No) → EndedFor i j d (settling d.world i j) why old new
-      → i < d.world.sites → j < d.world.sites → is_over_rvg (d.world.nodes i) ≡ false → is_over_rvg (d.world.nodes j) ≡ false → Leads d (Settle first second) (Refused why) old new
+      → i < d.world.sites → j < d.world.sites → Leads d (Settle first second) (Refused why) old new
   end_at d old new first second i j one two why =
-      subst
-      (λ (k : ℕ). EndedFor k j d (settling d.world k j) why old new → k < d.world.sites → j < d.world.sites → is_over_rvg (d.world.nodes k) ≡ false → is_over_rvg (d.world.nodes j) ≡ false → Leads d (Settle first second) (Refused why) old new)
-      one
-      (subst
-      (λ (l : ℕ). EndedFor (site_number d.world first) l d (settling d.world (site_number d.world first) l) why old new → site_number d.world first < d.world.sites → l < d.world.sites
-      → is_over_rvg (d.world.nodes (site_number d.world first)) ≡ false → is_over_rvg (d.world.nodes l) ≡ false → Leads d (Settle first second) (Refused why) old new)
-      two (λ end here there off off_too. settle_ended d first second old new why end here there off off_too))
+      subst (λ (k : ℕ). EndedFor k j d (settling d.world k j) why old new → k < d.world.sites → j < d.world.sites → Leads d (Settle first second) (Refused why) old new) one
+      (subst (λ (l : ℕ). EndedFor (site_number d.world first) l d (settling d.world (site_number d.world first) l) why old new → site_number d.world first < d.world.sites → l < d.world.sites → Leads d (Settle first second) (Refused why) old new) two
+      (λ end here there. settle_ended d first second old new why end here there))
 
   short_at : (d : Doubted) (old mid new : Yard R g) (first second : List ℕ) (i j : ℕ) → site_number d.world first ≡ i → site_number d.world second ≡ j → (x : Event) (rest : List Event) (m : Doubted)
-      → (CalmTold (IsTold new) d → settling d.world i j ≡ x ∷ rest) → SettleWorks (CalmTold (IsTold new) d) i j d (x ∷ []) m → RoseAll [] (count_of old) (count_of mid) → i < d.world.sites → j < d.world.sites → is_over_rvg (d.world.nodes i) ≡ false → is_over_rvg (d.world.nodes j) ≡ false
-      → ShortFor i j m rest mid new → StopsFor d (Settle first second) old new
+      → (CalmTold (IsTold new) d → settling d.world i j ≡ x ∷ rest) → SettleWorks (CalmTold (IsTold new) d) i j d (x ∷ []) m → RoseAll [] (count_of old) (count_of mid) → i < d.world.sites → j < d.world.sites → ShortFor i j m rest mid new → StopsFor d (Settle first second) old new
   short_at d old mid new first second i j one two x rest m =
       subst
-      (λ (k : ℕ). (CalmTold (IsTold new) d → settling d.world k j ≡ x ∷ rest) → SettleWorks (CalmTold (IsTold new) d) k j d (x ∷ []) m → RoseAll [] (count_of old) (count_of mid) → k < d.world.sites → j < d.world.sites → is_over_rvg (d.world.nodes k) ≡ false → is_over_rvg (d.world.nodes j) ≡ false
-      → ShortFor k j m rest mid new → StopsFor d (Settle first second) old new)
+      (λ (k : ℕ). (CalmTold (IsTold new) d → settling d.world k j ≡ x ∷ rest) → SettleWorks (CalmTold (IsTold new) d) k j d (x ∷ []) m → RoseAll [] (count_of old) (count_of mid) → k < d.world.sites → j < d.world.sites → ShortFor k j m rest mid new → StopsFor d (Settle first second) old new)
       one
       (subst
       (λ (l : ℕ). (CalmTold (IsTold new) d → settling d.world (site_number d.world first) l ≡ x ∷ rest) → SettleWorks (CalmTold (IsTold new) d) (site_number d.world first) l d (x ∷ []) m → RoseAll [] (count_of old) (count_of mid) → site_number d.world first < d.world.sites
-      → l < d.world.sites → is_over_rvg (d.world.nodes (site_number d.world first)) ≡ false → is_over_rvg (d.world.nodes l) ≡ false → ShortFor (site_number d.world first) l m rest mid new → StopsFor d (Settle first second) old new)
-      two (λ split works rose here there off off_too short. settle_short d first second old new x rest m mid split works rose here there off off_too short))
+      → l < d.world.sites → ShortFor (site_number d.world first) l m rest mid new → StopsFor d (Settle first second) old new)
+      two (λ split works rose here there short. settle_short d first second old new x rest m mid split works rose here there short))
 
   module _ (d : Doubted) (old mid new : Yard R g) (first second : List ℕ) (a b before head : ℕ) (serves : SettlesFor first second a b d old) (one : OnFor first second a b d (ConnectAt a b ∷ []) old mid)
       (sent : before ≡ length d.world.packets) (durable : head ≡ (d.world.nodes a).safe) where
@@ -155,7 +142,7 @@ module _ {R : Type 0} {g : Ghosts R} where
     line_ended why end =
         let all = went_as first second a b d ((ConnectAt a b ∷ []) ++ settled_on a b before head one.next.world) (settling d.world a b) old new (Ended why) (λ tells. all_is tells end.told)
         (went_then first second a b d (ConnectAt a b ∷ []) (settled_on a b before head one.next.world) old mid new (Ended why) (refl, tt) one end) in
-        end_at d old new first second a b serves.from serves.to why all serves.may.can.first serves.may.can.second serves.raw serves.raw_too
+        end_at d old new first second a b serves.from serves.to why all serves.may.can.first serves.may.can.second
 
     -- memory ran out
     pub line_short : ShortFor a b one.next (settled_on a b before head one.next.world) mid new → StopsFor d (Settle first second) old new
@@ -163,7 +150,7 @@ module _ {R : Type 0} {g : Ghosts R} where
         let w = one.works in
         let works : SettleWorks (CalmTold (IsTold new) d) a b d (ConnectAt a b ∷ []) one.next
         = record { exact = λ tells. w.exact (short.told tells.0, tells.1); moves = w.moves } in
-        short_at d old mid new first second a b serves.from serves.to (ConnectAt a b) (settled_on a b before head one.next.world) one.next (λ tells. sym (all_is tells short.told)) works one.rose serves.may.can.first serves.may.can.second serves.raw serves.raw_too short
+        short_at d old mid new first second a b serves.from serves.to (ConnectAt a b) (settled_on a b before head one.next.world) one.next (λ tells. sym (all_is tells short.told)) works one.rose serves.may.can.first serves.may.can.second short
 
     -- what is done may count as memory that ran out
     pub on_short : OnFor first second a b one.next (settled_on a b before head one.next.world) mid new → ShortFor a b one.next (settled_on a b before head one.next.world) mid new

@@ -16,7 +16,7 @@ use Rattle.vx_script.specs.declared.line.ScriptLine.{ScriptLine}
 use Rattle.vx_world.proofs.Doubting.{like_good, runs_good}
 use Rattle.vx_settling.proofs.Burning.{like_burnt}
 use Rattle.vx_settling.proofs.Moving.{still_may}
-use Rattle.vx_settling.proofs.Named.{moved_names, moved_over}
+use Rattle.vx_settling.proofs.Named.{moved_names}
 use Rattle.vx_settling.proofs.Working.{short_none}
 use Rattle.vx_settling.specs.Burnt.{EndTo, GoesTo, NotedAs, OnTo, noted_as}
 use Rattle.vx_settling.specs.Works.{CalmTold}
@@ -89,8 +89,6 @@ module _ {R : Type 0} {g : Ghosts R} where
             serves = record {
               noted = noted_for a b on.next leads.next new on.noted leads.stands (leads.carries serves.noted.carries);
               may = still_may a b d on.next moves serves.may;
-              raw = moved_over a b d on.next a moves ∙ serves.raw;
-              raw_too = moved_over a b d on.next b moves ∙ serves.raw_too;
               good = λ tells calm.
                   let was : d.strayed ≡ false = sym moves.strayed ∙ calm in
                   runs_good events d on.next (serves.good (told tells) was) (on.works.exact (tells, was));

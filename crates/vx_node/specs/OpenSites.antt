@@ -1,9 +1,9 @@
 -- The names in a line by which it is told whether it is open.
 use Rattle.std.specs.Prelude.{ℕ, List, Option, Some, None}
 use Rattle.vx_script.specs.declared.line.ScriptLine.{ScriptLine}
-use Rattle.vx_script.specs.declared.line.ScriptLine.TheVariants.{Apply, GroupDeport, GroupImport, Link, PlexAttach, PlexDetach, Pump, Put, Read, Set, Settle, Show, Volume, Write}
+use Rattle.vx_script.specs.declared.line.ScriptLine.TheVariants.{Apply, GroupDeport, GroupImport, Link, PlexAttach, PlexDetach, Put, Volume, Write}
 
--- a site: where a replicated volume group is over its group, the line is open, or works on blocks
+-- a site: where a replicated volume group is over its group, the line is open, or writes blocks
 abbrev pub open_site : ScriptLine → Option (List ℕ)
 open_site (GroupDeport site) = Some site
 open_site (GroupImport site) = Some site
@@ -12,25 +12,17 @@ open_site (PlexDetach site volume plex) = Some site
 open_site (PlexAttach site volume plex) = Some site
 open_site (Write site volume start count fill) = Some site
 open_site (Put site volume start bytes) = Some site
-open_site (Read site volume start count) = Some site
-open_site (Show site volume start count) = Some site
 open_site (Apply site to) = Some site
 open_site (Link p s sync prot) = Some p
-open_site (Set p s sync prot) = Some p
-open_site (Pump p s) = Some p
-open_site (Settle p s) = Some p
 open_site other = None
 
 -- another one at which it is
 abbrev pub open_second : ScriptLine → Option (List ℕ)
 open_second (Link p s sync prot) = Some s
-open_second (Settle p s) = Some s
 open_second other = None
 
--- the volume whose blocks it writes or reads
+-- the volume whose blocks it writes
 abbrev pub block_volume : ScriptLine → Option (List ℕ)
 block_volume (Write site volume start count fill) = Some volume
 block_volume (Put site volume start bytes) = Some volume
-block_volume (Read site volume start count) = Some volume
-block_volume (Show site volume start count) = Some volume
 block_volume other = None

@@ -10,7 +10,6 @@ use Rattle.vx_history.specs.declared.event.Event.{Event}
 use Rattle.vx_disk.specs.declared.shelf.Shelf.{Ghosts}
 use Rattle.vx_events.specs.Facts.{site_number}
 use Rattle.vx_events.specs.Fails.{Fails}
-use Rattle.vx_events.specs.RvgViews.{is_over_rvg}
 use Rattle.vx_events.specs.declared.said.Said.{Said}
 use Rattle.vx_events.specs.declared.said.Said.TheVariants.{Done, Refused, Settled}
 use Rattle.vx_settling.specs.Between.{MayMove}
@@ -62,8 +61,6 @@ module _ {R : Type 0} {g : Ghosts R} where
   pub record SettlesFor (first second : List ℕ) (a b : ℕ) (d : Doubted) (y : Yard R g) : Type 0 where
     pub noted : NotedFor a b d y
     pub may : MayMove a b d.world
-    pub raw : is_over_rvg (d.world.nodes a) ≡ false
-    pub raw_too : is_over_rvg (d.world.nodes b) ≡ false
     pub good : GoodFor d y
     pub from : site_number d.world first ≡ a
     pub to : site_number d.world second ≡ b

@@ -1,11 +1,8 @@
 // Whether a run ends at a line: no test refuses it, and it is open.
-ghost use Rattle.std.specs.Prelude.{◌≡◌, ℕ, Some, false, true};
+ghost use Rattle.std.specs.Prelude.{◌≡◌, Some, false, true};
 ghost use Rattle.vx_history.specs.Doubts.{Doubted};
-ghost use Rattle.vx_history.specs.Events.{packet_at};
 ghost use Rattle.vx_events.specs.OpenLines.{EndsRun, is_open};
-ghost use Rattle.vx_events.specs.RvgLinks.{rvg_target};
 ghost use Rattle.vx_events.specs.RvgSteps.{over_rvg_at};
-ghost use Rattle.vx_script.specs.declared.line.ScriptLine.TheVariants.{Deliver};
 ghost use Rattle.vx_yard.specs.Carries.{Carries};
 ghost use Rattle.vx_yard.specs.Standing.{StandsFor};
 ghost use Rattle.vx_yard.specs.Working.{IsFree};
@@ -13,14 +10,13 @@ ghost use Rattle.vx_yard.specs.Yards.{IsYardKept, in_files};
 ghost use Rattle.vx_node.specs.OpenSites.{block_volume, open_second, open_site};
 
 use crate::answering::refusal;
-use vx_courier::part_at;
 use vx_disk::Rack;
-use vx_group_lines::{has_rvg, has_rvg_in, is_plain};
+use vx_group_lines::{has_rvg, is_plain};
 use vx_model::Name;
 use vx_script::ScriptLine;
 use vx_yard::Yard;
 
-// A site at which a line is open, or works on blocks, where a replicated volume group is over its group.
+// A site at which a line is open, or writes blocks, where a replicated volume group is over its group.
 fn open_site(line: &ScriptLine) -> Option<Name>
     ensures { result ≡ open_site line.now }
 {
@@ -32,13 +28,8 @@ fn open_site(line: &ScriptLine) -> Option<Name>
         | ScriptLine::PlexAttach { site, .. }
         | ScriptLine::Write { site, .. }
         | ScriptLine::Put { site, .. }
-        | ScriptLine::Read { site, .. }
-        | ScriptLine::Show { site, .. }
         | ScriptLine::Apply { site, .. } => Some(*site),
-        ScriptLine::Link { primary, .. }
-        | ScriptLine::Set { primary, .. }
-        | ScriptLine::Pump { primary, .. }
-        | ScriptLine::Settle { primary, .. } => Some(*primary),
+        ScriptLine::Link { primary, .. } => Some(*primary),
         _ => None,
     }
 }
@@ -48,39 +39,19 @@ fn open_second(line: &ScriptLine) -> Option<Name>
     ensures { result ≡ open_second line.now }
 {
     match line {
-        ScriptLine::Link { secondary, .. } | ScriptLine::Settle { secondary, .. } => {
-            Some(*secondary)
-        }
+        ScriptLine::Link { secondary, .. } => Some(*secondary),
         _ => None,
     }
 }
 
-// The volume whose blocks it writes or reads.
+// The volume whose blocks it writes.
 fn block_volume(line: &ScriptLine) -> Option<Name>
     ensures { result ≡ block_volume line.now }
 {
     match line {
-        ScriptLine::Write { volume, .. }
-        | ScriptLine::Put { volume, .. }
-        | ScriptLine::Read { volume, .. }
-        | ScriptLine::Show { volume, .. } => Some(*volume),
+        ScriptLine::Write { volume, .. } | ScriptLine::Put { volume, .. } => Some(*volume),
         _ => None,
     }
-}
-
-// Whether a packet goes to a site with a replicated volume group over its group.
-fn goes_above<R: Rack>(yard: &Yard<R>, number: u64) -> bool
-    requires free { IsFree yard.now (Deliver number) }
-    ensures { (d : Doubted) → StandsFor d yard.now → Carries d yard.now → result ≡ rvg_target d.world (packet_at d.world.packets number) }
-{
-    let Some(part) = part_at(&yard.flight, number) else {
-        return false;
-    };
-    let site = part.target as usize;
-    if site >= yard.facts.len() {
-        return false;
-    }
-    has_rvg_in(yard, site)
 }
 
 // A line at a site that has one.
@@ -123,28 +94,15 @@ fn is_open_from<R: Rack>(yard: &Yard<R>, line: &ScriptLine, site: &Name) -> bool
     }
 }
 
-// One that hands no packet over.
+// Any that no test refuses.
 fn is_open_at<R: Rack>(yard: &Yard<R>, line: &ScriptLine) -> bool
     requires kept { IsYardKept yard.now }
     requires free { IsFree yard.now line.now }
-    requires sites { (number : ℕ) → line.now ≡ Deliver number → ⊥ }
     ensures { (d : Doubted) → StandsFor d yard.now → result ≡ is_open d.world line.now }
 {
     match open_site(line) {
         Some(site) => is_open_from(yard, line, &site),
         None => false,
-    }
-}
-
-// Any that no test refuses.
-fn is_open_line<R: Rack>(yard: &Yard<R>, line: &ScriptLine) -> bool
-    requires kept { IsYardKept yard.now }
-    requires free { IsFree yard.now line.now }
-    ensures { (d : Doubted) → StandsFor d yard.now → Carries d yard.now → result ≡ is_open d.world line.now }
-{
-    match line {
-        ScriptLine::Deliver { packet } => goes_above(yard, *packet),
-        _ => is_open_at(yard, line),
     }
 }
 
@@ -156,6 +114,6 @@ pub(crate) fn ends_run<R: Rack>(yard: &Yard<R>, line: &ScriptLine) -> bool
 {
     match refusal(yard, line) {
         Some(_) => false,
-        None => is_open_line(yard, line),
+        None => is_open_at(yard, line),
     }
 }

@@ -1,9 +1,8 @@
 // The line that settles a link.
-ghost use Rattle.std.specs.Prelude.{◌≡◌, ◌≤◌, ℕ, IfOk, IfSome, List, Some, false, length, true};
+ghost use Rattle.std.specs.Prelude.{◌≡◌, ◌≤◌, ℕ, IfOk, IfSome, List, Some, length, true};
 ghost use Rattle.vx_history.specs.Doubts.{Doubted};
 ghost use Rattle.vx_script.specs.declared.line.ScriptLine.TheVariants.{Settle};
 ghost use Rattle.vx_events.specs.Facts.{seat_of};
-ghost use Rattle.vx_events.specs.RvgLinks.{links_rvg};
 ghost use Rattle.vx_yard.specs.Carries.{Carries};
 ghost use Rattle.vx_yard.specs.BothSites.{BothSites, SettleBurns};
 ghost use Rattle.vx_yard.specs.OfSites.{AllSameFailing, HasCalled};
@@ -137,9 +136,9 @@ pub(crate) fn settle_line<R: Rack>(
 ) -> Result<Said, OutOfMemory>
     requires kept { IsYardKept yard.old }
     requires free { IsFree yard.old (Settle first.now second.now) }
-    ensures leads { (d : Doubted) → StandsFor d yard.old → links_rvg d.world (Settle first.now second.now) ≡ false → Carries d yard.old → GoodFor d yard.old → LeadsOrStops d (Settle first.now second.now) yard.old yard.new result }
-    ensures asked { (d : Doubted) → StandsFor d yard.old → links_rvg d.world (Settle first.now second.now) ≡ false → Carries d yard.old → GoodFor d yard.old → AllSameFailing yard.old yard.new }
-    ensures called { (d : Doubted) → StandsFor d yard.old → links_rvg d.world (Settle first.now second.now) ≡ false → Carries d yard.old → GoodFor d yard.old → IfOk result (λ said. HasCalled d.world (Settle first.now second.now) said yard.old yard.new) }
+    ensures leads { (d : Doubted) → StandsFor d yard.old → Carries d yard.old → GoodFor d yard.old → LeadsOrStops d (Settle first.now second.now) yard.old yard.new result }
+    ensures asked { (d : Doubted) → StandsFor d yard.old → Carries d yard.old → GoodFor d yard.old → AllSameFailing yard.old yard.new }
+    ensures called { (d : Doubted) → StandsFor d yard.old → Carries d yard.old → GoodFor d yard.old → IfOk result (λ said. HasCalled d.world (Settle first.now second.now) said yard.old yard.new) }
     ensures told { IsTold yard.new → IsTold yard.old }
     ensures files { in_files yard.new ≡ in_files yard.old }
 {

@@ -23,6 +23,17 @@ fn lines_are_refused_at_such_a_site(rt: HostRuntime) -> Result<(), Fail> {
     Ok(())
 }
 
+// It has no link, whatever other sites there are.
+#[test]
+fn lines_on_links_are_refused_at_such_a_site(rt: HostRuntime) -> Result<(), Fail> {
+    let script =
+        b"site a 2 1024\ndg a init\nvol a log1 64 mirrors=2 layout=concat log=none fmr=off rdpol=round\nvol a maps 8 mirrors=2 layout=concat log=none fmr=off rdpol=round\nvol a v 256 mirrors=2 layout=concat log=none fmr=off rdpol=round\nrvg a srl=log1 dcm=maps vols=v\nsite b 3 256\nraw b\nset a b synchronous=off srlprot=fail\npump a b\nsettle a b\nset b a synchronous=off srlprot=fail\npump b a\nsettle b a\nwrite a v 0 1 11\nread a v 0 1\n";
+    let wanted =
+        "done\ndone\ndone\ndone\ndone\ndone\ndone\ndone\nno 1 unknown b\nno 1 unknown b\nno 1 unknown b\nno 1 unknown a\nno 1 unknown a\nno 1 unknown a\ndone 1\n11\n";
+    assert!(rt; is_done(&rt, rt.alloc(), script, wanted)?);
+    Ok(())
+}
+
 // Where no disk works, no group is made, and the site goes on as it was.
 #[test]
 fn a_line_without_disks_leaves_the_volumes(rt: HostRuntime) -> Result<(), Fail> {

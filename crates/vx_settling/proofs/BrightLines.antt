@@ -7,8 +7,9 @@ use Rattle.vx_history.specs.Groups.{GroupNode}
 use Rattle.vx_history.specs.World.{Node, World}
 use Rattle.vx_history.specs.declared.event.Event.{Event}
 use Rattle.vx_history.specs.declared.event.Event.TheVariants.{Crash as CrashAt, Recover as RecoverAt}
+use Rattle.vx_history.specs.Steps.{worked, worked_on}
 use Rattle.vx_script.specs.declared.line.ScriptLine.{ScriptLine}
-use Rattle.vx_script.specs.declared.line.ScriptLine.TheVariants.{GroupImport, Recover, Rvg}
+use Rattle.vx_script.specs.declared.line.ScriptLine.TheVariants.{GroupImport, Read, Recover, Rvg, Show}
 use Rattle.vx_events.proofs.KnownLaws.{group_known, left_note}
 use Rattle.vx_events.proofs.RvgEnding.{never_found}
 use Rattle.vx_events.proofs.RvgFull.{brings_found}
@@ -29,7 +30,9 @@ use Rattle.vx_events.specs.Brights.{AllBright, IsBright, IsBrightNote}
 use Rattle.vx_events.specs.RvgMakes.{IsLeftRvg, MakesRvg, RvgCut, RvgDone, RvgFails, RvgLacks, noting_in, units_at}
 use Rattle.vx_events.specs.RvgNotes.{volume_events}
 use Rattle.vx_events.specs.OpenLines.{is_open}
-use Rattle.vx_events.specs.RvgOver.{EndsOver, OverRvg, noting_over, fuse_behind}
+use Rattle.vx_order.specs.Calls.{is_data}
+use Rattle.vx_events.proofs.ReadsLeave.{read_by}
+use Rattle.vx_events.specs.RvgOver.{EndsOver, OverRvg, kind_named, noting_over, fuse_behind}
 use Rattle.vx_events.specs.RvgSteps.{AsBefore, FoundOne, FullBy, StepFull, WorksAbove, WorksBeside, WorksFull, is_for_rvg, rvg_place}
 use Rattle.vx_events.specs.StepsOver.{WorksOver, group_place, is_for_group, refused_over}
 use Rattle.vx_events.specs.declared.said.Said.{Said}
@@ -128,10 +131,17 @@ module _ (told : Type 0) (tells : told) (d : Doubted) (b : AllBright d) (fails :
       over_group : (middle : Doubted) (s : ℕ) (next : GroupNode) → IsAs middle (noting_over line d.world middle.world s next) new → (new.world.nodes s).group ≡ Some next
       over_group middle s next left = ap (λ (w : World). (w.nodes s).group) left.world ∙ noted_over_here line d.world middle.world s next
 
+  beside_bright : (s : ℕ) → IsAs d (worked_on d.world s) new → AllBright new
+  beside_bright s left = as_bright d (worked_on d.world s) new left (node_bright d.world s (worked (d.world.nodes s)) (b.sites s) b.sites) b
+
   place_or : (line : ScriptLine) (s : ℕ) → (IsHeldDown line said → ⊥) → (BringsUp line → (note_at (d.world.nodes s)).loose ≡ false)
       → IsBright (new.world.nodes s) → OverRvg told d line s fails said new → AllBright new
   place_or (Recover site) s held agree here (inl back) = rises_bright (Recover site) s held here back
   place_or (Recover site) s held agree here (inr finds) = absurd (never_found told tells d s (b.sites s) fails said new (Recover site) (agree tt) finds)
+  place_or (Read site volume start count) s held agree here ends =
+      read_by told d (Read site volume start count) volume start count s fails said new (AllBright new) (λ it. line_bright (Read site volume start count) s here it) (λ left. beside_bright s left) (is_data (kind_named (d.world.nodes s) volume)) ends
+  place_or (Show site volume start count) s held agree here ends =
+      read_by told d (Show site volume start count) volume start count s fails said new (AllBright new) (λ it. line_bright (Show site volume start count) s here it) (λ left. beside_bright s left) (is_data (kind_named (d.world.nodes s) volume)) ends
   place_or other s held agree here ends = line_bright other s here ends
 
   over_rvg_bright : (line : ScriptLine) (s : ℕ) → (IsHeldDown line said → ⊥) → (BringsUp line → (note_at (d.world.nodes s)).loose ≡ false)

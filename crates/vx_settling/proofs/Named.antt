@@ -12,7 +12,6 @@ use Rattle.vx_history.specs.World.{Node, Packet, World}
 use Rattle.vx_order.specs.declared.facts.SiteFacts.{SiteFacts}
 use Rattle.vx_events.specs.Facts.{site_fact, site_number, values_from}
 use Rattle.vx_events.specs.LinkFinds.{MovesBetween}
-use Rattle.vx_events.specs.RvgViews.{is_over_rvg}
 use Rattle.vx_settling.specs.Between.{IsSent, is_update}
 
 -- ---- names
@@ -57,14 +56,6 @@ moved_names p s d e name m = names_stay d.world e.world name m.sites (λ i. by_s
     by_site : (i : ℕ) (b : Bool) → eqb i s ≡ b → (e.world.nodes i).name ≡ (d.world.nodes i).name
     by_site i true here = subst (λ (j : ℕ). (e.world.nodes j).name ≡ (d.world.nodes j).name) (sym (eqb_equal i s here)) (ap (λ (n : Node). n.name) m.takes.rest)
     by_site i false there = ap (λ (n : Node). n.name) (m.nodes i (eqb_apart i s there))
-
--- which sites have a replicated volume group over their group
-pub moved_over : (p s : ℕ) (d e : Doubted) (i : ℕ) → MovesBetween p s d e → is_over_rvg (e.world.nodes i) ≡ is_over_rvg (d.world.nodes i)
-moved_over p s d e i m = by_site (eqb i s) refl
-  where
-    by_site : (b : Bool) → eqb i s ≡ b → is_over_rvg (e.world.nodes i) ≡ is_over_rvg (d.world.nodes i)
-    by_site true here = subst (λ (j : ℕ). is_over_rvg (e.world.nodes j) ≡ is_over_rvg (d.world.nodes j)) (sym (eqb_equal i s here)) (ap (λ (n : Node). is_over_rvg n) m.takes.rest)
-    by_site false there = ap (λ (n : Node). is_over_rvg n) (m.nodes i (eqb_apart i s there))
 
 -- ---- packets
 

@@ -7,7 +7,7 @@ use Rattle.vx_history.specs.Doubts.{Doubted, crashed_as, halved}
 use Rattle.vx_history.specs.Events.{with_write}
 use Rattle.vx_history.specs.Good.{IsMade}
 use Rattle.vx_history.specs.Groups.{GroupNode}
-use Rattle.vx_history.specs.Steps.{group_set}
+use Rattle.vx_history.specs.Steps.{group_set, worked, worked_on}
 use Rattle.vx_history.specs.World.{Link as LinkRecord, Node, World, no_link}
 use Rattle.vx_history.specs.declared.event.Event.{Event}
 use Rattle.vx_history.specs.declared.event.Event.TheVariants.{Crash as CrashAt, Deliver as DeliverAt, Fault, Pump as PumpAt, Recover as RecoverAt}
@@ -32,7 +32,9 @@ use Rattle.vx_events.specs.RvgBack.{FindsNoRvg, FindsPlain, FindsRvg, GroupHeld,
 use Rattle.vx_events.specs.RvgMakes.{IsLeftRvg, MakesRvg, RvgCut, RvgDone, RvgFails, RvgLacks, noting_in, units_at}
 use Rattle.vx_events.specs.RvgNotes.{volume_events}
 use Rattle.vx_events.specs.OpenLines.{is_open}
-use Rattle.vx_events.specs.RvgOver.{EndsOver, OverRvg, noting_over, fuse_behind}
+use Rattle.vx_order.specs.Calls.{is_data}
+use Rattle.vx_events.proofs.ReadsLeave.{read_by}
+use Rattle.vx_events.specs.RvgOver.{EndsOver, OverRvg, kind_named, noting_over, fuse_behind}
 use Rattle.vx_events.specs.RvgSteps.{AsBefore, FoundOne, FullBy, StepFull, WorksAbove, WorksBeside, WorksFull, is_for_rvg, rvg_place}
 use Rattle.vx_events.specs.StepsOver.{WorksOver, group_place, is_for_group, refused_over}
 use Rattle.vx_events.specs.Strays.{gone_astray}
@@ -327,9 +329,16 @@ module _ (i : ℕ) (o : Option GroupNode) where
           OtherNotes.as_notes i o h.middle (noting_over line d.world u s h.next) new h.left
           (OtherNotes.apart_notes i o u s (record (u.nodes s) { group = Some h.next; fuse = fuse_behind line (d.world.nodes s).fuse (u.nodes s).fuse }) apart middle.note) middle
 
+      read_notes : (s : ℕ) → eqb i s ≡ false → IsAs d (worked_on d.world s) new → HasNote i o new
+      read_notes s apart left = OtherNotes.as_notes i o d (worked_on d.world s) new left (OtherNotes.apart_notes i o d.world s (worked (d.world.nodes s)) apart x.has.note) x.has
+
       place_or : (line : ScriptLine) (s : ℕ) → may_note d.world line i ≡ false → eqb i s ≡ false → OverRvg told d line s fails said new → HasNote i o new
       place_or (Recover site) s off apart (inl back) = rises_notes (Recover site) s apart back
       place_or (Recover site) s off apart (inr finds) = finds_notes (Recover site) s apart finds
+      place_or (Read site volume start count) s off apart ends =
+          read_by told d (Read site volume start count) volume start count s fails said new (HasNote i o new) (λ it. line_notes (Read site volume start count) s off apart it) (λ left. read_notes s apart left) (is_data (kind_named (d.world.nodes s) volume)) ends
+      place_or (Show site volume start count) s off apart ends =
+          read_by told d (Show site volume start count) volume start count s fails said new (HasNote i o new) (λ it. line_notes (Show site volume start count) s off apart it) (λ left. read_notes s apart left) (is_data (kind_named (d.world.nodes s) volume)) ends
       place_or other s off apart ends = line_notes other s off apart ends
 
       -- ---- a line that makes one

@@ -91,13 +91,13 @@ read_so : (told : Type 0) (d : Doubted) (line : ScriptLine) (name volume : List 
     → kind_named (d.world.nodes s) volume ≡ Data → ReadSo told d s v start count line
 read_so told d line name volume start count s v (inl is) number place kind =
     subst (λ (l : ScriptLine). ReadSo told d s v start count l) (sym is) (record {
-      over = line_read told d name volume s number start count;
+      over = line_read told d name volume s number start count kind;
       events = λ c. read_events d.world name volume start count s v number place;
       notes = λ u. refl;
     })
 read_so told d line name volume start count s v (inr is) number place kind =
     subst (λ (l : ScriptLine). ReadSo told d s v start count l) (sym is) (record {
-      over = line_show told d name volume s number start count;
+      over = line_show told d name volume s number start count kind;
       events = λ c. read_events d.world name volume start count s v number place;
       notes = λ u. refl;
     })

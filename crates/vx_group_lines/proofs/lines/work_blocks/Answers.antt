@@ -6,7 +6,7 @@ use Rattle.vx_yard.specs.OfSites.{AsAsked, HasCalled}
 use Rattle.vx_yard.specs.Working.{IsFree}
 use Rattle.vx_group_lines.specs.Plain.IsReadOf.{ByRead, ByShow}
 use Rattle.vx_group_lines.proofs.WorkLines.{memory_short, ok_any, rest_none}
-use Rattle.vx_group_lines.proofs.Worked.{WorksAlone, goes_alone, works_closed}
+use Rattle.vx_group_lines.proofs.Worked.{goes_alone, works_closed, works_read}
 use Rattle.vx_group_lines.proofs.lines.work_blocks.Goals as goal
 
 pub write_line-requires-clause-free : goal.write_line-requires-clause-free
@@ -46,8 +46,9 @@ read_line-requires-clause-free g c = λ κs lives. (c.args.words.now, ByRead c.i
 
 pub returns-in-Read-clause-leads : goal.returns-in-Read-clause-leads
 returns-in-Read-clause-leads g c = λ d stands goes closed.
-    works_closed d c.args.yard.now c.read_line.new.yard c.args.words.now c.args.words.now c.read_line.result refl (subst (λ line. WorksAlone line) (sym c.in-Read.is) tt) stands c.requires.kept c.requires.free goes closed
+    works_read d c.args.yard.now c.read_line.new.yard c.args.words.now _ _ _ _ c.read_line.result (ByRead c.in-Read.is) goes
     (λ group. c.read_line.ensures.leads d c.args.words.now stands (ByRead c.in-Read.is) c.requires.free group)
+    (λ over plain. c.read_line.ensures.above d c.args.words.now stands (ByRead c.in-Read.is) c.requires.free over plain)
 
 pub returns-in-Read-clause-asked : goal.returns-in-Read-clause-asked
 returns-in-Read-clause-asked g c = λ d stands goes off.
@@ -64,8 +65,9 @@ read_line-requires-in-Show-clause-free g c = λ κs lives. (c.args.words.now, By
 
 pub returns-in-Show-clause-leads : goal.returns-in-Show-clause-leads
 returns-in-Show-clause-leads g c = λ d stands goes closed.
-    works_closed d c.args.yard.now c.read_line-in-Show.new.yard c.args.words.now c.args.words.now c.read_line-in-Show.result refl (subst (λ line. WorksAlone line) (sym c.in-Show.is) tt) stands c.requires.kept c.requires.free goes closed
+    works_read d c.args.yard.now c.read_line-in-Show.new.yard c.args.words.now _ _ _ _ c.read_line-in-Show.result (ByShow c.in-Show.is) goes
     (λ group. c.read_line-in-Show.ensures.leads d c.args.words.now stands (ByShow c.in-Show.is) c.requires.free group)
+    (λ over plain. c.read_line-in-Show.ensures.above d c.args.words.now stands (ByShow c.in-Show.is) c.requires.free over plain)
 
 pub returns-in-Show-clause-asked : goal.returns-in-Show-clause-asked
 returns-in-Show-clause-asked g c = λ d stands goes off.

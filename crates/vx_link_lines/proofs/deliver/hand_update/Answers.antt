@@ -10,21 +10,21 @@ use Rattle.vx_events.proofs.Places.{some_same}
 use Rattle.vx_script.specs.declared.line.ScriptLine.TheVariants.{Deliver}
 use Rattle.vx_diskset.specs.Holds.{beside_of}
 use Rattle.vx_diskset.specs.Stands.{RoleIs, SiteStands}
-use Rattle.vx_joins.proofs.TakesUpdate.{alone_same, later_same}
+use Rattle.vx_joins.proofs.TakesUpdate.{alone_same}
 use Rattle.vx_joins.proofs.UpdatesFit.{are_one, update_fits}
 use Rattle.vx_joins.specs.Deliveries.{DeliveredTo, TookTo}
 use Rattle.vx_world.proofs.Doubting.{world_good}
 use Rattle.vx_link_lines.proofs.Behind.{behind_ignored, behind_short, behind_taken}
-use Rattle.vx_yard.proofs.OverGroup.{receives_apart}
+use Rattle.vx_yard.proofs.OverGroup.{raw_set, receives_apart}
 use Rattle.vx_yard.proofs.ChangeSite.{told_before}
-use Rattle.vx_link_lines.proofs.Deaf.{deaf_leads, fact_at, last_received, none_start, took_ignored}
+use Rattle.vx_link_lines.proofs.Deaf.{fact_at, ignored_by, last_received, none_start, took_ignored}
+use Rattle.vx_link_lines.proofs.HeardLine.{unheard_stays}
+use Rattle.vx_link_lines.proofs.OverGroups.{second_raw}
 use Rattle.vx_yard.proofs.Leads.{room_receives}
 use Rattle.vx_yard.proofs.FailsStay.{alone_keeps}
 use Rattle.vx_events.specs.declared.said.Said.TheVariants.{Ignored, Refused, Taken}
-use Rattle.vx_events.specs.RvgViews.{is_over_rvg}
 use Rattle.vx_yard.specs.OfSites.{TouchesNone}
 use Rattle.vx_link_lines.proofs.DeliverCalls.{no_answer, waits_alone}
-use Rattle.vx_link_lines.proofs.RawParts.{raw_there}
 use Rattle.vx_yard.proofs.OfSites.{all_of_site, all_still, site_still}
 use Rattle.vx_yard.proofs.Lists.{get-set_same, get_at, length-set, set_same}
 use Rattle.vx_link_lines.proofs.deliver.hand_update.Goals as goal
@@ -33,16 +33,14 @@ pub overflow_cast-target : goal.overflow_cast-target
 overflow_cast-target g c = omega (arith, c.requires.few)
 
 pub returns-then-not-receives-clause-leads : goal.returns-then-not-receives-clause-leads
-returns-then-not-receives-clause-leads g c = λ d p k x stands off carries good at to below message.
+returns-then-not-receives-clause-leads g c = λ d p k x stands carries good at to below message.
     let old = c.args.yard.now in
     let t = c.args.target in
     let e = c.index.result.now in
     let there = get_at old.disk_sets.items t e c.requires.disk_set c.index.ensures in
-    let place = subst (λ (i : ℕ). slice_get old.disk_sets.items i ≡ Some e) (sym to) there in
-    deaf_leads d c.args.number p k x at message old old e e c.receives.result stands (subst (λ (i : ℕ). i < d.world.sites) (sym to) below)
-    (record { there = place; later = later_same e; disk_sets = sym (set_same old.disk_sets.items p.target e place); racks = refl }) (alone_same e) c.receives.ensures c.if-not-receives.true
-    (subst (λ (i : ℕ). RoleIs (d.world.nodes i) e) (sym to) (stands.roles.each t e below there)) (subst (λ (i : ℕ). is_over_rvg (d.world.nodes i) ≡ false) (sym to) off) (subst (λ (i : ℕ). SiteStands (beside_of d i) (d.world.nodes i) e) (sym to) (stands.disk_sets.sites t e below there)) refl
-    (record { flight = refl; assemblies = refl; feeders = refl }) (λ tells. tells)
+    let is = ignored_by d c.args.number p k x at message (beside_of d p.target) e c.receives.result c.receives.ensures c.if-not-receives.true
+    (subst (λ (i : ℕ). RoleIs (d.world.nodes i) e) (sym to) (stands.roles.each t e below there)) (subst (λ (i : ℕ). SiteStands (beside_of d i) (d.world.nodes i) e) (sym to) (stands.disk_sets.sites t e below there)) in
+    unheard_stays d c.args.number p old e at stands (subst (λ (i : ℕ). i < d.world.sites) (sym to) below) (subst (λ (i : ℕ). slice_get old.disk_sets.items i ≡ Some e) (sym to) there) is
 
 pub returns-in_err-said-clause-told : goal.returns-in_err-said-clause-told
 returns-in_err-said-clause-told g c =
@@ -55,12 +53,16 @@ returns-in-Taken-clause-told g c =
     told_before es c.args.target c.index_mut.result.now c.deliver_update.new.disks (get_at es c.args.target c.index_mut.result.now c.requires.disk_set c.index_mut.ensures.value) c.deliver_update.ensures.later
 
 pub returns-in_err-said-clause-leads : goal.returns-in_err-said-clause-leads
-returns-in_err-said-clause-leads g c = λ d p k x stands off carries good at to below message.
+returns-in_err-said-clause-leads g c = λ d p k x stands carries good at to below message.
     let old = c.args.yard.now in
     let t = c.args.target in
     let before = c.index_mut.result.now in
     let after = c.deliver_update.new.disks in
     let there = get_at old.disk_sets.items t before c.requires.disk_set c.index_mut.ensures.value in
+    let same_before = some_same (sym (get_at old.disk_sets.items t c.index.result.now c.requires.disk_set c.index.ensures) ∙ there) in
+    let here = stands.disk_sets.sites t before below there in
+    let opens = room_receives (beside_of d t) (d.world.nodes t) c.index.result.now c.receives.result c.receives.ensures c.if-not-receives.false (subst (λ e. SiteStands (beside_of d t) (d.world.nodes t) e) (sym same_before) here) in
+    let off = second_raw (beside_of d t) (d.world.nodes t) before here opens.1 in
     let fed = get_at old.feeders.items t c.index_mut-2.result.now c.requires.feeder c.index_mut-2.ensures.value in
     let was = get_at old.assemblies.items t c.index_mut-3.result.now c.requires.place c.index_mut-3.ensures.value in
     behind_short d (Deliver c.args.number) old _ before after t c.from_residual.result _ (err_from_is_err_and c.from_residual.result c.from_residual.ensures.1).1 stands below
@@ -72,7 +74,7 @@ returns-in_err-said-clause-leads g c = λ d p k x stands off carries good at to 
     }) (told_before old.disk_sets.items t before after there c.deliver_update.ensures.later)
 
 pub returns-in-Taken-clause-leads : goal.returns-in-Taken-clause-leads
-returns-in-Taken-clause-leads g c = λ d p k x stands off carries good at to below message.
+returns-in-Taken-clause-leads g c = λ d p k x stands carries good at to below message.
     let old = c.args.yard.now in
     let t = c.args.target in
     let before = c.index_mut.result.now in
@@ -85,8 +87,9 @@ returns-in-Taken-clause-leads g c = λ d p k x stands off carries good at to bel
     let same_before = some_same (sym (get_at old.disk_sets.items t c.index.result.now c.requires.disk_set c.index.ensures) ∙ there) in
     let here = stands.disk_sets.sites t before below there in
     let role = stands.roles.each t before below there in
-    let raw = raw_there d old t before stands below there off in
     let opens = room_receives (beside_of d t) (d.world.nodes t) c.index.result.now c.receives.result c.receives.ensures c.if-not-receives.false (subst (λ e. SiteStands (beside_of d t) (d.world.nodes t) e) (sym same_before) here) in
+    let off = second_raw (beside_of d t) (d.world.nodes t) before here opens.1 in
+    let raw = raw_set (beside_of d t) (d.world.nodes t) before here off in
     let fed = carries.feeders t c.index_mut-2.result.now (get_at old.feeders.items t c.index_mut-2.result.now c.requires.feeder c.index_mut-2.ensures.value) opens.0 opens.1 in
     let told = told_before old.disk_sets.items t before after there c.deliver_update.ensures.later in
     let up = subst (λ (i : ℕ). (d.world.nodes i).state ≡ Up) (sym to) opens.0 in
@@ -125,7 +128,7 @@ returns-in_default g c = record {
     disk_sets = refl;
     did = waits_alone Ignored c.index_mut.result.now c.deliver_update.new.disks (λ why is. let said : Ignored ≡ Refused why = is in cc) c.deliver_update.ensures.still;
   };
-  leads = λ d p k x stands off carries good at to below message.
+  leads = λ d p k x stands carries good at to below message.
       let old = c.args.yard.now in
       let t = c.args.target in
       let before = c.index_mut.result.now in
@@ -138,8 +141,9 @@ returns-in_default g c = record {
       let same_before = some_same (sym (get_at old.disk_sets.items t c.index.result.now c.requires.disk_set c.index.ensures) ∙ there) in
       let here = stands.disk_sets.sites t before below there in
       let role = stands.roles.each t before below there in
-      let raw = raw_there d old t before stands below there off in
       let opens = room_receives (beside_of d t) (d.world.nodes t) c.index.result.now c.receives.result c.receives.ensures c.if-not-receives.false (subst (λ e. SiteStands (beside_of d t) (d.world.nodes t) e) (sym same_before) here) in
+      let off = second_raw (beside_of d t) (d.world.nodes t) before here opens.1 in
+      let raw = raw_set (beside_of d t) (d.world.nodes t) before here off in
       let fed = carries.feeders t c.index_mut-2.result.now (get_at old.feeders.items t c.index_mut-2.result.now c.requires.feeder c.index_mut-2.ensures.value) opens.0 opens.1 in
       let told = told_before old.disk_sets.items t before after there c.deliver_update.ensures.later in
       let up = subst (λ (i : ℕ). (d.world.nodes i).state ≡ Up) (sym to) opens.0 in

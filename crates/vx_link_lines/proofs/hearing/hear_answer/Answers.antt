@@ -1,5 +1,5 @@
 -- A greeting or an acknowledgement at its target, case by case.
-use Rattle.std.proofs.Common.{◌≡◌, ◌⊎◌, ◌∙◌, ◌<◌, ℕ, ap, false, sym, subst, refl}
+use Rattle.std.proofs.Common.{◌≡◌, ◌⊎◌, ◌∙◌, ◌<◌, ℕ, ap, sym, subst, refl}
 use Rattle.std.specs.Prelude.{Result, Some, Err, slice_get, slice_set}
 use Rattle.std.proofs.lemmas.List.{with_items_is}
 use Rattle.vx_model.specs.declared.errors.Stop.{Stop}
@@ -16,7 +16,6 @@ use Rattle.vx_diskset.specs.Burning.{NoMore}
 use Rattle.vx_diskset.specs.Holds.{beside_of}
 use Rattle.vx_diskset.specs.Stands.{SiteStands}
 use Rattle.vx_events.specs.LinkedFacts.{link_fact, needed_by}
-use Rattle.vx_events.specs.RvgViews.{is_over_rvg}
 use Rattle.vx_events.specs.declared.said.Said.TheVariants.{Done, Ignored}
 use Rattle.vx_joins.proofs.TakesUpdate.{alone_same}
 use Rattle.vx_joins.proofs.UpdatesFit.{are_one}
@@ -31,7 +30,7 @@ use Rattle.vx_yard.proofs.ChangeSite.{told_before}
 use Rattle.vx_link_lines.proofs.HeardLine.{deaf_to, heard_by, refused_by, stays_same, stop_is, stop_none, unheard_stays}
 use Rattle.vx_link_lines.proofs.DeliverCalls.{deaf_calls, deaf_head, heard_head, never_short, never_stopped, refused_head}
 use Rattle.vx_link_lines.proofs.HeardWorld.{answer_says, hears_as, listening, shown_by}
-use Rattle.vx_link_lines.proofs.OverGroups.{over_unlinked}
+use Rattle.vx_link_lines.proofs.OverGroups.{linked_off, over_unlinked}
 use Rattle.vx_link_lines.proofs.RawParts.{raw_there}
 use Rattle.vx_yard.proofs.LinkLines.{listed}
 use Rattle.vx_yard.proofs.Lists.{get_at, set_same}
@@ -41,7 +40,7 @@ use Rattle.vx_yard.proofs.OneSite.{role_kept}
 use Rattle.vx_link_lines.proofs.hearing.hear_answer.Goals as goal
 
 pub returns-in_default-clause-leads : goal.returns-in_default-clause-leads
-returns-in_default-clause-leads g c = λ d p stands off carries good at to from below answers.
+returns-in_default-clause-leads g c = λ d p stands carries good at to from below answers.
     let y = c.args.yard.now in
     let t = c.args.target in
     let e = get_there y.disk_sets.items t c.requires.disk_set in
@@ -49,8 +48,7 @@ returns-in_default-clause-leads g c = λ d p stands off carries good at to from 
     (λ small. c.in_default.ensures.deaf d.world p (event_for p.message) (c.deref.ensures.value ∙ stands.facts) refl to from below (subst (λ (i : ℕ). i < d.world.sites) from small)
     (λ over. over_unlinked d y c.args.target c.args.source (get_there y.disk_sets.items c.args.target c.requires.disk_set).0 stands below (get_there y.disk_sets.items c.args.target c.requires.disk_set).1 over) (listed d stands.links)
     (hears_as d c.args.number p at answers p.message answers)) in
-    unheard_stays d c.args.number p y e.0 at stands (subst (λ (i : ℕ). i < d.world.sites) (sym to) below) (subst (λ (i : ℕ). slice_get y.disk_sets.items i ≡ Some e.0) (sym to) e.1)
-    (subst (λ (i : ℕ). is_over_rvg (d.world.nodes i) ≡ false) (sym to) off) is
+    unheard_stays d c.args.number p y e.0 at stands (subst (λ (i : ℕ). i < d.world.sites) (sym to) below) (subst (λ (i : ℕ). slice_get y.disk_sets.items i ≡ Some e.0) (sym to) e.1) is
 
 pub returns-in_default-clause-told : goal.returns-in_default-clause-told
 returns-in_default-clause-told g c = λ told. told
@@ -59,7 +57,7 @@ pub returns-in_default-clause-asked : goal.returns-in_default-clause-asked
 returns-in_default-clause-asked g c = λ d stands below. all_still c.args.yard.now _ refl
 
 pub returns-in_default-state_here-clause-leads : goal.returns-in_default-state_here-clause-leads
-returns-in_default-state_here-clause-leads g c = λ d p stands off carries good at to from below answers. stays_same d c.args.yard.now stands
+returns-in_default-state_here-clause-leads g c = λ d p stands carries good at to from below answers. stays_same d c.args.yard.now stands
 
 pub returns-in_default-state_here-clause-asked : goal.returns-in_default-state_here-clause-asked
 returns-in_default-state_here-clause-asked g c = λ d stands below. all_still c.args.yard.now _ refl
@@ -68,7 +66,7 @@ pub returns-in_default-state_here-clause-told : goal.returns-in_default-state_he
 returns-in_default-state_here-clause-told g c = λ told. told
 
 pub returns-in_default-heard_needs-clause-leads : goal.returns-in_default-heard_needs-clause-leads
-returns-in_default-heard_needs-clause-leads g c = λ d p stands off carries good at to from below answers. stays_same d c.args.yard.now stands
+returns-in_default-heard_needs-clause-leads g c = λ d p stands carries good at to from below answers. stays_same d c.args.yard.now stands
 
 pub returns-in_default-heard_needs-clause-asked : goal.returns-in_default-heard_needs-clause-asked
 returns-in_default-heard_needs-clause-asked g c = λ d stands below. all_still c.args.yard.now _ refl
@@ -137,7 +135,7 @@ returns-in-None-clause-asked g c = λ d stands below.
     })
 
 pub returns-in-None-clause-leads : goal.returns-in-None-clause-leads
-returns-in-None-clause-leads g c = λ d p stands off carries good at to from below answers.
+returns-in-None-clause-leads g c = λ d p stands carries good at to from below answers.
     let old = c.args.yard.now in
     let t = c.args.target in
     let before = c.index_mut.result.now in
@@ -145,6 +143,8 @@ returns-in-None-clause-leads g c = λ d p stands off carries good at to from bel
     let there = get_at old.disk_sets.items t before c.requires.disk_set c.index_mut.ensures.value in
     let was = get_at old.assemblies.items t c.index_mut-2.result.now c.requires.place c.index_mut-2.ensures.value in
     let stop = stop_none c.in-Err.stop (sym c.refusal.ensures ∙ c.in-None.is) in
+    let hears : Hears d.world t p.source c.in-Some.l = subst (λ (i : ℕ). Hears d.world t i c.in-Some.l) (sym from) (c.in-Some.ensures.hears d.world c.in-Some.l (c.deref.ensures.value ∙ stands.facts) refl) in
+    let off = linked_off d old t p.source stands below (listening d t p.source c.in-Some.l stands.links hears).linked in
     let same : after ≡ before = c.in-Err.ensures.short (ap (λ (x : Stop). let r : Result EventSaid Stop = Err x in r) stop) in
     behind_short d (Deliver c.args.number) old _ before after t (Err (record {})) (record {}) refl stands below (record { there = there; later = c.hear-said.ensures.later; disk_sets = refl; racks = refl })
     (subst (λ e. LeavesAlone before e) (sym same) (alone_same before)) (role_kept d old t before after stands below there c.hear-said.ensures.role) off
@@ -156,7 +156,7 @@ returns-in-None-clause-leads g c = λ d p stands off carries good at to from bel
     }) (told_before old.disk_sets.items t before after there c.hear-said.ensures.later)
 
 pub returns-in-Some-refusal-clause-leads : goal.returns-in-Some-refusal-clause-leads
-returns-in-Some-refusal-clause-leads g c = λ d p stands off carries good at to from below answers.
+returns-in-Some-refusal-clause-leads g c = λ d p stands carries good at to from below answers.
     let old = c.args.yard.now in
     let t = c.args.target in
     let q = p.source in
@@ -165,10 +165,11 @@ returns-in-Some-refusal-clause-leads g c = λ d p stands off carries good at to 
     let no = c.in-Some-refusal.no in
     let there = get_at old.disk_sets.items t before c.requires.disk_set c.index_mut.ensures.value in
     let here = stands.disk_sets.sites t before below there in
-    let raw = raw_there d old t before stands below there off in
     let was = get_at old.assemblies.items t c.index_mut-2.result.now c.requires.place c.index_mut-2.ensures.value in
     let hears : Hears d.world t q c.in-Some.l = subst (λ (i : ℕ). Hears d.world t i c.in-Some.l) (sym from) (c.in-Some.ensures.hears d.world c.in-Some.l (c.deref.ensures.value ∙ stands.facts) refl) in
     let listens = listening d t q c.in-Some.l stands.links hears in
+    let off = linked_off d old t q stands below listens.linked in
+    let raw = raw_there d old t before stands below there off in
     let link : c.in-Some.l.link ≡ plain_link q (d.world.links t q) = ap (λ (x : LinkFacts). x.link) hears.link.link_is in
     let state = c.in-Some-state_here.ensures.is (beside_of d t) (d.world.nodes t) d.world
     (stands.disk_sets.sites t c.index.result.now below (get_at old.disk_sets.items t c.index.result.now c.requires.disk_set c.index.ensures)) listens.up listens.apart (c.deref-2.ensures.value ∙ stands.facts) below listens.up listens.apart in
@@ -196,7 +197,7 @@ returns-in-Some-refusal-clause-leads g c = λ d p stands off carries good at to 
     })
 
 pub returns-in-Ok-clause-leads : goal.returns-in-Ok-clause-leads
-returns-in-Ok-clause-leads g c = λ d p stands off carries good at to from below answers.
+returns-in-Ok-clause-leads g c = λ d p stands carries good at to from below answers.
     let old = c.args.yard.now in
     let t = c.args.target in
     let q = p.source in
@@ -208,9 +209,10 @@ returns-in-Ok-clause-leads g c = λ d p stands off carries good at to from below
     let said = c.in-Ok.said in
     let there = get_at old.disk_sets.items t before c.requires.disk_set c.index_mut.ensures.value in
     let here = stands.disk_sets.sites t before below there in
-    let raw = raw_there d old t before stands below there off in
     let hears : Hears d.world t q c.in-Some.l = subst (λ (i : ℕ). Hears d.world t i c.in-Some.l) (sym from) (c.in-Some.ensures.hears d.world c.in-Some.l (c.deref.ensures.value ∙ stands.facts) refl) in
     let listens = listening d t q c.in-Some.l stands.links hears in
+    let off = linked_off d old t q stands below listens.linked in
+    let raw = raw_there d old t before stands below there off in
     let link : c.in-Some.l.link ≡ plain_link q (d.world.links t q) = ap (λ (x : LinkFacts). x.link) hears.link.link_is in
     let state = c.in-Some-state_here.ensures.is (beside_of d t) n d.world
     (stands.disk_sets.sites t c.index.result.now below (get_at old.disk_sets.items t c.index.result.now c.requires.disk_set c.index.ensures)) listens.up listens.apart (c.deref-2.ensures.value ∙ stands.facts) below listens.up listens.apart in
@@ -243,7 +245,7 @@ returns-in-Ok-clause-leads g c = λ d p stands off carries good at to from below
     })
 
 pub returns-in_default-clause-called : goal.returns-in_default-clause-called
-returns-in_default-clause-called g c = λ d p stands off carries at to from below answers.
+returns-in_default-clause-called g c = λ d p stands carries at to from below answers.
     let y = c.args.yard.now in
     let is = deaf_to d c.args.number p at answers stands.links
     (λ small. c.in_default.ensures.deaf d.world p (event_for p.message) (c.deref.ensures.value ∙ stands.facts) refl to from below (subst (λ (i : ℕ). i < d.world.sites) from small)
@@ -252,16 +254,16 @@ returns-in_default-clause-called g c = λ d p stands off carries at to from belo
     site_still (HeadUnder (heard_calls d.world c.args.number c.args.target c.args.source) Ignored) c.args.target y _ (λ e. deaf_head (heard_calls d.world c.args.number c.args.target c.args.source) e (deaf_calls d.world c.args.number c.args.target c.args.source is)) c.requires.disk_set refl
 
 pub returns-in_default-state_here-clause-called : goal.returns-in_default-state_here-clause-called
-returns-in_default-state_here-clause-called g c = λ d p stands off carries at to from below answers. tt
+returns-in_default-state_here-clause-called g c = λ d p stands carries at to from below answers. tt
 
 pub returns-in_default-heard_needs-clause-called : goal.returns-in_default-heard_needs-clause-called
-returns-in_default-heard_needs-clause-called g c = λ d p stands off carries at to from below answers. tt
+returns-in_default-heard_needs-clause-called g c = λ d p stands carries at to from below answers. tt
 
 pub returns-in-None-clause-called : goal.returns-in-None-clause-called
-returns-in-None-clause-called g c = λ d p stands off carries at to from below answers. tt
+returns-in-None-clause-called g c = λ d p stands carries at to from below answers. tt
 
 pub returns-in-Ok-clause-called : goal.returns-in-Ok-clause-called
-returns-in-Ok-clause-called g c = λ d p stands off carries at to from below answers.
+returns-in-Ok-clause-called g c = λ d p stands carries at to from below answers.
     let old = c.args.yard.now in
     let t = c.args.target in
     let q = p.source in
@@ -270,9 +272,10 @@ returns-in-Ok-clause-called g c = λ d p stands off carries at to from below ans
     let after = c.hear-said.new.disks in
     let there = get_at old.disk_sets.items t before c.requires.disk_set c.index_mut.ensures.value in
     let here = stands.disk_sets.sites t before below there in
-    let raw = raw_there d old t before stands below there off in
     let hears : Hears d.world t q c.in-Some.l = subst (λ (i : ℕ). Hears d.world t i c.in-Some.l) (sym from) (c.in-Some.ensures.hears d.world c.in-Some.l (c.deref.ensures.value ∙ stands.facts) refl) in
     let listens = listening d t q c.in-Some.l stands.links hears in
+    let off = linked_off d old t q stands below listens.linked in
+    let raw = raw_there d old t before stands below there off in
     let link : c.in-Some.l.link ≡ plain_link q (d.world.links t q) = ap (λ (x : LinkFacts). x.link) hears.link.link_is in
     let state = c.in-Some-state_here.ensures.is (beside_of d t) n d.world
     (stands.disk_sets.sites t c.index.result.now below (get_at old.disk_sets.items t c.index.result.now c.requires.disk_set c.index.ensures)) listens.up listens.apart (c.deref-2.ensures.value ∙ stands.facts) below listens.up listens.apart in
@@ -289,7 +292,7 @@ returns-in-Ok-clause-called g c = λ d p stands off carries at to from below ans
     }
 
 pub returns-in-Some-refusal-clause-called : goal.returns-in-Some-refusal-clause-called
-returns-in-Some-refusal-clause-called g c = λ d p stands off carries at to from below answers.
+returns-in-Some-refusal-clause-called g c = λ d p stands carries at to from below answers.
     let old = c.args.yard.now in
     let t = c.args.target in
     let q = p.source in

@@ -31,15 +31,15 @@ set_line-requires-clause-free g c = λ κs lives. (_, subst (λ (line : ScriptLi
 
 pub returns-in-Set-clause-leads : goal.returns-in-Set-clause-leads
 returns-in-Set-clause-leads g c = λ d stands off carries.
-    subst (λ (line : ScriptLine). LeadsIs d line c.args.yard.now c.set_line.new.yard c.set_line.result) (sym c.in-Set.is) (c.set_line.ensures.leads d _ stands (subst (λ (line : ScriptLine). links_rvg d.world line ≡ false) c.in-Set.is off))
+    subst (λ (line : ScriptLine). LeadsIs d line c.args.yard.now c.set_line.new.yard c.set_line.result) (sym c.in-Set.is) (c.set_line.ensures.leads d _ stands)
 
 pub returns-in-Set-clause-asked : goal.returns-in-Set-clause-asked
 returns-in-Set-clause-asked g c = λ d stands off.
-    subst (λ (line : ScriptLine). AsAsked d.world line c.args.yard.now c.set_line.new.yard) (sym c.in-Set.is) (c.set_line.ensures.asked d Fail stands (subst (λ (line : ScriptLine). links_rvg d.world line ≡ false) c.in-Set.is off))
+    subst (λ (line : ScriptLine). AsAsked d.world line c.args.yard.now c.set_line.new.yard) (sym c.in-Set.is) (c.set_line.ensures.asked d Fail stands)
 
 pub returns-in-Set-clause-called : goal.returns-in-Set-clause-called
 returns-in-Set-clause-called g c = λ d stands off.
-    subst (λ (line : ScriptLine). IfOk c.set_line.result (λ said. HasCalled d.world line said c.args.yard.now c.set_line.new.yard)) (sym c.in-Set.is) (c.set_line.ensures.called d Fail stands (subst (λ (line : ScriptLine). links_rvg d.world line ≡ false) c.in-Set.is off))
+    subst (λ (line : ScriptLine). IfOk c.set_line.result (λ said. HasCalled d.world line said c.args.yard.now c.set_line.new.yard)) (sym c.in-Set.is) (c.set_line.ensures.called d Fail stands)
 
 pub connect_line-requires-clause-free : goal.connect_line-requires-clause-free
 connect_line-requires-clause-free g c = λ κs lives. subst (λ (line : ScriptLine). IsFree c.args.yard.now line) c.in-Connect.is c.requires.free
@@ -146,7 +146,7 @@ pump_line-requires-clause-free g c = λ κs lives. subst (λ (line : ScriptLine)
 
 pub returns-in-Pump-clause-leads : goal.returns-in-Pump-clause-leads
 returns-in-Pump-clause-leads g c = λ d stands off carries.
-    subst (λ (line : ScriptLine). LeadsIs d line c.args.yard.now c.pump_line.new.yard c.pump_line.result) (sym c.in-Pump.is) (c.pump_line.ensures.leads d stands (subst (λ (line : ScriptLine). links_rvg d.world line ≡ false) c.in-Pump.is off) carries)
+    subst (λ (line : ScriptLine). LeadsIs d line c.args.yard.now c.pump_line.new.yard c.pump_line.result) (sym c.in-Pump.is) (c.pump_line.ensures.leads d stands carries)
 
 pub returns-in-Pump-clause-asked : goal.returns-in-Pump-clause-asked
 returns-in-Pump-clause-asked g c = λ d stands off.
@@ -154,7 +154,7 @@ returns-in-Pump-clause-asked g c = λ d stands off.
 
 pub returns-in-Pump-clause-called : goal.returns-in-Pump-clause-called
 returns-in-Pump-clause-called g c = λ d stands off.
-    subst (λ (line : ScriptLine). IfOk c.pump_line.result (λ said. HasCalled d.world line said c.args.yard.now c.pump_line.new.yard)) (sym c.in-Pump.is) (c.pump_line.ensures.called d stands (subst (λ (line : ScriptLine). links_rvg d.world line ≡ false) c.in-Pump.is off))
+    subst (λ (line : ScriptLine). IfOk c.pump_line.result (λ said. HasCalled d.world line said c.args.yard.now c.pump_line.new.yard)) (sym c.in-Pump.is) (c.pump_line.ensures.called d stands)
 
 pub returns-in-Link-clause-whole : goal.returns-in-Link-clause-whole
 returns-in-Link-clause-whole g c = λ none. memory_taken c.args.words.now _ c.in-Link.is refl none

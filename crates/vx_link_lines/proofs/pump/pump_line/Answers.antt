@@ -22,9 +22,10 @@ use Rattle.vx_yard.proofs.ChangeSite.{told_before}
 use Rattle.vx_link_lines.proofs.Deaf.{all_told}
 use Rattle.vx_yard.proofs.Lists.{get_at}
 use Rattle.vx_yard.proofs.NamedSite.{asks_at}
+use Rattle.vx_yard.proofs.OverGroup.{none_noted}
 use Rattle.vx_yard.proofs.RawSites.{raw_site, raw_told}
 use Rattle.vx_link_lines.proofs.PumpLine.{asked_named, moved_named, pump_brings, pump_finds, pump_stops, pump_told, pumped_named, pumping, sent_named}
-use Rattle.vx_link_lines.proofs.RawParts.{none_seat, raw_seat}
+use Rattle.vx_link_lines.proofs.RawParts.{raw_there}
 use Rattle.vx_link_lines.proofs.pump.pump_line.Goals as goal
 
 pub site_of-here-requires-clause-named : goal.site_of-here-requires-clause-named
@@ -55,7 +56,7 @@ returns-in-Err-clause-told g c =
     told_before es s c.index_mut.result.now c.pump.new.self (get_at es s c.index_mut.result.now c.site_of-here.ensures.disk_set c.index_mut.ensures.value) c.in-Err.ensures.later
 
 pub returns-in-Ok-clause-leads : goal.returns-in-Ok-clause-leads
-returns-in-Ok-clause-leads g c = λ d stands off carries.
+returns-in-Ok-clause-leads g c = λ d stands carries.
     let old = c.args.yard.now in
     let es = old.disk_sets.items in
     let s = c.site_of-here.result in
@@ -68,7 +69,7 @@ returns-in-Ok-clause-leads g c = λ d stands off carries.
     let asks = pumping d old p q s c.deref.result.now c.link_named.result stands c.requires.free c.site_of-here.ensures.seat c.deref.ensures.value c.link_named.ensures.link
     (subst (λ fs. FoundLink fs p q) (sym c.deref.ensures.value) there) in
     let stood = stands.disk_sets.sites s before asks.seat.below at in
-    let none = none_seat d old p s stands c.site_of-here.ensures.seat asks.seat.apart off in
+    let none = none_noted (d.world.nodes s) asks.seat.apart asks.raw in
     let raw = raw_site (beside_of d s) (d.world.nodes s) before none stood in
     let was = told_before es s before after at c.in-Ok.ensures.later in
     let items = with_items_is old.facts c.keep_pumped.new.sites (c.keep_pumped.auto.sites ∙ c.deref_mut.ensures.len) in
@@ -86,7 +87,7 @@ returns-in-Ok-clause-leads g c = λ d stands off carries.
     (all_told (slice_set es s after))
 
 pub returns-in-Err-clause-leads : goal.returns-in-Err-clause-leads
-returns-in-Err-clause-leads g c = λ d stands off carries.
+returns-in-Err-clause-leads g c = λ d stands carries.
     let old = c.args.yard.now in
     let es = old.disk_sets.items in
     let s = c.site_of-here.result in
@@ -99,7 +100,7 @@ returns-in-Err-clause-leads g c = λ d stands off carries.
     let asks = pumping d old p q s c.deref.result.now c.link_named.result stands c.requires.free c.site_of-here.ensures.seat c.deref.ensures.value c.link_named.ensures.link
     (subst (λ fs. FoundLink fs p q) (sym c.deref.ensures.value) there) in
     let stood = stands.disk_sets.sites s before asks.seat.below at in
-    let none = none_seat d old p s stands c.site_of-here.ensures.seat asks.seat.apart off in
+    let none = none_noted (d.world.nodes s) asks.seat.apart asks.raw in
     let raw = raw_site (beside_of d s) (d.world.nodes s) before none stood in
     let was = told_before es s before after at c.in-Err.ensures.later in
     pump_stops d old _ s before after stands carries asks.seat.below (record { there = at; later = c.in-Err.ensures.later; disk_sets = refl; racks = refl }) c.in-Err.ensures.still c.in-Err.ensures.stands c.in-Err.ensures.role none
@@ -124,7 +125,7 @@ returns-in-Err-clause-asked g c = λ d stands.
     (get_at old.disk_sets.items s c.index_mut.result.now c.site_of-here.ensures.disk_set c.index_mut.ensures.value) refl c.in-Err.ensures.still
 
 pub returns-in-Ok-clause-called : goal.returns-in-Ok-clause-called
-returns-in-Ok-clause-called g c = λ d stands off.
+returns-in-Ok-clause-called g c = λ d stands.
     let old = c.args.yard.now in
     let s = c.site_of-here.result in
     let before = c.index_mut.result.now in
@@ -134,7 +135,7 @@ returns-in-Ok-clause-called g c = λ d stands off.
     (alone_leaves Done before after (λ why is. let said : Done ≡ Refused why = is in cc) c.in-Ok.ensures.still)
 
 pub returns-in-Err-clause-called : goal.returns-in-Err-clause-called
-returns-in-Err-clause-called g c = λ d stands off.
+returns-in-Err-clause-called g c = λ d stands.
     let old = c.args.yard.now in
     let s = c.site_of-here.result in
     let p = c.args.first.now in
@@ -146,6 +147,6 @@ returns-in-Err-clause-called g c = λ d stands off.
     let asks = pumping d old p q s c.deref.result.now c.link_named.result stands c.requires.free c.site_of-here.ensures.seat c.deref.ensures.value c.link_named.ensures.link
     (subst (λ fs. FoundLink fs p q) (sym c.deref.ensures.value) there) in
     let stood = stands.disk_sets.sites s before asks.seat.below at in
-    let raw = raw_seat d old p s before stands c.site_of-here.ensures.seat at off in
+    let raw = raw_there d old s before stands asks.seat.below at asks.raw in
     pump_stopped s old _ before after at refl c.in-Err.ensures.still (d.world.nodes s) (pump_asks c.link_named.result.link (d.world.nodes s).safe) (faults_at before) (faults_at after) (site_number d.world p) c.in-Err.stop c.stopped.result asks.seat.number
     (c.in-Err.ensures.stops (beside_of d s) (d.world.nodes s) stood raw asks.origin asks.up asks.seat.apart asks.running) c.stopped.ensures

@@ -6,7 +6,6 @@ use Rattle.vx_yard.specs.Working.{IsFree}
 use Rattle.vx_link_lines.proofs.AnswerFor.{memory_taken, other_settled}
 use Rattle.vx_yard.specs.AboveLines.{WorksIs}
 use Rattle.vx_events.specs.OpenLines.{is_open}
-use Rattle.vx_events.specs.RvgLinks.{links_rvg}
 use Rattle.std.specs.Prelude.{◌≡◌, false}
 use Rattle.vx_node.proofs.Built.{goes_whole, not_alone}
 use Rattle.vx_above.proofs.Works.{works_plain}
@@ -28,7 +27,7 @@ pub returns-in-Settle-clause-leads : goal.returns-in-Settle-clause-leads
 returns-in-Settle-clause-leads g c = λ d stands closed carries good.
     let shut = subst (λ line. is_open d.world line ≡ false) c.in-Settle.is closed in
     subst (λ line. WorksIs d line c.args.yard.now c.settle_line.new.yard c.settle_line.result) (sym c.in-Settle.is)
-    (works_plain d _ c.args.yard.now c.settle_line.new.yard tt shut refl c.settle_line.result refl (c.settle_line.ensures.leads d stands shut carries good))
+    (works_plain d _ c.args.yard.now c.settle_line.new.yard tt shut refl c.settle_line.result refl (c.settle_line.ensures.leads d stands carries good))
 
 pub returns-in-Settle-clause-asked : goal.returns-in-Settle-clause-asked
 returns-in-Settle-clause-asked g c = λ d stands off links. subst (λ line. AsAsked d.world line c.args.yard.now c.settle_line.new.yard) (sym c.in-Settle.is) tt
@@ -36,12 +35,12 @@ returns-in-Settle-clause-asked g c = λ d stands off links. subst (λ line. AsAs
 pub returns-in-Settle-clause-settled : goal.returns-in-Settle-clause-settled
 returns-in-Settle-clause-settled g c = λ d stands links carries good.
     subst (λ line. AsSettled line c.args.yard.now c.settle_line.new.yard) (sym c.in-Settle.is)
-    (c.settle_line.ensures.asked d stands (subst (λ line. links_rvg d.world line ≡ false) c.in-Settle.is links) carries good)
+    (c.settle_line.ensures.asked d stands carries good)
 
 pub returns-in-Settle-clause-called : goal.returns-in-Settle-clause-called
 returns-in-Settle-clause-called g c = λ d stands off links carries good.
     subst (λ line. IfOk c.settle_line.result (λ said. HasCalled d.world line said c.args.yard.now c.settle_line.new.yard)) (sym c.in-Settle.is)
-    (c.settle_line.ensures.called d stands (subst (λ line. links_rvg d.world line ≡ false) c.in-Settle.is links) carries good)
+    (c.settle_line.ensures.called d stands carries good)
 
 pub returns-in-Settle-clause-whole : goal.returns-in-Settle-clause-whole
 returns-in-Settle-clause-whole g c = λ none. memory_taken c.args.words.now _ c.in-Settle.is refl none

@@ -16,9 +16,8 @@ use Rattle.vx_events.proofs.RefusedCalls.{read_may, show_may, write_may}
 use Rattle.vx_diskset.specs.Asked.{LeavesAlone, SameFailing}
 use Rattle.vx_diskset.proofs.KeepsFailing.{alone_same, failing_same}
 use Rattle.vx_above.proofs.Works.{leads_whole, works_either, works_short, works_whole}
-use Rattle.vx_events.proofs.Opens.{open_data, open_inside}
+use Rattle.vx_events.proofs.Opens.{first_off, last_off, open_data, open_inside}
 use Rattle.vx_events.specs.OpenLines.{is_open}
-use Rattle.vx_events.specs.RvgLinks.{links_rvg}
 use Rattle.vx_node.proofs.Built.{neither}
 use Rattle.vx_yard.specs.AboveLines.{WorksIs}
 use Rattle.vx_node.proofs.answering.work.Goals as goal
@@ -118,25 +117,25 @@ returns-in-Fuse-clause-asked g c = λ d stands goes off links. subst (λ line. A
 
 pub returns-in_ok-room-in-Read-clause-leads : goal.returns-in_ok-room-in-Read-clause-leads
 returns-in_ok-room-in-Read-clause-leads g c = λ d stands goes closed carries good.
-    let apart = subst (λ line. goes_to_group d.world line ≡ false) c.in-Read.is goes in
+    let apart = first_off (over_group_at d.world c.in-Read.site) _ (subst (λ line. goes_to_group d.world line ≡ false) c.in-Read.is goes) in
     let shut = subst (λ line. is_open d.world line ≡ false) c.in-Read.is closed in
     subst (λ line. WorksIs d line c.args.yard.now c.read_line.new.yard (Ok c.read_line.result)) (sym c.in-Read.is)
     (works_either d _ c.args.yard.now c.read_line.new.yard tt shut (Ok c.read_line.result) apart (λ off. c.read_line.ensures.leads d stands apart off)
-    (λ over. c.read_line.ensures.above d stands over (open_data (d.world.nodes (site_number d.world c.in-Read.site)) c.in-Read.volume over shut)))
+    (λ over. c.read_line.ensures.above d stands over (open_data (d.world.nodes (site_number d.world c.in-Read.site)) c.in-Read.volume over (last_off (over_group_at d.world c.in-Read.site) _ (subst (λ line. goes_to_group d.world line ≡ false) c.in-Read.is goes)))))
 
 pub returns-in_ok-room-in-Read-clause-asked : goal.returns-in_ok-room-in-Read-clause-asked
-returns-in_ok-room-in-Read-clause-asked g c = λ d stands goes off links. subst (λ line. AsAsked d.world line c.args.yard.now c.read_line.new.yard) (sym c.in-Read.is) (c.read_line.ensures.asked d stands (subst (λ line. goes_to_group d.world line ≡ false) c.in-Read.is goes) (subst (λ line. is_for_rvg d.world line ≡ false) c.in-Read.is off))
+returns-in_ok-room-in-Read-clause-asked g c = λ d stands goes off links. subst (λ line. AsAsked d.world line c.args.yard.now c.read_line.new.yard) (sym c.in-Read.is) (c.read_line.ensures.asked d stands (first_off (over_group_at d.world c.in-Read.site) _ (subst (λ line. goes_to_group d.world line ≡ false) c.in-Read.is goes)) (subst (λ line. is_for_rvg d.world line ≡ false) c.in-Read.is off))
 
 pub returns-in_ok-room-in-Show-clause-leads : goal.returns-in_ok-room-in-Show-clause-leads
 returns-in_ok-room-in-Show-clause-leads g c = λ d stands goes closed carries good.
-    let apart = subst (λ line. goes_to_group d.world line ≡ false) c.in-Show.is goes in
+    let apart = first_off (over_group_at d.world c.in-Show.site) _ (subst (λ line. goes_to_group d.world line ≡ false) c.in-Show.is goes) in
     let shut = subst (λ line. is_open d.world line ≡ false) c.in-Show.is closed in
     subst (λ line. WorksIs d line c.args.yard.now c.show_line.new.yard (Ok c.show_line.result)) (sym c.in-Show.is)
     (works_either d _ c.args.yard.now c.show_line.new.yard tt shut (Ok c.show_line.result) apart (λ off. c.show_line.ensures.leads d stands apart off)
-    (λ over. c.show_line.ensures.above d stands over (open_data (d.world.nodes (site_number d.world c.in-Show.site)) c.in-Show.volume over shut)))
+    (λ over. c.show_line.ensures.above d stands over (open_data (d.world.nodes (site_number d.world c.in-Show.site)) c.in-Show.volume over (last_off (over_group_at d.world c.in-Show.site) _ (subst (λ line. goes_to_group d.world line ≡ false) c.in-Show.is goes)))))
 
 pub returns-in_ok-room-in-Show-clause-asked : goal.returns-in_ok-room-in-Show-clause-asked
-returns-in_ok-room-in-Show-clause-asked g c = λ d stands goes off links. subst (λ line. AsAsked d.world line c.args.yard.now c.show_line.new.yard) (sym c.in-Show.is) (c.show_line.ensures.asked d stands (subst (λ line. goes_to_group d.world line ≡ false) c.in-Show.is goes) (subst (λ line. is_for_rvg d.world line ≡ false) c.in-Show.is off))
+returns-in_ok-room-in-Show-clause-asked g c = λ d stands goes off links. subst (λ line. AsAsked d.world line c.args.yard.now c.show_line.new.yard) (sym c.in-Show.is) (c.show_line.ensures.asked d stands (first_off (over_group_at d.world c.in-Show.site) _ (subst (λ line. goes_to_group d.world line ≡ false) c.in-Show.is goes)) (subst (λ line. is_for_rvg d.world line ≡ false) c.in-Show.is off))
 
 pub returns-in-Apply-clause-leads : goal.returns-in-Apply-clause-leads
 returns-in-Apply-clause-leads g c = λ d stands goes closed carries good.
@@ -256,7 +255,7 @@ pub returns-in_err-room-in-Read-clause-asked : goal.returns-in_err-room-in-Read-
 returns-in_err-room-in-Read-clause-asked g c = λ d stands goes off links.
     let y = c.args.yard.now in
     let free = subst (λ line. IsFree y line) c.in-Read.is c.requires.free in
-    let apart : over_group_at d.world c.in-Read.site ≡ false = subst (λ line. goes_to_group d.world line ≡ false) c.in-Read.is goes in
+    let apart : over_group_at d.world c.in-Read.site ≡ false = first_off (over_group_at d.world c.in-Read.site) _ (subst (λ line. goes_to_group d.world line ≡ false) c.in-Read.is goes) in
     subst (λ line. AsAsked d.world line y y) (sym c.in-Read.is)
     (subst (λ (b : Bool). OfSite (ReadsBy b) (site_number d.world c.in-Read.site) y y) (sym apart)
     (unbegun_site LeavesAlone d y c.in-Read.site alone_same stands (read_may y.facts.items (in_files y) c.in-Read.site c.in-Read.volume c.in-Read.block c.in-Read.count free).site))
@@ -275,7 +274,7 @@ pub returns-in_err-room-in-Show-clause-asked : goal.returns-in_err-room-in-Show-
 returns-in_err-room-in-Show-clause-asked g c = λ d stands goes off links.
     let y = c.args.yard.now in
     let free = subst (λ line. IsFree y line) c.in-Show.is c.requires.free in
-    let apart : over_group_at d.world c.in-Show.site ≡ false = subst (λ line. goes_to_group d.world line ≡ false) c.in-Show.is goes in
+    let apart : over_group_at d.world c.in-Show.site ≡ false = first_off (over_group_at d.world c.in-Show.site) _ (subst (λ line. goes_to_group d.world line ≡ false) c.in-Show.is goes) in
     subst (λ line. AsAsked d.world line y y) (sym c.in-Show.is)
     (subst (λ (b : Bool). OfSite (ReadsBy b) (site_number d.world c.in-Show.site) y y) (sym apart)
     (unbegun_site LeavesAlone d y c.in-Show.site alone_same stands (show_may y.facts.items (in_files y) c.in-Show.site c.in-Show.volume c.in-Show.block c.in-Show.count free).site))
@@ -299,13 +298,13 @@ pub returns-in-Deliver-clause-leads : goal.returns-in-Deliver-clause-leads
 returns-in-Deliver-clause-leads g c = λ d stands goes closed carries good.
     let shut = subst (λ line. is_open d.world line ≡ false) c.in-Deliver.is closed in
     subst (λ line. WorksIs d line c.args.yard.now c.deliver_line.new.yard c.deliver_line.result) (sym c.in-Deliver.is)
-    (works_whole d _ c.args.yard.now c.deliver_line.new.yard tt shut refl c.deliver_line.result refl (c.deliver_line.ensures.leads d stands shut carries good))
+    (works_whole d _ c.args.yard.now c.deliver_line.new.yard tt shut refl c.deliver_line.result refl (c.deliver_line.ensures.leads d stands carries good))
 
 pub returns-in-Deliver-clause-asked : goal.returns-in-Deliver-clause-asked
-returns-in-Deliver-clause-asked g c = λ d stands goes off links. subst (λ line. AsAsked d.world line c.args.yard.now c.deliver_line.new.yard) (sym c.in-Deliver.is) (c.deliver_line.ensures.asked d stands (subst (λ line. links_rvg d.world line ≡ false) c.in-Deliver.is links))
+returns-in-Deliver-clause-asked g c = λ d stands goes off links. subst (λ line. AsAsked d.world line c.args.yard.now c.deliver_line.new.yard) (sym c.in-Deliver.is) (c.deliver_line.ensures.asked d stands)
 
 pub returns-in-Deliver-clause-called : goal.returns-in-Deliver-clause-called
-returns-in-Deliver-clause-called g c = λ d stands goes off links carries good. subst (λ line. IfOk c.deliver_line.result (λ said. HasCalled d.world line said c.args.yard.now c.deliver_line.new.yard)) (sym c.in-Deliver.is) (c.deliver_line.ensures.called d stands (subst (λ line. links_rvg d.world line ≡ false) c.in-Deliver.is links) carries)
+returns-in-Deliver-clause-called g c = λ d stands goes off links carries good. subst (λ line. IfOk c.deliver_line.result (λ said. HasCalled d.world line said c.args.yard.now c.deliver_line.new.yard)) (sym c.in-Deliver.is) (c.deliver_line.ensures.called d stands carries)
 
 pub returns-in-Site-clause-whole : goal.returns-in-Site-clause-whole
 returns-in-Site-clause-whole g c = λ none. memory_taken c.args.words.now _ c.in-Site.is refl none

@@ -5,8 +5,8 @@ use Rattle.vx_yard.specs.Working.{refused_in}
 use Rattle.vx_link_lines.proofs.AnswerFor.{tested}
 use Rattle.vx_node.proofs.closing.ends_run.Goals as goal
 
-pub is_open_line-requires-clause-free : goal.is_open_line-requires-clause-free
-is_open_line-requires-clause-free g c = λ κs within. sym c.refusal.ensures ∙ c.in-None.is
+pub is_open_at-requires-clause-free : goal.is_open_at-requires-clause-free
+is_open_at-requires-clause-free g c = λ κs within. sym c.refusal.ensures ∙ c.in-None.is
 
 pub returns-in-Some-clause-ends : goal.returns-in-Some-clause-ends
 returns-in-Some-clause-ends g c = λ is. absurd (let clash : false ≡ true = is in cc)
@@ -20,8 +20,8 @@ returns-in-Some-clause-closed g c = λ off free.
 pub returns-in-None-clause-ends : goal.returns-in-None-clause-ends
 returns-in-None-clause-ends g c = λ is d stands carries. record {
   free = tested d c.args.yard.now c.args.line.now stands carries ∙ (sym c.refusal.ensures ∙ c.in-None.is);
-  is = sym (c.is_open_line.ensures d stands carries) ∙ is;
+  is = sym (c.is_open_at.ensures d stands) ∙ is;
 }
 
 pub returns-in-None-clause-closed : goal.returns-in-None-clause-closed
-returns-in-None-clause-closed g c = λ off free d stands carries. sym (c.is_open_line.ensures d stands carries) ∙ off
+returns-in-None-clause-closed g c = λ off free d stands carries. sym (c.is_open_at.ensures d stands) ∙ off

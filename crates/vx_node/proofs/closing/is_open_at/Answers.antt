@@ -1,4 +1,4 @@
--- A line that hands no packet over.
+-- A line that no test refuses.
 use Rattle.std.proofs.Common.{◌∙◌, sym}
 use Rattle.vx_node.proofs.OpenNames.{open_nowhere}
 use Rattle.vx_node.proofs.closing.is_open_at.Goals as goal
@@ -10,4 +10,4 @@ pub returns-in-Some : goal.returns-in-Some
 returns-in-Some g c = λ d stands. c.is_open_from.ensures d stands
 
 pub returns-in-None : goal.returns-in-None
-returns-in-None g c = λ d stands. sym (open_nowhere d.world c.args.line.now (sym c.open_site.ensures ∙ c.in-None.is) c.requires.sites)
+returns-in-None g c = λ d stands. sym (open_nowhere d.world c.args.line.now (sym c.open_site.ensures ∙ c.in-None.is))

@@ -10,7 +10,6 @@ use Rattle.vx_yard.specs.Yards.{IsTold}
 use Rattle.vx_node.specs.declared.going.Went.{Went}
 use Rattle.vx_yard.proofs.OfSites.{all_still}
 use Rattle.vx_node.proofs.SettleParts.{packet_at_one}
-use Rattle.vx_node.proofs.SettleRaw.{packet_raw}
 use Rattle.vx_node.proofs.StepWent.{good_noted, step_same, step_went}
 use Rattle.vx_node.proofs.settle.deliver_step.Goals as goal
 
@@ -30,9 +29,8 @@ returns-clause-went g c = λ d a b q serves at sent between.
     let y = c.args.yard.now in
     let new = c.deliver_line.new.yard in
     let n = serves.noted in
-    let off = packet_raw c.args.first.now c.args.second.now a b d y serves c.args.number q at sent between in
     subst (λ (w : Went). WentFor c.args.first.now c.args.second.now a b d (DeliverAt c.args.number ∷ []) y new w) (sym c.answered.ensures)
-    (step_went c.args.first.now c.args.second.now a b d (DeliverAt c.args.number ∷ []) y new serves c.deliver_line.ensures.told (c.deliver_line.ensures.asked (noted_as n.fuses d) n.stands off) (Deliver c.args.number)
+    (step_went c.args.first.now c.args.second.now a b d (DeliverAt c.args.number ∷ []) y new serves c.deliver_line.ensures.told (c.deliver_line.ensures.asked (noted_as n.fuses d) n.stands) (Deliver c.args.number)
     (λ fails said e done. deliver_goes (CalmTold (IsTold new) d) a b d (λ t. t.1) serves.may n.fuses n.burns n.stands.links c.args.number q fails said e at sent between done.ends)
-    c.deliver_line.result (c.deliver_line.ensures.leads (noted_as n.fuses d) n.stands off n.carries (good_noted n.fuses d y serves.good))
-    (packet_at_one c.args.first.now c.args.second.now a b d y new serves c.args.number q c.deliver_line.result at sent between (c.deliver_line.ensures.called (noted_as n.fuses d) n.stands off n.carries)))
+    c.deliver_line.result (c.deliver_line.ensures.leads (noted_as n.fuses d) n.stands n.carries (good_noted n.fuses d y serves.good))
+    (packet_at_one c.args.first.now c.args.second.now a b d y new serves c.args.number q c.deliver_line.result at sent between (c.deliver_line.ensures.called (noted_as n.fuses d) n.stands n.carries)))

@@ -11,7 +11,6 @@ use Rattle.vx_yard.specs.Yards.{IsTold}
 use Rattle.vx_node.specs.declared.going.Went.{Went}
 use Rattle.vx_yard.proofs.OfSites.{all_still}
 use Rattle.vx_node.proofs.SettleParts.{first_at}
-use Rattle.vx_node.proofs.SettleRaw.{pump_raw}
 use Rattle.vx_node.proofs.StepWent.{all_alone, step_same, step_went}
 use Rattle.vx_node.proofs.settle.pump_step.Goals as goal
 
@@ -31,9 +30,8 @@ returns-clause-went g c = λ d a b serves.
     let y = c.args.yard.now in
     let new = c.pump_line.new.yard in
     let n = serves.noted in
-    let off = pump_raw c.args.first.now c.args.second.now a b d y serves in
     subst (λ (w : Went). WentFor c.args.first.now c.args.second.now a b d (PumpAt a b ∷ []) y new w) (sym c.answered.ensures)
     (step_went c.args.first.now c.args.second.now a b d (PumpAt a b ∷ []) y new serves c.pump_line.ensures.told (all_alone _ y new (c.pump_line.ensures.asked (noted_as n.fuses d) n.stands)) (Pump c.args.first.now c.args.second.now)
     (λ fails said e done. pump_goes (CalmTold (IsTold new) d) a b d (λ t. t.1) serves.may n.fuses n.burns n.stands.links c.args.first.now c.args.second.now fails said e serves.from serves.to done.ends)
-    c.pump_line.result (c.pump_line.ensures.leads (noted_as n.fuses d) n.stands off n.carries)
-    (first_at c.args.first.now c.args.second.now a b d y new serves _ c.pump_line.result (number_burnt n.fuses d.world c.args.first.now ∙ serves.from) (c.pump_line.ensures.called (noted_as n.fuses d) n.stands off)))
+    c.pump_line.result (c.pump_line.ensures.leads (noted_as n.fuses d) n.stands n.carries)
+    (first_at c.args.first.now c.args.second.now a b d y new serves _ c.pump_line.result (number_burnt n.fuses d.world c.args.first.now ∙ serves.from) (c.pump_line.ensures.called (noted_as n.fuses d) n.stands)))
