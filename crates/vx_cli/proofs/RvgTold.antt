@@ -6,7 +6,7 @@ use Rattle.vx_history.specs.Groups.{GroupNode}
 use Rattle.vx_model.specs.declared.no.No.{No}
 use Rattle.vx_model.specs.declared.units.Units.{Units}
 use Rattle.vx_script.specs.declared.line.ScriptLine.{ScriptLine}
-use Rattle.vx_script.specs.declared.line.ScriptLine.TheVariants.{Read, Recover, Rvg, Show}
+use Rattle.vx_script.specs.declared.line.ScriptLine.TheVariants.{GroupDeport, Read, Recover, Rvg, Show}
 use Rattle.vx_events.specs.Ends.{place_of}
 use Rattle.vx_events.specs.Facts.{site_number}
 use Rattle.vx_events.specs.Fails.{Fails}
@@ -16,12 +16,12 @@ use Rattle.vx_events.specs.RvgBack.{GroupHeld, GroupUnfound, LogFails, LogLacks,
 use Rattle.vx_events.specs.OpenLines.{is_open}
 use Rattle.vx_events.specs.RvgMakes.{MakesRvg, RvgCut, RvgDone, RvgFails, RvgLacks}
 use Rattle.vx_events.specs.RvgNotes.{NotesLacking, NotesNarrowed, NotesNoRvg, NotesRvg}
-use Rattle.vx_events.specs.RvgOver.{EndsOver, OverRvg}
+use Rattle.vx_events.specs.RvgOver.{BelowEnds, EndsOver, OverRvg, missed_in}
 use Rattle.vx_events.specs.RvgParts.{RvgShort, ShortFull, ShortGroup, ShortLog, ShortMade, short_place}
 use Rattle.vx_events.specs.RvgSteps.{AsBefore, FoundOne, FullBy, WorksAbove, WorksBeside, WorksFull, is_for_rvg, rvg_place}
 use Rattle.vx_events.specs.StepsOver.{group_place, is_for_group}
 use Rattle.vx_events.specs.declared.said.Said.{Said}
-use Rattle.vx_events.proofs.GroupTold.{back_told, known_told, nothing_told, shows_told}
+use Rattle.vx_events.proofs.GroupTold.{back_told, group_told, known_told, nothing_told, shows_told}
 use Rattle.vx_events.proofs.LineTold.{ends_told}
 use Rattle.vx_events.proofs.ReadsLeave.{read_told}
 use Rattle.vx_events.proofs.Tolds.{works_told}
@@ -85,7 +85,18 @@ module _ {T U : Type 0} (f : U → T) where
     left = x.left;
   }
 
+  below_told : (d : Doubted) (line : ScriptLine) (s : ℕ) (fails : Fails) (said : Said) (new : Doubted) → BelowEnds T d line s fails said new → BelowEnds U d line s fails said new
+  below_told d line s fails said new x = record {
+    missed = x.missed;
+    middle = x.middle;
+    ends = group_told f (missed_in x.missed d s) line s fails said x.middle x.ends;
+    loosens = x.loosens;
+    why = x.why;
+    left = x.left;
+  }
+
   place_told : (d : Doubted) (line : ScriptLine) (s : ℕ) (fails : Fails) (said : Said) (new : Doubted) → OverRvg T d line s fails said new → OverRvg U d line s fails said new
+  place_told d (GroupDeport site) s fails said new x = below_told d (GroupDeport site) s fails said new x
   place_told d (Recover site) s fails said new (inl x) = inl (came_told d (Recover site) s fails said new x)
   place_told d (Recover site) s fails said new (inr x) = inr (found_told d (Recover site) s fails said new x)
   place_told d (Read site volume start count) s fails said new x = read_told f d (Read site volume start count) volume start count s fails said new (over_told d (Read site volume start count) s fails said new) x

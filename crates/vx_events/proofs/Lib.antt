@@ -10,6 +10,7 @@ pub mod LineTold
 pub mod RvgStopping
 pub mod ReadsLeave
 pub mod RvgEnding
+pub mod RvgMissed
 pub mod RvgEvents
 pub mod RvgFull
 pub mod RvgGains

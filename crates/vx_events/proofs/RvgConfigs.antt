@@ -1,5 +1,5 @@
 -- What the calls of a line make of a configuration keeps its replicated volume group, and each volume with its name and its blocks.
-use Rattle.std.proofs.Common.{◌≡◌, ◌∙◌, ℕ, Bool, Option, Some, None, ap, refl}
+use Rattle.std.proofs.Common.{◌≡◌, ◌∙◌, ℕ, zero, suc, List, [], ◌∷◌, Bool, Option, Some, None, ap, map, refl, sym}
 use Rattle.std.specs.Prelude.{slice_get}
 use Rattle.vx_model.specs.declared.site.PlexState.{PlexState}
 use Rattle.vx_config.specs.Changes.{Matched}
@@ -7,7 +7,7 @@ use Rattle.vx_config.specs.declared.config.Config.{Config}
 use Rattle.vx_config.specs.declared.entry.VolumeEntry.{VolumeEntry}
 use Rattle.vx_events.proofs.Places.{never_some, some_same}
 use Rattle.vx_events.specs.Fails.{Fails}
-use Rattle.vx_events.specs.GroupConfigs.{ConfigGoesBy, VolumeGoesBy, VolumeStays}
+use Rattle.vx_events.specs.GroupConfigs.{ConfigGoesBy, VolumeGoesBy, VolumeStays, opened_again, volume_again}
 use Rattle.vx_events.specs.RvgFits.{KeepsRvg, KeptVolume}
 use Rattle.vx_config.specs.declared.entry.PlexEntry.{PlexEntry}
 
@@ -41,3 +41,39 @@ loses_keeps {By} again s fails c d x = record {
   rvg = x.rvg;
   volumes = λ v e at. matched By (slice_get c.volumes v) (slice_get d.volumes v) e (x.volumes v) at;
 }
+
+-- ---- volumes that are changed in place, with their names and their blocks
+
+abbrev Alike : (VolumeEntry → VolumeEntry) → Type 0
+Alike f = (v : VolumeEntry) → ((f v).name ≡ v.name) × ((f v).blocks ≡ v.blocks)
+
+mapped : (f : VolumeEntry → VolumeEntry) → Alike f → (xs : List VolumeEntry) (k : ℕ) (e : VolumeEntry) → slice_get xs k ≡ Some e → KeptVolume e (slice_get (map f xs) k)
+mapped f same [] k e at = absurd (cc)
+mapped f same (x ∷ xs) zero e at =
+    let is : x ≡ e = some_same at in
+    record {
+      now = f x;
+      is = refl;
+      name = (same x).0 ∙ ap (λ (v : VolumeEntry). v.name) is;
+      blocks = (same x).1 ∙ ap (λ (v : VolumeEntry). v.blocks) is;
+    }
+mapped f same (x ∷ xs) (suc k) e at = mapped f same xs k e at
+
+unmapped : (f : VolumeEntry → VolumeEntry) → Alike f → (xs : List VolumeEntry) (k : ℕ) (e : VolumeEntry) → slice_get (map f xs) k ≡ Some e → KeptVolume e (slice_get xs k)
+unmapped f same [] k e at = absurd (cc)
+unmapped f same (x ∷ xs) zero e at =
+    let is : f x ≡ e = some_same at in
+    record {
+      now = x;
+      is = refl;
+      name = sym (same x).0 ∙ ap (λ (v : VolumeEntry). v.name) is;
+      blocks = sym (same x).1 ∙ ap (λ (v : VolumeEntry). v.blocks) is;
+    }
+unmapped f same (x ∷ xs) (suc k) e at = unmapped f same xs k e at
+
+-- plexes that stopped cleanly take part again, or stopped so
+pub again_keeps : (c : Config) → KeepsRvg c (opened_again c)
+again_keeps c = record { rvg = refl; volumes = λ v e at. mapped volume_again (λ _. (refl, refl)) c.volumes v e at }
+
+pub closed_keeps : (c : Config) → KeepsRvg (opened_again c) c
+closed_keeps c = record { rvg = refl; volumes = λ v e at. unmapped volume_again (λ _. (refl, refl)) c.volumes v e at }

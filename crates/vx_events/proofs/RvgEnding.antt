@@ -12,10 +12,11 @@ use Rattle.vx_history.specs.World.{NoFuse, World}
 use Rattle.vx_history.specs.declared.event.Event.{Event}
 use Rattle.vx_history.specs.declared.event.Event.TheVariants.{Recover as RecoverAt}
 use Rattle.vx_script.specs.declared.line.ScriptLine.{ScriptLine}
-use Rattle.vx_script.specs.declared.line.ScriptLine.TheVariants.{Site, Raw, Disk as DiskLine, Crash, Fuse as FuseLine, Recover, Write, Put, Read, Show, Apply, Status}
-use Rattle.vx_events.proofs.GroupStopping.{noted_like}
+use Rattle.vx_script.specs.declared.line.ScriptLine.TheVariants.{Site, Raw, Disk as DiskLine, Crash, Fuse as FuseLine, GroupDeport, Recover, Write, Put, Read, Show, Apply, Status}
+use Rattle.vx_events.proofs.GroupStopping.{group_stops, noted_like}
 use Rattle.vx_events.proofs.KnownLaws.{finds_none}
 use Rattle.vx_events.proofs.Noting.{as_like, disks_like, like_disks, like_noted, like_self, like_then, like_site}
+use Rattle.vx_events.proofs.RvgMissed.{loosened_like, missed_like}
 use Rattle.vx_events.proofs.RvgStopping.{ended as ended_rvg, same_doubted}
 use Rattle.vx_events.proofs.Stopping.{BeginsWrite, Recovers, ended, runs_as}
 use Rattle.vx_order.specs.Calls.{is_data}
@@ -30,7 +31,7 @@ use Rattle.vx_events.specs.GroupNotes.{IsKnown, note_at}
 use Rattle.vx_events.specs.Lists.{Choice, events_of, recovery_of, crash_count}
 use Rattle.vx_events.specs.RvgBack.{FindsNoRvg, FindsPlain, FindsRvg, GroupHeld, GroupUnfound, IsLeftBack, IsLeftBut, LogFails, LogLacks, RvgBack, RvgFinds, RvgUp, fall_first, fuse_left}
 use Rattle.vx_events.specs.RvgMakes.{RvgStops}
-use Rattle.vx_events.specs.RvgOver.{EndsOver, OpensFor, OverRvg, kind_named, noting_over, fuse_behind}
+use Rattle.vx_events.specs.RvgOver.{BelowEnds, EndsOver, OpensFor, OverRvg, kind_named, missed_in, noting_over, fuse_behind}
 use Rattle.vx_events.specs.RvgParts.{RvgShort, ShortGroup, ShortLog, ShortMade}
 use Rattle.vx_events.specs.declared.said.Said.{Said}
 
@@ -124,6 +125,19 @@ module _ (told : Type 0) (d : Doubted) (line : ScriptLine) (s : ℕ) (fails : Fa
 
   -- ---- other lines
 
+  -- one on the group alone
+  pub below_stops : BelowEnds told d line s fails said new → RvgStops d new
+  below_stops below =
+      let before : Doubted = missed_in below.missed d s in
+      let stops = group_stops told before line s fails said below.middle below.ends in
+      record {
+        before = before;
+        like = missed_like below.missed d s;
+        events = stops.events;
+        ending = [];
+        stops = ends_like before stops.events [] below.middle new stops.stops (loosened_like below.loosens s below.middle new below.left);
+      }
+
   -- one that is no recovery
   over_stops : (Recovers line → ⊥)
       → ((c : Choice) → BeginsWrite (events_of d.world line c) → IsOpen (d.world.nodes (place_of d.world line)) × (place_of d.world line < d.world.sites))
@@ -200,6 +214,7 @@ module _ (told : Type 0) (d : Doubted) (s : ℕ) (fails : Fails) (said : Said) (
 
   -- the line ended as events do, or found something on disks of which nothing is known
   pub stops_or_finds : (line : ScriptLine) → OpensFor d.world line → OverRvg told d line s fails said new → RvgStops d new ⊎ RvgFinds told d line s fails said new
+  stops_or_finds (GroupDeport site) opens ends = inl (below_stops told d (GroupDeport site) s fails said new ends)
   stops_or_finds (Recover site) opens ends = back_or (Recover site) ends
   stops_or_finds (Read site volume start count) opens ends =
       read_by told d (Read site volume start count) volume start count s fails said new (RvgStops d new ⊎ RvgFinds told d (Read site volume start count) s fails said new) (λ it. inl (over_stops told d (Read site volume start count) s fails said new (λ recovers. recovers) (opens_at d.world (Read site volume start count) opens) it)) (λ left. inl (read_stops d new s left)) (is_data (kind_named (d.world.nodes s) volume)) ends

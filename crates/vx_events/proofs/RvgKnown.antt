@@ -10,10 +10,11 @@ use Rattle.vx_history.specs.World.{NoFuse, Node, World}
 use Rattle.vx_config.specs.declared.config.Config.{Config}
 use Rattle.vx_model.specs.declared.units.Units.{Units}
 use Rattle.vx_script.specs.declared.line.ScriptLine.{ScriptLine}
-use Rattle.vx_script.specs.declared.line.ScriptLine.TheVariants.{Put, Read, Recover, Show, Write}
+use Rattle.vx_script.specs.declared.line.ScriptLine.TheVariants.{GroupDeport, Put, Read, Recover, Show, Write}
 use Rattle.vx_order.specs.Calls.{is_data}
 use Rattle.vx_events.proofs.ReadsLeave.{read_by, read_note}
-use Rattle.vx_events.proofs.KnownLaws.{back_known, finds_none, group_stays, no_rise, same_note}
+use Rattle.vx_events.proofs.KnownLaws.{back_known, finds_none, group_known, group_stays, no_rise, same_note}
+use Rattle.vx_events.proofs.RvgMissed.{loosened_note, missed_dark, missed_note}
 use Rattle.vx_events.specs.Doubts.{with_disks}
 use Rattle.vx_events.specs.Fails.{Fails}
 use Rattle.vx_events.specs.GroupEnds.{BringsUp}
@@ -23,7 +24,7 @@ use Rattle.vx_events.specs.Known.{MayDarken}
 use Rattle.vx_events.specs.RvgBack.{FindsNoRvg, FindsPlain, FindsRvg, GroupHeld, GroupUnfound, IsLeftBack, LogFails, LogLacks, RvgBack, RvgFinds, RvgUp, fuse_left}
 use Rattle.vx_events.specs.RvgMakes.{IsLeftRvg, MakesRvg, RvgCut, RvgDone, RvgFails, RvgLacks, units_at}
 use Rattle.vx_events.specs.RvgNotes.{NotesNarrowed}
-use Rattle.vx_events.specs.RvgOver.{EndsOver, NotesLine, OverRvg, kind_named, noting_over, fuse_behind}
+use Rattle.vx_events.specs.RvgOver.{BelowEnds, EndsOver, NotesLine, OverRvg, kind_named, missed_in, noting_over, fuse_behind}
 use Rattle.vx_events.specs.RvgWorks.{FuseRanOut, NotesWork, WorksAs}
 use Rattle.vx_events.specs.declared.said.Said.{Said}
 
@@ -130,7 +131,15 @@ module _ (told : Type 0) (tells : told) (d : Doubted) (s : ℕ) (known : (note_a
   back_or_known line free (inl back) = back_known_too line free back
   back_or_known line free (inr finds) = absurd (finds_known line free finds)
 
+  -- one on the group alone
+  below_known : (line : ScriptLine) → (MayDarken here line said → ⊥) → BelowEnds told d line s fails said new → (note_at (new.world.nodes s)).dark ≡ false
+  below_known line free below =
+      ap (λ (k : GroupNode). k.dark) (loosened_note below.loosens s below.middle new below.left)
+      ∙ group_known told tells (missed_in below.missed d s) line s fails said below.middle below.ends (missed_dark below.missed d s known)
+      (λ may. free (subst (λ (k : GroupNode). MayDarken k line said) (missed_note below.missed d s) may))
+
   pub over_known : (line : ScriptLine) → (MayDarken here line said → ⊥) → OverRvg told d line s fails said new → (note_at (new.world.nodes s)).dark ≡ false
+  over_known (GroupDeport site) free ends = below_known (GroupDeport site) free ends
   over_known (Recover site) free ends = back_or_known (Recover site) free ends
   over_known (Read site volume start count) free ends =
       read_by told d (Read site volume start count) volume start count s fails said new ((note_at (new.world.nodes s)).dark ≡ false) (λ it. line_known (Read site volume start count) it) (λ left. ap (λ (g : GroupNode). g.dark) (read_note d new s left) ∙ known) (is_data (kind_named (d.world.nodes s) volume)) ends

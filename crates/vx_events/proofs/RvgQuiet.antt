@@ -1,23 +1,27 @@
 -- Where no call of a line failed, and no fuse ran out in it, imports of a group of disks with a replicated volume group agree behind it as before.
-use Rattle.std.proofs.Common.{◌≡◌, ◌∙◌, ◌⊎◌, inl, inr, ℕ, true, false, Option, Some, ap, subst, sym}
-use Rattle.std.specs.Prelude.{unwrap_or}
+use Rattle.std.proofs.Common.{◌≡◌, ◌∙◌, ◌⊎◌, inl, inr, ℕ, Bool, true, false, List, Option, Some, ap, refl, subst, sym}
+use Rattle.std.specs.Prelude.{◌||◌, unwrap_or}
 use Rattle.vx_model.specs.declared.no.Counted.TheVariants.{Number}
 use Rattle.vx_model.specs.declared.no.No.{No}
 use Rattle.vx_model.specs.declared.no.No.TheVariants.{Limit}
 use Rattle.vx_history.specs.Doubts.{Doubted}
-use Rattle.vx_history.specs.Groups.{GroupNode}
+use Rattle.vx_history.specs.Groups.{GroupNode, MissedNote, NoteSettles}
 use Rattle.vx_history.specs.World.{Node, World}
+use Rattle.vx_config.specs.declared.config.Config.{Config}
 use Rattle.vx_script.specs.declared.line.ScriptLine.{ScriptLine}
-use Rattle.vx_script.specs.declared.line.ScriptLine.TheVariants.{Recover, Write, Put, Read, Show}
+use Rattle.vx_script.specs.declared.line.ScriptLine.TheVariants.{GroupDeport, Recover, Write, Put, Read, Show}
+use Rattle.vx_events.proofs.KnownLaws.{left_note}
 use Rattle.vx_events.proofs.RvgEnding.{never_found}
+use Rattle.vx_events.proofs.RvgMissed.{loosened_group, missed_agrees, missed_node}
 use Rattle.vx_events.proofs.RvgStays.{back_group, but_group}
 use Rattle.vx_events.specs.Fails.{Fails}
-use Rattle.vx_events.specs.GroupEnds.{NotFoundLeaves}
-use Rattle.vx_events.specs.GroupNotes.{NotesBack, NotesRefused, no_note, note_at}
+use Rattle.vx_events.specs.GroupEnds.{BringsUp, FindsGroup, FindsNoGroup, GroupCut, GroupDoes, GroupDone, GroupEnds, GroupFails, GroupLacks, GroupNotFound, ImportFails, InitFails, KeptUnread, NotFoundLeaves}
+use Rattle.vx_events.specs.GroupMaps.{WithMaps}
+use Rattle.vx_events.specs.GroupNotes.{NotesBack, NotesRefused, Reconfigures, no_note, note_at}
 use Rattle.vx_events.specs.RvgBack.{GroupHeld, GroupUnfound, LogFails, LogLacks, RvgBack, RvgFinds, RvgUp}
 use Rattle.vx_order.specs.Calls.{is_data}
 use Rattle.vx_events.proofs.ReadsLeave.{read_by, read_note}
-use Rattle.vx_events.specs.RvgOver.{EndsOver, NotesLine, OverRvg, SaysOver, kind_named}
+use Rattle.vx_events.specs.RvgOver.{BelowEnds, EndsOver, NotesLine, OverRvg, SaysOver, kind_named, missed_in, note_loosened}
 use Rattle.vx_events.specs.RvgWorks.{FuseRanOut, NoneFailed, NoteAgrees, NotesWork}
 use Rattle.vx_events.specs.declared.said.Said.{Said}
 use Rattle.vx_events.proofs.RvgKnown.{noted_over_here}
@@ -40,6 +44,33 @@ agrees_unfound other note next leaves a = agrees_note note next leaves a
 
 agrees_at : (m : Node) (next : GroupNode) → m.group ≡ Some next → NoteAgrees next → NoteAgrees (note_at m)
 agrees_at m next is a = subst (λ (g : GroupNode). NoteAgrees g) (sym (ap (λ (o : Option GroupNode). unwrap_or o no_note) is)) a
+
+-- where no commit was refused
+pub settled_maps : {C : Config → Config → Type 0} {Maps : Config → Config → MissedNote → MissedNote → Type 0} (note next : GroupNode) → WithMaps (Reconfigures C NoteSettles) Maps note next → NoteAgrees note → NoteAgrees next
+settled_maps note next x a =
+    let rests = x.goes.keeps.tight a.loose a.begun in
+    agrees_same x.middle next (ap (λ (g : GroupNode). g.loose) x.is) (ap (λ (g : GroupNode). g.begun) x.is) (record { loose = rests.1; begun = rests.0 })
+
+-- ---- a line on the group alone
+
+-- such a line, where it is done
+module _ (told : Type 0) (d : Doubted) (line : ScriptLine) (s : ℕ) (fails : Fails) (said : Said) (new : Doubted) (none : NoneFailed s fails) (dry : FuseRanOut (d.world.nodes s) said → ⊥)
+    (rests : BringsUp line → ⊥) (does : (note next : GroupNode) → GroupDoes told s (d.world.nodes s) note line fails said next → NoteAgrees note → NoteAgrees next) (a : NoteAgrees (note_at (d.world.nodes s))) where
+  pub group_agrees : GroupEnds told d line s fails said new → NoteAgrees (note_at (new.world.nodes s))
+  group_agrees (GroupDone next are done left) = agrees_at (new.world.nodes s) next (left_note s line next _ new left) (does (note_at (d.world.nodes s)) next done a)
+  group_agrees (GroupLacks why wants without says left) = agrees_at (new.world.nodes s) (note_at (d.world.nodes s)) (left_note s line (note_at (d.world.nodes s)) d new left) a
+  group_agrees (GroupFails disk next are has spoils says left) = absurd (none disk has)
+  group_agrees (InitFails disk site is are has says left) = absurd (none disk has)
+  group_agrees (ImportFails why next site is are refuses begun says left) = absurd (rests (subst BringsUp (sym is) tt))
+  group_agrees (KeptUnread disk next site is are has back says left) = absurd (none disk has)
+  group_agrees (GroupCut next are fused cuts says left) = absurd (dry (fused, says))
+  group_agrees (GroupNotFound why next are brings not leaves says left) = absurd (rests brings)
+  group_agrees (FindsGroup next are brings unknown dark says left) = absurd (rests brings)
+  group_agrees (FindsNoGroup next why are brings unknown device refused says left) = absurd (rests brings)
+
+tight_still : (loosens : Bool) (note : GroupNode) → (loosens ≡ true → ⊥) → NoteAgrees note → NoteAgrees (note_loosened loosens note)
+tight_still true note never a = absurd (never refl)
+tight_still false note never a = record { loose = a.loose; begun = a.begun }
 
 -- ---- a line at such a site
 
@@ -82,7 +113,16 @@ module _ (told : Type 0) (tells : told) (d : Doubted) (s : ℕ) (fails : Fails) 
   back_or line (inl back) = back_agrees line back
   back_or line (inr finds) = absurd (never_found told tells d s bright fails said new line a.loose finds)
 
+  -- one on the group alone
+  below_agrees : (line : ScriptLine) → (BringsUp line → ⊥) → ((n : Node) (note next : GroupNode) → GroupDoes told s n note line fails said next → NoteAgrees note → NoteAgrees next) → BelowEnds told d line s fails said new → NoteAgrees (note_at (new.world.nodes s))
+  below_agrees line rests does below =
+      agrees_at (new.world.nodes s) (note_loosened below.loosens (note_at (below.middle.world.nodes s))) (loosened_group below.loosens s below.middle new below.left)
+      (tight_still below.loosens (note_at (below.middle.world.nodes s)) (λ loosens. below.why loosens none dry)
+      (group_agrees told (missed_in below.missed d s) line s fails said below.middle none (λ off. dry (subst (λ (n : Node). FuseRanOut n said) (missed_node below.missed d s) off)) rests
+      (λ note next done. does ((missed_in below.missed d s).world.nodes s) note next done) (missed_agrees below.missed d s a) below.ends))
+
   pub over_agrees : (line : ScriptLine) → OverRvg told d line s fails said new → NoteAgrees (note_at (new.world.nodes s))
+  over_agrees (GroupDeport site) ends = below_agrees (GroupDeport site) (λ brings. brings) (λ n note next done. settled_maps note next done.0) ends
   over_agrees (Recover site) ends = back_or (Recover site) ends
   over_agrees (Read site volume start count) ends =
       read_by told d (Read site volume start count) volume start count s fails said new (NoteAgrees (note_at (new.world.nodes s))) (λ it. line_ends (Read site volume start count) it) (λ left. agrees_note (note_at (d.world.nodes s)) (note_at (new.world.nodes s)) (read_note d new s left) a) (is_data (kind_named (d.world.nodes s) volume)) ends

@@ -1,31 +1,33 @@
 -- A line at a site over a group of disks with a replicated volume group leaves it noted with the one that it had, on the same volumes.
-use Rattle.std.proofs.Common.{◌≡◌, ◌∙◌, ◌⊎◌, inl, inr, ℕ, Bool, true, false, List, Option, Some, ap, sym, subst}
+use Rattle.std.proofs.Common.{◌≡◌, ◌∙◌, ◌⊎◌, inl, inr, ℕ, Bool, true, false, List, Option, Some, ap, refl, sym, subst}
 use Rattle.std.specs.Prelude.{slice_get, unwrap_or}
 use Rattle.vx_model.specs.declared.no.Counted.TheVariants.{Number}
 use Rattle.vx_model.specs.declared.no.No.{No}
 use Rattle.vx_model.specs.declared.no.No.TheVariants.{Limit}
 use Rattle.vx_history.specs.Doubts.{Doubted}
-use Rattle.vx_history.specs.Groups.{GroupNode}
+use Rattle.vx_history.specs.Groups.{GroupNode, MissedNote}
 use Rattle.vx_history.specs.World.{Node, World}
 use Rattle.vx_config.specs.declared.config.Config.{Config}
 use Rattle.vx_script.specs.declared.line.ScriptLine.{ScriptLine}
-use Rattle.vx_script.specs.declared.line.ScriptLine.TheVariants.{Recover, Write, Put, Read, Show}
-use Rattle.vx_events.proofs.KnownLaws.{group_stays, never}
+use Rattle.vx_script.specs.declared.line.ScriptLine.TheVariants.{GroupDeport, Recover, Write, Put, Read, Show}
+use Rattle.vx_events.proofs.KnownLaws.{group_stays, left_note, never}
 use Rattle.vx_events.proofs.Places.{some_same}
-use Rattle.vx_events.proofs.RvgConfigs.{keeps_self, keeps_then, loses_keeps, stayed}
+use Rattle.vx_events.proofs.RvgConfigs.{again_keeps, closed_keeps, keeps_self, keeps_then, loses_keeps, stayed}
 use Rattle.vx_events.proofs.RvgKnown.{back_dark, lost_group, noted_here, noted_over_here}
+use Rattle.vx_events.proofs.RvgMissed.{loosened_note, missed_keeps}
 use Rattle.vx_events.specs.Doubts.{with_disks}
 use Rattle.vx_events.specs.Fails.{Fails}
-use Rattle.vx_events.specs.GroupConfigs.{ConfigLoses}
+use Rattle.vx_events.specs.GroupConfigs.{ConfigLoses, opened_again}
 use Rattle.vx_order.specs.Calls.{is_data}
 use Rattle.vx_events.proofs.ReadsLeave.{read_by, read_note}
-use Rattle.vx_events.specs.GroupEnds.{NotFoundLeaves}
+use Rattle.vx_events.specs.GroupEnds.{BringsUp, FindsGroup, FindsNoGroup, GroupCut, GroupCuts, GroupDoes, GroupDone, GroupEnds, GroupFails, GroupLacks, GroupNotFound, GroupSpoils, ImportFails, InitFails, KeptUnread, NotFoundLeaves}
 use Rattle.vx_events.specs.GroupLines.{group_noted, noting}
+use Rattle.vx_events.specs.GroupMaps.{WithMaps}
 use Rattle.vx_events.specs.GroupNotes.{IsKnown, NotesBack, NotesRefused, NotesUnfound, Reconfigures, no_note, note_at}
 use Rattle.vx_events.specs.GroupViews.{config_of}
 use Rattle.vx_events.specs.RvgBack.{FindsNoRvg, FindsPlain, FindsRvg, GroupHeld, GroupUnfound, IsLeftBack, IsLeftBut, LogFails, LogLacks, RvgBack, RvgFinds, RvgUp}
 use Rattle.vx_events.specs.RvgFits.{KeepsRvg, KeptConfig, NoteKeepsRvg, config_rvg, rvg_noted}
-use Rattle.vx_events.specs.RvgOver.{NotesLine, OverRvg, EndsOver, kind_named}
+use Rattle.vx_events.specs.RvgOver.{BelowEnds, NotesLine, OverRvg, EndsOver, kind_named, missed_in}
 use Rattle.vx_events.specs.RvgViews.{is_over_rvg}
 use Rattle.vx_events.specs.RvgWorks.{NotesWork, FuseRanOut, WorksCut}
 use Rattle.vx_events.specs.declared.said.Said.{Said}
@@ -56,6 +58,11 @@ reconfigured note next keeps x c at = record {
   keeps = subst (λ (k : Config). KeepsRvg k x.now) (some_same (sym x.was ∙ at)) (keeps x.old x.now x.change);
 }
 
+-- what is noted of the regions that plexes missed may go on too
+pub mapped_by : {C : Config → Config → Type 0} {K : GroupNode → GroupNode → Type 0} {Maps : Config → Config → MissedNote → MissedNote → Type 0} (note next : GroupNode)
+    → ((c d : Config) → C c d → KeepsRvg c d) → WithMaps (Reconfigures C K) Maps note next → NoteKeepsRvg note next
+mapped_by note next keeps x = then_same note x.middle next (reconfigured note x.middle keeps x.goes) (ap (λ (g : GroupNode). g.config) x.is)
+
 pub loses : {K : GroupNode → GroupNode → Type 0} (s : ℕ) (fails : Fails) (note next : GroupNode) → Reconfigures (ConfigLoses s fails) K note next → NoteKeepsRvg note next
 loses s fails note next x = reconfigured note next (λ c d. loses_keeps (λ _. false) s fails c d) x
 
@@ -74,6 +81,43 @@ unfound_config other note next leaves = ap (λ (g : GroupNode). g.config) leaves
 -- what a site notes of its group
 pub by_note : (m : Node) (note next : GroupNode) → m.group ≡ Some next → NoteKeepsRvg note next → NoteKeepsRvg note (note_at m)
 by_note m note next is keeps = subst (λ (g : GroupNode). NoteKeepsRvg note g) (sym (ap (λ (o : Option GroupNode). unwrap_or o no_note) is)) keeps
+
+-- ---- a line on the group alone
+
+-- such a line keeps it, where it is done, fails and is cut off so
+module _ (told : Type 0) (d : Doubted) (line : ScriptLine) (s : ℕ) (fails : Fails) (said : Said) (new : Doubted) (rests : BringsUp line → ⊥)
+    (does : (note next : GroupNode) → GroupDoes told s (d.world.nodes s) note line fails said next → NoteKeepsRvg note next) (spoils : (note next : GroupNode) → GroupSpoils s note line fails next → NoteKeepsRvg note next)
+    (cuts : (note next : GroupNode) → GroupCuts s note line fails next → NoteKeepsRvg note next) where
+  abbrev noted : GroupNode
+  noted = note_at (d.world.nodes s)
+
+  pub group_keeps : GroupEnds told d line s fails said new → NoteKeepsRvg (note_at (d.world.nodes s)) (note_at (new.world.nodes s))
+  group_keeps (GroupDone next are done left) = by_note (new.world.nodes s) noted next (left_note s line next _ new left) (does noted next done)
+  group_keeps (GroupLacks why wants none says left) = by_note (new.world.nodes s) noted noted (left_note s line noted d new left) (same_config noted noted refl)
+  group_keeps (GroupFails disk next are has spoiled says left) = by_note (new.world.nodes s) noted next (left_note s line next _ new left) (spoils noted next spoiled)
+  group_keeps (InitFails disk site is are has says left) = subst (λ (w : World). NoteKeepsRvg (note_at (d.world.nodes s)) (note_at (w.nodes s))) (sym left.world) (same_config noted noted refl)
+  group_keeps (ImportFails why next site is are refuses begun says left) = absurd (rests (subst BringsUp (sym is) tt))
+  group_keeps (KeptUnread disk next site is are has back says left) = absurd (rests (subst BringsUp (sym is) tt))
+  group_keeps (GroupCut next are fused cut says left) = by_note (new.world.nodes s) noted next (left_note s line next _ new left) (cuts noted next cut)
+  group_keeps (GroupNotFound why next are brings not leaves says left) = absurd (rests brings)
+  group_keeps (FindsGroup next are brings unknown dark says left) = absurd (rests brings)
+  group_keeps (FindsNoGroup next why are brings unknown device refused says left) = absurd (rests brings)
+
+-- a deport
+deport_keeps : (s : ℕ) (fails : Fails) (note next : GroupNode) (told : Type 0) (n : Node) (site : List ℕ) (said : Said) → GroupDoes told s n note (GroupDeport site) fails said next → NoteKeepsRvg note next
+deport_keeps s fails note next told n site said does =
+    mapped_by note next
+    (λ c d x.
+    keeps_then c (opened_again c) d (again_keeps c)
+    (keeps_then (opened_again c) (opened_again d) d (loses_keeps (λ _. false) s fails (opened_again c) (opened_again d) x) (closed_keeps d))) does.0
+
+below_stays : (told : Type 0) (d : Doubted) (site : List ℕ) (s : ℕ) (fails : Fails) (said : Said) (new : Doubted) → BelowEnds told d (GroupDeport site) s fails said new → NoteKeepsRvg (note_at (d.world.nodes s)) (note_at (new.world.nodes s))
+below_stays told d site s fails said new below =
+    missed_keeps below.missed d s (note_at (new.world.nodes s))
+    (then_same (note_at ((missed_in below.missed d s).world.nodes s)) (note_at (below.middle.world.nodes s)) (note_at (new.world.nodes s))
+    (group_keeps told (missed_in below.missed d s) (GroupDeport site) s fails said below.middle (λ brings. brings) (λ note next does. deport_keeps s fails note next told ((missed_in below.missed d s).world.nodes s) site said does)
+    (λ note next spoils. mapped_by note next (λ c e. loses_keeps (λ _. false) s fails c e) spoils) (λ note next cuts. mapped_by note next (λ c e. loses_keeps (λ _. false) s fails c e) cuts) below.ends)
+    (ap (λ (g : GroupNode). g.config) (loosened_note below.loosens s below.middle new below.left)))
 
 -- ---- recoveries and imports
 
@@ -167,6 +211,7 @@ module _ (told : Type 0) (d : Doubted) (s : ℕ) (fails : Fails) (said : Said) (
 
   -- the line left it noted so, or found something on disks of which nothing is known
   pub stays_or_finds : (line : ScriptLine) → OverRvg told d line s fails said new → Stays ⊎ RvgFinds told d line s fails said new
+  stays_or_finds (GroupDeport site) ends = inl (below_stays told d site s fails said new ends)
   stays_or_finds (Recover site) ends = back_or (Recover site) ends
   stays_or_finds (Read site volume start count) ends =
       read_by told d (Read site volume start count) volume start count s fails said new (Stays ⊎ RvgFinds told d (Read site volume start count) s fails said new) (λ it. inl (line_stays told d (Read site volume start count) s fails said new over it)) (λ left. inl (same_note (note_at (d.world.nodes s)) (note_at (new.world.nodes s)) (read_note d new s left))) (is_data (kind_named (d.world.nodes s) volume)) ends

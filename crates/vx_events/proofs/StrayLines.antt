@@ -8,7 +8,7 @@ use Rattle.vx_history.specs.World.{Node, World}
 use Rattle.vx_history.specs.declared.event.Event.{Event}
 use Rattle.vx_history.specs.declared.event.Event.TheVariants.{Crash as CrashAt, Fault, Recover as RecoverAt}
 use Rattle.vx_script.specs.declared.line.ScriptLine.{ScriptLine}
-use Rattle.vx_script.specs.declared.line.ScriptLine.TheVariants.{Read, Recover, Rvg, Show}
+use Rattle.vx_script.specs.declared.line.ScriptLine.TheVariants.{GroupDeport, Read, Recover, Rvg, Show}
 use Rattle.vx_events.proofs.Straying.{run_strays, runs_strays}
 use Rattle.vx_events.specs.Doubts.{IsAs}
 use Rattle.vx_events.specs.Ends.{AllDone, DiskFails, Ends, FindsLinks, FindsNone, FromBare, FromDown, FromUp, FuseRunsOut, HeaderFails, NoNumber, Recovering, ShowsReceived, place_of as site_of}
@@ -29,7 +29,7 @@ use Rattle.vx_events.specs.RvgNotes.{volume_events}
 use Rattle.vx_events.specs.GroupNotes.{IsKnown, note_at}
 use Rattle.vx_order.specs.Calls.{is_data}
 use Rattle.vx_events.proofs.ReadsLeave.{read_by}
-use Rattle.vx_events.specs.RvgOver.{EndsOver, OverRvg, kind_named}
+use Rattle.vx_events.specs.RvgOver.{BelowEnds, EndsOver, OverRvg, kind_named, missed_in}
 use Rattle.vx_events.specs.RvgParts.{RvgShort, ShortFull, ShortGroup, ShortLog, ShortMade, short_place}
 use Rattle.vx_events.specs.RvgSteps.{AsBefore, FoundOne, FullBy, StepFull, WorksAbove, WorksBeside, WorksFull, is_for_rvg, rvg_place}
 use Rattle.vx_events.specs.StepsOver.{WorksOver, group_place, is_for_group, refused_over}
@@ -135,6 +135,10 @@ pub ends_over_strays : (told : Type 0) (d : Doubted) (line : ScriptLine) (s : �
 ends_over_strays told d line s fails said new h =
     h.left.strayed ∙ site_strays (IsKnown told (note_at (d.world.nodes s))) d line (site_of d.world line) h.ending h.inner h.middle h.ends
 
+-- one on the group alone
+below_strays : (told : Type 0) (d : Doubted) (line : ScriptLine) (s : ℕ) (fails : Fails) (said : Said) (new : Doubted) → BelowEnds told d line s fails said new → StraysAs d new
+below_strays told d line s fails said new h = h.left.strayed ∙ group_strays told (missed_in h.missed d s) line s fails said h.middle h.ends
+
 -- ---- any line
 
 module _ (told : Type 0) (d : Doubted) (fails : Fails) (said : Said) (new : Doubted) where
@@ -147,6 +151,7 @@ module _ (told : Type 0) (d : Doubted) (fails : Fails) (said : Said) (new : Doub
   either_strays line s (inr finds) = inr finds
 
   over_found : (line : ScriptLine) (s : ℕ) → OverRvg told d line s fails said new → CalmOrFinds s line
+  over_found (GroupDeport site) s ends = inl (below_strays told d (GroupDeport site) s fails said new ends)
   over_found (Recover site) s ends = either_strays (Recover site) s ends
   over_found (Read site volume start count) s ends =
       read_by told d (Read site volume start count) volume start count s fails said new (CalmOrFinds s (Read site volume start count)) (λ it. inl (ends_over_strays told d (Read site volume start count) s fails said new it)) (λ left. inl left.strayed) (is_data (kind_named (d.world.nodes s) volume)) ends

@@ -1,9 +1,11 @@
 -- How a line that is not open ends at a site over a group of disks with a replicated volume group: as at a raw set, but that disks may fail which a mirror
--- bears, and that the site notes what the line made of its group. One that reads a volume of the group which is no data volume reads that alone.
-use Rattle.std.specs.Prelude.{◌≡◌, ◌⊎◌, ℕ, ◌<◌, Bool, true, false, List, ◌++◌, Option, Some, None, slice_get, unwrap_or, Contains}
+-- bears, and that the site notes what the line made of its group. One that reads a volume of the group which is no data volume reads that alone; and a deport ends as
+-- that of a group without a replicated volume group.
+use Rattle.std.specs.Prelude.{◌≡◌, ◌⊎◌, ℕ, ◌<◌, ◌||◌, Bool, true, false, List, ◌++◌, Option, Some, None, slice_get, unwrap_or, Contains}
 use Rattle.vx_model.specs.declared.no.No.TheVariants.{Device}
 use Rattle.vx_history.specs.Doubts.{Doubted}
-use Rattle.vx_history.specs.Groups.{GroupNode}
+use Rattle.vx_history.specs.Groups.{GroupNode, MissedNote}
+use Rattle.vx_history.specs.Missing.{with_maps}
 use Rattle.vx_history.specs.Stops.{IsOpen}
 use Rattle.vx_history.specs.Steps.{burned, worked_on}
 use Rattle.vx_history.specs.World.{Fuse, FuseLit, FuseSet, NoFuse, Node, World, with_node}
@@ -12,18 +14,19 @@ use Rattle.vx_order.specs.declared.facts.VolumeFacts.{VolumeFacts}
 use Rattle.vx_order.specs.declared.facts.VolumeKind.{VolumeKind}
 use Rattle.vx_order.specs.declared.facts.VolumeKind.TheVariants.{Data, Srl, Map, Plain}
 use Rattle.vx_script.specs.declared.line.ScriptLine.{ScriptLine}
-use Rattle.vx_script.specs.declared.line.ScriptLine.TheVariants.{Disk, Fuse as FuseLine, Put, Read, Recover, Show, Status, Write}
+use Rattle.vx_script.specs.declared.line.ScriptLine.TheVariants.{Disk, Fuse as FuseLine, GroupDeport, Put, Read, Recover, Show, Status, Write}
 use Rattle.vx_events.specs.Doubts.{IsAs}
 use Rattle.vx_events.specs.Ends.{Ends, place_of as site_of}
 use Rattle.vx_events.specs.Facts.{place_of, site_number}
 use Rattle.vx_events.specs.Fails.{Fails}
-use Rattle.vx_events.specs.GroupEnds.{AreOf, VolumeOut}
-use Rattle.vx_events.specs.GroupLines.{plain_number}
+use Rattle.vx_events.specs.GroupEnds.{AreOf, GroupEnds, VolumeOut}
+use Rattle.vx_events.specs.GroupLines.{noting, plain_number}
 use Rattle.vx_events.specs.GroupNotes.{IsKnown, note_at}
 use Rattle.vx_events.specs.GroupReplies.{GivesPlain}
 use Rattle.vx_events.specs.RvgBack.{RvgBack, RvgFinds}
+use Rattle.vx_events.specs.RvgMakes.{noting_in}
 use Rattle.vx_events.specs.RvgViews.{over_disks, table_at}
-use Rattle.vx_events.specs.RvgWorks.{NotesWork, FuseRanOut}
+use Rattle.vx_events.specs.RvgWorks.{FuseRanOut, NoneFailed, NotesWork}
 use Rattle.vx_events.specs.declared.said.Said.{Said}
 use Rattle.vx_events.specs.declared.said.Said.TheVariants.{Refused, Shown}
 
@@ -114,8 +117,32 @@ abbrev pub EndsRead : (mine : Bool) → Type 0 → Doubted → ScriptLine → (v
 EndsRead true told d line volume start count s fails said new = EndsOver told d line s fails said new
 EndsRead false told d line volume start count s fails said new = ReadsBeside told d volume start count s fails said new
 
--- a line at site s over a group with a replicated volume group, but for those on links: a recovery, a read, or another
+-- ---- a line on the group alone
+
+-- the worlds in which the site notes this of the regions that plexes of its group missed
+abbrev pub missed_in : MissedNote → Doubted → ℕ → Doubted
+missed_in w d s = noting_in d s (with_maps w (note_at (d.world.nodes s)))
+
+-- the same note, but that imports may disagree where this says so
+abbrev pub note_loosened : Bool → GroupNode → GroupNode
+note_loosened loosens note = record note { loose = loosens || note.loose }
+
+abbrev pub loosened_at : Bool → World → ℕ → World
+loosened_at loosens v s = noting v s (note_loosened loosens (note_at (v.nodes s)))
+
+-- It ends as one at a group without a replicated volume group. What plexes missed as it begins, and the serial, are not noted where calls of a replicated volume group
+-- change them: it may be anything. Where a call on a disk failed, or the fuse ran out, imports of the group may disagree behind it.
+pub record BelowEnds (told : Type 0) (d : Doubted) (line : ScriptLine) (s : ℕ) (fails : Fails) (said : Said) (new : Doubted) : Type 0 where
+  pub missed : MissedNote
+  pub middle : Doubted
+  pub ends : GroupEnds told (missed_in missed d s) line s fails said middle
+  pub loosens : Bool
+  pub why : loosens ≡ true → NoneFailed s fails → (FuseRanOut (d.world.nodes s) said → ⊥) → ⊥
+  pub left : IsAs middle (loosened_at loosens middle.world s) new
+
+-- a line at site s over a group with a replicated volume group, but for those on links: a deport, a recovery, a read, or another
 abbrev pub OverRvg : Type 0 → Doubted → ScriptLine → ℕ → Fails → Said → Doubted → Type 0
+OverRvg told d (GroupDeport site) s fails said new = BelowEnds told d (GroupDeport site) s fails said new
 OverRvg told d (Recover site) s fails said new = RvgBack told d (Recover site) s fails said new ⊎ RvgFinds told d (Recover site) s fails said new
 OverRvg told d (Read site volume start count) s fails said new =
     EndsRead (is_data (kind_named (d.world.nodes s) volume)) told d (Read site volume start count) volume start count s fails said new

@@ -3,17 +3,19 @@ use Rattle.std.proofs.Common.{◌≡◌, ◌∙◌, inl, inr, ℕ, List, [], ◌
 use Rattle.std.specs.Prelude.{Option, Some, None, unwrap_or}
 use Rattle.vx_model.specs.declared.no.No.{No}
 use Rattle.vx_history.specs.Doubts.{Doubted}
-use Rattle.vx_history.specs.Groups.{GroupNode}
+use Rattle.vx_history.specs.Groups.{GroupNode, MissedNote}
+use Rattle.vx_history.specs.Missing.{with_maps}
 use Rattle.vx_history.specs.World.{Node, World}
 use Rattle.vx_history.specs.declared.event.Event.{Event}
 use Rattle.vx_history.specs.declared.event.Event.TheVariants.{Crash as CrashAt, Recover as RecoverAt}
 use Rattle.vx_history.specs.Steps.{worked, worked_on}
 use Rattle.vx_script.specs.declared.line.ScriptLine.{ScriptLine}
-use Rattle.vx_script.specs.declared.line.ScriptLine.TheVariants.{GroupImport, Read, Recover, Rvg, Show}
+use Rattle.vx_script.specs.declared.line.ScriptLine.TheVariants.{GroupDeport, GroupImport, Read, Recover, Rvg, Show}
 use Rattle.vx_events.proofs.KnownLaws.{group_known, left_note}
 use Rattle.vx_events.proofs.RvgEnding.{never_found}
 use Rattle.vx_events.proofs.RvgFull.{brings_found}
 use Rattle.vx_events.proofs.RvgKnown.{making_known, narrowed_dark, over_known, noted_over_here}
+use Rattle.vx_events.proofs.RvgMissed.{loosened_note}
 use Rattle.vx_events.proofs.RvgStays.{back_group}
 use Rattle.vx_events.proofs.RvgTests.{gained_note}
 use Rattle.vx_events.specs.Doubts.{IsAs, run_as, with_disks}
@@ -32,7 +34,7 @@ use Rattle.vx_events.specs.RvgNotes.{volume_events}
 use Rattle.vx_events.specs.OpenLines.{is_open}
 use Rattle.vx_order.specs.Calls.{is_data}
 use Rattle.vx_events.proofs.ReadsLeave.{read_by}
-use Rattle.vx_events.specs.RvgOver.{EndsOver, OverRvg, kind_named, noting_over, fuse_behind}
+use Rattle.vx_events.specs.RvgOver.{BelowEnds, EndsOver, OverRvg, kind_named, loosened_at, missed_in, note_loosened, noting_over, fuse_behind}
 use Rattle.vx_events.specs.RvgSteps.{AsBefore, FoundOne, FullBy, StepFull, WorksAbove, WorksBeside, WorksFull, is_for_rvg, rvg_place}
 use Rattle.vx_events.specs.StepsOver.{WorksOver, group_place, is_for_group, refused_over}
 use Rattle.vx_events.specs.declared.said.Said.{Said}
@@ -134,8 +136,18 @@ module _ (told : Type 0) (tells : told) (d : Doubted) (b : AllBright d) (fails :
   beside_bright : (s : ℕ) → IsAs d (worked_on d.world s) new → AllBright new
   beside_bright s left = as_bright d (worked_on d.world s) new left (node_bright d.world s (worked (d.world.nodes s)) (b.sites s) b.sites) b
 
+  -- a line on the group alone
+  below_bright : (line : ScriptLine) (s : ℕ) → (IsHeldDown line said → ⊥) → IsBright (new.world.nodes s) → BelowEnds told d line s fails said new → AllBright new
+  below_bright line s held here below =
+      let w : MissedNote = below.missed in
+      let known : (note_at (below.middle.world.nodes s)).dark ≡ false = sym (ap (λ (k : GroupNode). k.dark) (loosened_note below.loosens s below.middle new below.left)) ∙ here in
+      let middle : AllBright below.middle = group_bright (missed_in w d s) (in_bright d s (with_maps w (note_at (d.world.nodes s))) (b.sites s) b) fails said below.middle told line s held known below.ends in
+      as_bright below.middle (loosened_at below.loosens below.middle.world s) new below.left
+      (noting_bright below.middle.world s (note_loosened below.loosens (note_at (below.middle.world.nodes s))) known middle.sites) middle
+
   place_or : (line : ScriptLine) (s : ℕ) → (IsHeldDown line said → ⊥) → (BringsUp line → (note_at (d.world.nodes s)).loose ≡ false)
       → IsBright (new.world.nodes s) → OverRvg told d line s fails said new → AllBright new
+  place_or (GroupDeport site) s held agree here below = below_bright (GroupDeport site) s held here below
   place_or (Recover site) s held agree here (inl back) = rises_bright (Recover site) s held here back
   place_or (Recover site) s held agree here (inr finds) = absurd (never_found told tells d s (b.sites s) fails said new (Recover site) (agree tt) finds)
   place_or (Read site volume start count) s held agree here ends =

@@ -6,7 +6,8 @@ use Rattle.vx_history.proofs.Updates.{by_test, eqb_apart}
 use Rattle.vx_history.specs.Doubts.{Doubted, crashed_as, halved}
 use Rattle.vx_history.specs.Events.{with_write}
 use Rattle.vx_history.specs.Good.{IsMade}
-use Rattle.vx_history.specs.Groups.{GroupNode}
+use Rattle.vx_history.specs.Groups.{GroupNode, MissedNote}
+use Rattle.vx_history.specs.Missing.{with_maps}
 use Rattle.vx_history.specs.Steps.{group_set, worked, worked_on}
 use Rattle.vx_history.specs.World.{Link as LinkRecord, Node, World, no_link}
 use Rattle.vx_history.specs.declared.event.Event.{Event}
@@ -34,7 +35,7 @@ use Rattle.vx_events.specs.RvgNotes.{volume_events}
 use Rattle.vx_events.specs.OpenLines.{is_open}
 use Rattle.vx_order.specs.Calls.{is_data}
 use Rattle.vx_events.proofs.ReadsLeave.{read_by}
-use Rattle.vx_events.specs.RvgOver.{EndsOver, OverRvg, kind_named, noting_over, fuse_behind}
+use Rattle.vx_events.specs.RvgOver.{BelowEnds, EndsOver, OverRvg, kind_named, loosened_at, missed_in, note_loosened, noting_over, fuse_behind}
 use Rattle.vx_events.specs.RvgSteps.{AsBefore, FoundOne, FullBy, StepFull, WorksAbove, WorksBeside, WorksFull, is_for_rvg, rvg_place}
 use Rattle.vx_events.specs.StepsOver.{WorksOver, group_place, is_for_group, refused_over}
 use Rattle.vx_events.specs.Strays.{gone_astray}
@@ -332,7 +333,16 @@ module _ (i : ℕ) (o : Option GroupNode) where
       read_notes : (s : ℕ) → eqb i s ≡ false → IsAs d (worked_on d.world s) new → HasNote i o new
       read_notes s apart left = OtherNotes.as_notes i o d (worked_on d.world s) new left (OtherNotes.apart_notes i o d.world s (worked (d.world.nodes s)) apart x.has.note) x.has
 
+      -- a line on the group alone
+      below_notes : (line : ScriptLine) (s : ℕ) → eqb i s ≡ false → BelowEnds told d line s fails said new → HasNote i o new
+      below_notes line s apart below =
+          let w : MissedNote = below.missed in
+          let h : HasNote i o below.middle = group_notes (missed_in w d s) (in_stands d s (with_maps w (note_at (d.world.nodes s))) apart x) told fails said below.middle line s apart below.ends in
+          OtherNotes.as_notes i o below.middle (loosened_at below.loosens below.middle.world s) new below.left
+          (OtherNotes.noting_notes i o below.middle.world s (note_loosened below.loosens (note_at (below.middle.world.nodes s))) apart h.note) h
+
       place_or : (line : ScriptLine) (s : ℕ) → may_note d.world line i ≡ false → eqb i s ≡ false → OverRvg told d line s fails said new → HasNote i o new
+      place_or (GroupDeport site) s off apart below = below_notes (GroupDeport site) s apart below
       place_or (Recover site) s off apart (inl back) = rises_notes (Recover site) s apart back
       place_or (Recover site) s off apart (inr finds) = finds_notes (Recover site) s apart finds
       place_or (Read site volume start count) s off apart ends =
