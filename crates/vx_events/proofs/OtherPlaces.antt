@@ -1,5 +1,5 @@
 -- Where a volume of a group stands that is no data volume, at a site with a replicated volume group: it is the first one of its name in the group.
-use Rattle.std.proofs.Common.{◌≡◌, ◌∙◌, ◌+◌, ◌++◌, ◌×◌, ℕ, suc, Bool, true, false, List, [], ◌∷◌, Option, Some, None, ap, arith, map, refl, subst, sym}
+use Rattle.std.proofs.Common.{◌≡◌, ◌∙◌, ◌+◌, ◌++◌, ℕ, suc, Bool, true, false, List, [], ◌∷◌, Option, Some, None, ap, arith, map, refl, subst, sym}
 use Rattle.std.proofs.lemmas.Bool.{eqb-true}
 use Rattle.std.specs.List.{find}
 use Rattle.std.specs.Prelude.{cond, if◌then◌else◌, slice_get, ◌==◌, ◌||◌}

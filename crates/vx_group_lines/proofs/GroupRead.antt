@@ -1,5 +1,5 @@
 -- What a read of a volume of a group leads a yard to.
-use Rattle.std.proofs.Common.{◌≡◌, ◌∙◌, ◌+◌, ◌-◌, ◌*◌, ◌<◌, ◌×◌, ℕ, Bool, true, List, length, take, drop, ap, sym, subst, refl, arith}
+use Rattle.std.proofs.Common.{◌≡◌, ◌∙◌, ◌+◌, ◌-◌, ◌*◌, ◌<◌, ℕ, Bool, true, List, length, take, drop, ap, sym, subst, refl, arith}
 use Rattle.std.specs.Prelude.{None, Option, Some, Ok, Err, Contains, IsSome, IsTrue, is_some, slice_get, slice_set}
 use Rattle.std.proofs.lemmas.Option.{slice_get_within}
 use Rattle.vx_model.specs.Content.{block_of}

@@ -12,22 +12,19 @@ fn a_run_ends_at_an_open_line(rt: HostRuntime) -> Result<(), Fail> {
         "vol a w 64 mirrors=1 layout=concat log=none fmr=off rdpol=round\n",
         "plex a v 1 det\n",
         "plex a v 1 att\n",
-        "apply a 1\n",
-        "show a log1 0 1\n",
-        "show a maps 0 1\n",
     ] {
         assert!(rt; ends_at(&rt, rt.alloc(), made, line, 7, wanted)?, "{line}");
     }
     Ok(())
 }
 
-// So it does at one on blocks of a volume that the replicated volume group does not have.
+// So it does at a write to a volume that the replicated volume group does not have.
 #[test]
-fn a_run_ends_at_another_volume(rt: HostRuntime) -> Result<(), Fail> {
+fn a_run_ends_at_a_write_to_another_volume(rt: HostRuntime) -> Result<(), Fail> {
     let made =
         "vol a w 64 mirrors=1 layout=concat log=none fmr=off rdpol=round\nrvg a srl=log1 dcm=maps vols=v\n";
     let wanted = "done\ndone\ndone\ndone\ndone\ndone\ndone\nbad 8 1\n";
-    for line in ["write a w 0 1 11\n", "read a w 0 1\n", "show a w 0 1\n"] {
+    for line in ["write a w 0 1 11\n", "write a w 63 1 00\n"] {
         assert!(rt; ends_at(&rt, rt.alloc(), made, line, 8, wanted)?, "{line}");
     }
     Ok(())
@@ -52,6 +49,6 @@ fn a_run_ends_at_a_link(rt: HostRuntime) -> Result<(), Fail> {
 fn lines_before_it_are_done(rt: HostRuntime) -> Result<(), Fail> {
     let made = "rvg a srl=log1 dcm=maps vols=v\nwrite a v 0 1 11\nread a v 0 1\n";
     let wanted = "done\ndone\ndone\ndone\ndone\ndone\ndone 1\n11\nbad 9 1\n";
-    assert!(rt; ends_at(&rt, rt.alloc(), made, "apply a 1\nfoo\n", 9, wanted)?);
+    assert!(rt; ends_at(&rt, rt.alloc(), made, "dg a deport\nfoo\n", 9, wanted)?);
     Ok(())
 }

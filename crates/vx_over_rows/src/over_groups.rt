@@ -50,9 +50,31 @@ fn two_volumes_have_one_log(rt: HostRuntime) -> Result<(), Fail> {
 #[test]
 fn a_mirror_that_fails_is_borne(rt: HostRuntime) -> Result<(), Fail> {
     let script =
-        b"site a 2 1024\ndg a init\nvol a log1 64 mirrors=2 layout=concat log=none fmr=off rdpol=round\nvol a maps 8 mirrors=2 layout=concat log=none fmr=off rdpol=round\nvol a v 256 mirrors=2 layout=concat log=none fmr=off rdpol=round\nrvg a srl=log1 dcm=maps vols=v\nwrite a v 0 1 11\ndisk a 1 fail\nwrite a v 1 1 22\nstatus a\ncrash a 0\ndisk a 1 ok\nrecover a\nread a v 0 2\ndisk a 0 fail\nwrite a v 2 1 33\nread a v 0 1\nwrite a v 2 1 33\n";
+        b"site a 2 1024\ndg a init\nvol a log1 64 mirrors=2 layout=concat log=none fmr=off rdpol=round\nvol a maps 8 mirrors=2 layout=concat log=none fmr=off rdpol=round\nvol a v 256 mirrors=2 layout=concat log=none fmr=off rdpol=round\nrvg a srl=log1 dcm=maps vols=v\nwrite a v 0 1 11\ndisk a 1 fail\nwrite a v 1 1 22\nstatus a\ncrash a 0\ndisk a 1 ok\nrecover a\nread a v 0 2\ndisk a 0 fail\nwrite a v 2 1 33\nread a v 0 1\nwrite a v 2 1 33\nshow a maps 7 1\nread a w 0 1\n";
     let wanted =
-        "done\ndone\ndone\ndone\ndone\ndone\ndone 1\ndone\ndone 2\nsite a up\ndisk 0 ok\ndisk 1 failed\nvol log1 64 none off\nplex 0 ACTIVE\nplex 1 STALE\nvol maps 8 none off\nplex 0 ACTIVE\nplex 1 ACTIVE\nvol v 256 none off\nplex 0 ACTIVE\nplex 1 ACTIVE\nrvg primary 1 a head 2 mark consistent session 1\ndone\ndone\nrecovered 2\nsite a up\ndisk 0 ok\ndisk 1 ok\nvol log1 64 none off\nplex 0 ACTIVE\nplex 1 STALE\nvol maps 8 none off\nplex 0 ACTIVE\nplex 1 ACTIVE\nvol v 256 none off\nplex 0 ACTIVE\nplex 1 ACTIVE\nrvg primary 1 a head 2 mark consistent session 2\n11\n22\ndone\nno 7 device 0\nno 20 halted 0\nno 20 halted 0\n";
+        "done\ndone\ndone\ndone\ndone\ndone\ndone 1\ndone\ndone 2\nsite a up\ndisk 0 ok\ndisk 1 failed\nvol log1 64 none off\nplex 0 ACTIVE\nplex 1 STALE\nvol maps 8 none off\nplex 0 ACTIVE\nplex 1 ACTIVE\nvol v 256 none off\nplex 0 ACTIVE\nplex 1 ACTIVE\nrvg primary 1 a head 2 mark consistent session 1\ndone\ndone\nrecovered 2\nsite a up\ndisk 0 ok\ndisk 1 ok\nvol log1 64 none off\nplex 0 ACTIVE\nplex 1 STALE\nvol maps 8 none off\nplex 0 ACTIVE\nplex 1 ACTIVE\nvol v 256 none off\nplex 0 ACTIVE\nplex 1 ACTIVE\nrvg primary 1 a head 2 mark consistent session 2\n11\n22\ndone\nno 7 device 0\nno 20 halted 0\nno 20 halted 0\nno 20 halted 0\nno 20 halted 0\n";
+    assert!(rt; is_done(&rt, rt.alloc(), script, wanted)?);
+    Ok(())
+}
+
+// A volume of the group that is none of the replicated volume group is read as it was, before that is made and behind it, and behind a crash. The log and the maps are shown.
+#[test]
+fn other_volumes_are_read(rt: HostRuntime) -> Result<(), Fail> {
+    let script =
+        b"site a 2 1024\ndg a init\nvol a log1 64 mirrors=2 layout=concat log=none fmr=off rdpol=round\nvol a maps 8 mirrors=2 layout=concat log=none fmr=off rdpol=round\nvol a v 256 mirrors=2 layout=concat log=none fmr=off rdpol=round\nvol a w 64 mirrors=1 layout=concat log=none fmr=off rdpol=round\nwrite a w 3 2 44\nrvg a srl=log1 dcm=maps vols=v\nread a w 2 4\nshow a w 3 1\nwrite a v 3 1 11\nread a w 3 1\ncrash a 0\nread a w 3 1\nrecover a\nread a w 3 2\nread a v 3 1\nread a w 64 1\nread a w 0 17\nread a w 0 0\nread a u 0 1\nshow a u 0 1\nshow a log1 63 1\nshow a maps 7 1\nshow a maps 8 1\nread a maps 7 1\n";
+    let wanted =
+        "done\ndone\ndone\ndone\ndone\ndone\ndone\ndone\n00\n44\n44\n00\n44\ndone 1\n44\ndone\nno 6 down\nrecovered 1\nsite a up\ndisk 0 ok\ndisk 1 ok\nvol log1 64 none off\nplex 0 ACTIVE\nplex 1 ACTIVE\nvol maps 8 none off\nplex 0 ACTIVE\nplex 1 ACTIVE\nvol v 256 none off\nplex 0 ACTIVE\nplex 1 ACTIVE\nvol w 64 none off\nplex 0 ACTIVE\nrvg primary 1 a head 1 mark consistent session 2\n44\n44\n11\nno 3 range\nno 4 size\nno 4 size\nno 1 unknown u\nno 1 unknown u\n00\n00\nno 3 range\nno 5 role\n";
+    assert!(rt; is_done(&rt, rt.alloc(), script, wanted)?);
+    Ok(())
+}
+
+// Such a read is refused where the one disk of its volume fails, and done where a mirror is left; and the replicated volume group goes on.
+#[test]
+fn other_volumes_are_read_behind_a_failed_disk(rt: HostRuntime) -> Result<(), Fail> {
+    let script =
+        b"site a 2 1024\ndg a init\nvol a log1 64 mirrors=2 layout=concat log=none fmr=off rdpol=round\nvol a maps 8 mirrors=2 layout=concat log=none fmr=off rdpol=round\nvol a v 256 mirrors=2 layout=concat log=none fmr=off rdpol=round\nvol a w 64 mirrors=1 layout=concat log=none fmr=off rdpol=round\nvol a u 64 mirrors=2 layout=concat log=none fmr=off rdpol=round\nwrite a u 5 1 66\nrvg a srl=log1 dcm=maps vols=v\ndisk a 0 fail\nread a w 0 1\nshow a w 0 1\nread a u 5 1\nshow a u 5 1\ndisk a 0 ok\nread a w 0 1\nwrite a v 0 1 11\nread a v 0 1\n";
+    let wanted =
+        "done\ndone\ndone\ndone\ndone\ndone\ndone\ndone\ndone\ndone\nno 7 device 0\nno 7 device 0\n66\n66\ndone\n00\ndone 1\n11\n";
     assert!(rt; is_done(&rt, rt.alloc(), script, wanted)?);
     Ok(())
 }

@@ -1,5 +1,5 @@
 // A run of a script, and what came of it.
-use crate::racks::fresh_racks;
+use crate::racks::memory_racks;
 use std::alloc::Global;
 use std::sync::Wait;
 use std::thread::Threads;
@@ -31,7 +31,7 @@ pub fn run_over<H: Threads + Wait + Sync, I: Source, O: Sink>(
 ) -> Result<Status, OutOfMemory> {
     let mut words = Vec::new(alloc);
     words.push(String::from_str(alloc, word)?)?;
-    let mut racks = fresh_racks(alloc, fails)?;
+    let mut racks = memory_racks(alloc, fails)?;
     Ok(vx_main(handle, alloc, &words, source, sink, &mut racks, &OpenGate))
 }
 

@@ -9,7 +9,7 @@ use vx_model::OutOfMemory;
 use vx_model::limits::MOST_SITES;
 
 /// Eight racks in memory, none of them fitted. On each the calls of these numbers, from 1, are to fail.
-pub(crate) fn fresh_racks(alloc: Global, fails: &[u64]) -> Result<Vec<MemShelf>, OutOfMemory>
+pub(crate) fn memory_racks(alloc: Global, fails: &[u64]) -> Result<Vec<MemShelf>, OutOfMemory>
     ensures { IfOk result (λ racks. AreFresh shelf_meaning racks.items) }
 {
     let mut racks = Vec::new(alloc);

@@ -1,4 +1,4 @@
--- `fresh_racks`: its result; what stays true in its loop over `step`.
+-- `memory_racks`: its result; what stays true in its loop over `step`.
 use Rattle.std.proofs.Common.{List, ap, arith, length, subst, sym}
 use Rattle.std.specs.List.{All}
 use Rattle.std.proofs.lemmas.List.{length_push}
@@ -7,7 +7,7 @@ use Rattle.vx_disk.specs.Racks.{Bare}
 use Rattle.vx_disk.specs.Meanings.{shelf_meaning}
 use Rattle.vx_disk.specs.declared.memory.MemShelf.{MemShelf}
 use Rattle.vx_cli.proofs.Fresh.{fresh}
-use Rattle.vx_runs.proofs.racks.fresh_racks.Goals as goal
+use Rattle.vx_runs.proofs.racks.memory_racks.Goals as goal
 
 pub loop-step-preserved : goal.loop-step-preserved
 loop-step-preserved c = record {
