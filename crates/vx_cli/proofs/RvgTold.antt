@@ -5,18 +5,19 @@ use Rattle.vx_history.specs.Doubts.{Doubted}
 use Rattle.vx_history.specs.Groups.{GroupNode}
 use Rattle.vx_model.specs.declared.no.No.{No}
 use Rattle.vx_model.specs.declared.units.Units.{Units}
+use Rattle.vx_order.specs.Calls.{is_data}
 use Rattle.vx_script.specs.declared.line.ScriptLine.{ScriptLine}
-use Rattle.vx_script.specs.declared.line.ScriptLine.TheVariants.{GroupDeport, Read, Recover, Rvg, Show}
+use Rattle.vx_script.specs.declared.line.ScriptLine.TheVariants.{GroupDeport, Put, Read, Recover, Rvg, Show, Write}
 use Rattle.vx_events.specs.Ends.{place_of}
 use Rattle.vx_events.specs.Facts.{site_number}
 use Rattle.vx_events.specs.Fails.{Fails}
 use Rattle.vx_events.specs.GroupNotes.{note_at}
 use Rattle.vx_events.specs.Parts.{StopsBetween, StopsDown, StopsInPart, StopsRead, StopsShort}
-use Rattle.vx_events.specs.RvgBack.{GroupHeld, GroupUnfound, LogFails, LogLacks, FindsNoRvg, FindsPlain, FindsRvg, RvgBack, RvgFinds, RvgUp}
+use Rattle.vx_events.specs.RvgBack.{GroupHeld, GroupUnfound, KeptLost, LogFails, LogLacks, FindsNoRvg, FindsPlain, FindsRvg, RvgBack, RvgFinds, RvgUp}
 use Rattle.vx_events.specs.OpenLines.{is_open}
 use Rattle.vx_events.specs.RvgMakes.{MakesRvg, RvgCut, RvgDone, RvgFails, RvgLacks}
 use Rattle.vx_events.specs.RvgNotes.{NotesLacking, NotesNarrowed, NotesNoRvg, NotesRvg}
-use Rattle.vx_events.specs.RvgOver.{BelowEnds, EndsOver, OverRvg, missed_in}
+use Rattle.vx_events.specs.RvgOver.{BelowEnds, EndsOver, OverRvg, kind_named, missed_in}
 use Rattle.vx_events.specs.RvgParts.{RvgShort, ShortFull, ShortGroup, ShortLog, ShortMade, short_place}
 use Rattle.vx_events.specs.RvgSteps.{AsBefore, FoundOne, FullBy, WorksAbove, WorksBeside, WorksFull, is_for_rvg, rvg_place}
 use Rattle.vx_events.specs.StepsOver.{group_place, is_for_group}
@@ -24,6 +25,7 @@ use Rattle.vx_events.specs.declared.said.Said.{Said}
 use Rattle.vx_events.proofs.GroupTold.{back_told, group_told, known_told, nothing_told, shows_told}
 use Rattle.vx_events.proofs.LineTold.{ends_told}
 use Rattle.vx_events.proofs.ReadsLeave.{read_told}
+use Rattle.vx_events.proofs.WritesBelow.{write_told}
 use Rattle.vx_events.proofs.Tolds.{works_told}
 
 module _ {T U : Type 0} (f : U → T) where
@@ -57,6 +59,8 @@ module _ {T U : Type 0} (f : U → T) where
       LogFails site kept taken disk middle next gone has is of failed (back_told f s (d.world.nodes s) fails (note_at (d.world.nodes s)) middle back) keeps works session says left
   came_told d line s fails said new (LogLacks site kept taken middle next has is of back keeps works lacks says left) =
       LogLacks site kept taken middle next has is of (back_told f s (d.world.nodes s) fails (note_at (d.world.nodes s)) middle back) keeps works (λ u. lacks (f u)) says left
+  came_told d line s fails said new (KeptLost site kept taken disk middle next has is of failed back keeps works says left) =
+      KeptLost site kept taken disk middle next has is of failed (back_told f s (d.world.nodes s) fails (note_at (d.world.nodes s)) middle back) keeps works says left
   came_told d line s fails said new (GroupUnfound site kept taken lost why next has is of not leaves says left) = GroupUnfound site kept taken lost why next has is of not leaves says left
   came_told d line s fails said new (GroupHeld site kept taken lost disk next has is of failed notes says left) = GroupHeld site kept taken lost disk next has is of failed notes says left
 
@@ -99,6 +103,10 @@ module _ {T U : Type 0} (f : U → T) where
   place_told d (GroupDeport site) s fails said new x = below_told d (GroupDeport site) s fails said new x
   place_told d (Recover site) s fails said new (inl x) = inl (came_told d (Recover site) s fails said new x)
   place_told d (Recover site) s fails said new (inr x) = inr (found_told d (Recover site) s fails said new x)
+  place_told d (Write site volume start count fill) s fails said new x =
+      write_told d (Write site volume start count fill) s fails said new (over_told d (Write site volume start count fill) s fails said new) (below_told d (Write site volume start count fill) s fails said new) (is_data (kind_named (d.world.nodes s) volume)) x
+  place_told d (Put site volume start bytes) s fails said new x =
+      write_told d (Put site volume start bytes) s fails said new (over_told d (Put site volume start bytes) s fails said new) (below_told d (Put site volume start bytes) s fails said new) (is_data (kind_named (d.world.nodes s) volume)) x
   place_told d (Read site volume start count) s fails said new x = read_told f d (Read site volume start count) volume start count s fails said new (over_told d (Read site volume start count) s fails said new) x
   place_told d (Show site volume start count) s fails said new x = read_told f d (Show site volume start count) volume start count s fails said new (over_told d (Show site volume start count) s fails said new) x
   place_told d other s fails said new x = over_told d other s fails said new x

@@ -9,6 +9,7 @@ pub mod GroupTold
 pub mod LineTold
 pub mod RvgStopping
 pub mod ReadsLeave
+pub mod WritesBelow
 pub mod RvgEnding
 pub mod RvgMissed
 pub mod RvgEvents

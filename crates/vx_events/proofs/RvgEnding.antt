@@ -10,7 +10,7 @@ use Rattle.vx_history.specs.Likes.{IsLike}
 use Rattle.vx_history.specs.Stops.{EventsEnd, AllDone as EventsDone, Halts, Cuts, Reads, IsLikeDoubted, IsOpen, all_fails, told_fails}
 use Rattle.vx_history.specs.World.{NoFuse, World}
 use Rattle.vx_history.specs.declared.event.Event.{Event}
-use Rattle.vx_history.specs.declared.event.Event.TheVariants.{Recover as RecoverAt}
+use Rattle.vx_history.specs.declared.event.Event.TheVariants.{Crash as CrashAt, Recover as RecoverAt}
 use Rattle.vx_script.specs.declared.line.ScriptLine.{ScriptLine}
 use Rattle.vx_script.specs.declared.line.ScriptLine.TheVariants.{Site, Raw, Disk as DiskLine, Crash, Fuse as FuseLine, GroupDeport, Recover, Write, Put, Read, Show, Apply, Status}
 use Rattle.vx_events.proofs.GroupStopping.{group_stops, noted_like}
@@ -20,6 +20,7 @@ use Rattle.vx_events.proofs.RvgMissed.{loosened_like, missed_like}
 use Rattle.vx_events.proofs.RvgStopping.{ended as ended_rvg, same_doubted}
 use Rattle.vx_events.proofs.Stopping.{BeginsWrite, Recovers, ended, runs_as}
 use Rattle.vx_order.specs.Calls.{is_data}
+use Rattle.vx_events.proofs.WritesBelow.{write_by}
 use Rattle.vx_events.proofs.ReadsLeave.{read_by, read_stops}
 use Rattle.vx_events.specs.Doubts.{run_as, with_disks}
 use Rattle.vx_events.specs.Ends.{place_of}
@@ -29,7 +30,7 @@ use Rattle.vx_events.specs.GroupEnds.{KnowsNothing}
 use Rattle.vx_events.specs.GroupLines.{group_noted, noting}
 use Rattle.vx_events.specs.GroupNotes.{IsKnown, note_at}
 use Rattle.vx_events.specs.Lists.{Choice, events_of, recovery_of, crash_count}
-use Rattle.vx_events.specs.RvgBack.{FindsNoRvg, FindsPlain, FindsRvg, GroupHeld, GroupUnfound, IsLeftBack, IsLeftBut, LogFails, LogLacks, RvgBack, RvgFinds, RvgUp, fall_first, fuse_left}
+use Rattle.vx_events.specs.RvgBack.{FindsNoRvg, FindsPlain, FindsRvg, GroupHeld, GroupUnfound, IsLeftBack, KeptLost, IsLeftBut, LogFails, LogLacks, RvgBack, RvgFinds, RvgUp, fall_first, fuse_left}
 use Rattle.vx_events.specs.RvgMakes.{RvgStops}
 use Rattle.vx_events.specs.RvgOver.{BelowEnds, EndsOver, OpensFor, OverRvg, kind_named, missed_in, noting_over, fuse_behind}
 use Rattle.vx_events.specs.RvgParts.{RvgShort, ShortGroup, ShortLog, ShortMade}
@@ -120,6 +121,9 @@ module _ (told : Type 0) (d : Doubted) (line : ScriptLine) (s : ℕ) (fails : Fa
   back_stops (LogFails site kept taken disk middle next left has is are failed back keeps works (inr begun) says leads) =
       but_by true d s line taken next (fall_first (d.world.nodes s).state s kept ++ left) ((s, disk) ∷ []) new (told_behind (fall_first (d.world.nodes s).state s kept) left (falls_tell (d.world.nodes s).state s kept) ∙ ap all_fails begun) leads
   back_stops (LogLacks site kept taken middle next has is are back keeps works lacks says left) = fall_stops d s line kept taken true next new left
+  back_stops (KeptLost site kept taken disk middle next has is are failed back keeps works says left) =
+      done_by d s line taken next (fall_first (d.world.nodes s).state s kept ++ RecoverAt s None ∷ CrashAt s 0 ∷ []) [] new
+      (told_behind (fall_first (d.world.nodes s).state s kept) (RecoverAt s None ∷ CrashAt s 0 ∷ []) (falls_tell (d.world.nodes s).state s kept)) left
   back_stops (GroupUnfound site kept taken lost why next has is are not leaves says left) = fall_stops d s line kept taken lost next new left
   back_stops (GroupHeld site kept taken lost disk next has is are failed notes says left) = fall_stops d s line kept taken lost next new left
 
@@ -216,6 +220,10 @@ module _ (told : Type 0) (d : Doubted) (s : ℕ) (fails : Fails) (said : Said) (
   pub stops_or_finds : (line : ScriptLine) → OpensFor d.world line → OverRvg told d line s fails said new → RvgStops d new ⊎ RvgFinds told d line s fails said new
   stops_or_finds (GroupDeport site) opens ends = inl (below_stops told d (GroupDeport site) s fails said new ends)
   stops_or_finds (Recover site) opens ends = back_or (Recover site) ends
+  stops_or_finds (Write site volume start count fill) opens ends =
+      write_by told d (Write site volume start count fill) s fails said new (RvgStops d new ⊎ RvgFinds told d (Write site volume start count fill) s fails said new) (λ it. inl (over_stops told d (Write site volume start count fill) s fails said new (λ recovers. recovers) (opens_at d.world (Write site volume start count fill) opens) it)) (λ below. inl (below_stops told d (Write site volume start count fill) s fails said new below)) (is_data (kind_named (d.world.nodes s) volume)) ends
+  stops_or_finds (Put site volume start bytes) opens ends =
+      write_by told d (Put site volume start bytes) s fails said new (RvgStops d new ⊎ RvgFinds told d (Put site volume start bytes) s fails said new) (λ it. inl (over_stops told d (Put site volume start bytes) s fails said new (λ recovers. recovers) (opens_at d.world (Put site volume start bytes) opens) it)) (λ below. inl (below_stops told d (Put site volume start bytes) s fails said new below)) (is_data (kind_named (d.world.nodes s) volume)) ends
   stops_or_finds (Read site volume start count) opens ends =
       read_by told d (Read site volume start count) volume start count s fails said new (RvgStops d new ⊎ RvgFinds told d (Read site volume start count) s fails said new) (λ it. inl (over_stops told d (Read site volume start count) s fails said new (λ recovers. recovers) (opens_at d.world (Read site volume start count) opens) it)) (λ left. inl (read_stops d new s left)) (is_data (kind_named (d.world.nodes s) volume)) ends
   stops_or_finds (Show site volume start count) opens ends =

@@ -13,6 +13,7 @@ use Rattle.vx_script.specs.declared.line.ScriptLine.{ScriptLine}
 use Rattle.vx_script.specs.declared.line.ScriptLine.TheVariants.{Apply, GroupDeport, Put, Read, Recover, Show, Write}
 use Rattle.vx_order.specs.Calls.{is_data}
 use Rattle.vx_events.proofs.ReadsLeave.{read_by, read_note}
+use Rattle.vx_events.proofs.WritesBelow.{write_by}
 use Rattle.vx_events.proofs.KnownLaws.{back_known, finds_none, group_known, group_stays, no_rise, same_note}
 use Rattle.vx_events.proofs.RvgMissed.{loosened_note, missed_dark, missed_note}
 use Rattle.vx_events.specs.Doubts.{with_disks}
@@ -21,7 +22,7 @@ use Rattle.vx_events.specs.GroupEnds.{BringsUp}
 use Rattle.vx_events.specs.GroupLines.{noting}
 use Rattle.vx_events.specs.GroupNotes.{Reconfigures, no_note, note_at}
 use Rattle.vx_events.specs.Known.{MayDarken}
-use Rattle.vx_events.specs.RvgBack.{FindsNoRvg, FindsPlain, FindsRvg, GroupHeld, GroupUnfound, IsLeftBack, LogFails, LogLacks, RvgBack, RvgFinds, RvgUp, fuse_left}
+use Rattle.vx_events.specs.RvgBack.{FindsNoRvg, FindsPlain, FindsRvg, GroupHeld, GroupUnfound, IsLeftBack, KeptLost, LogFails, LogLacks, RvgBack, RvgFinds, RvgUp, fuse_left}
 use Rattle.vx_events.specs.RvgMakes.{IsLeftRvg, MakesRvg, RvgCut, RvgDone, RvgFails, RvgLacks, units_at}
 use Rattle.vx_events.specs.RvgNotes.{NotesNarrowed}
 use Rattle.vx_events.specs.RvgOver.{BelowEnds, EndsOver, NotesLine, OverRvg, kind_named, missed_in, noting_over, fuse_behind}
@@ -102,6 +103,7 @@ module _ (told : Type 0) (tells : told) (d : Doubted) (s : ℕ) (known : (note_a
   back_known_too line free (LogFails site kept taken disk middle next left has is are failed back keeps works begun says leads) =
       absurd (no_rise here line said _ says free (subst BringsUp (sym is) tt))
   back_known_too line free (LogLacks site kept taken middle next has is are back keeps works lacks says left) = absurd (no_rise here line said _ says free (subst BringsUp (sym is) tt))
+  back_known_too line free (KeptLost site kept taken disk middle next has is are failed back keeps works says left) = absurd (no_rise here line said _ says free (subst BringsUp (sym is) tt))
   back_known_too line free (GroupUnfound site kept taken lost why next has is are not leaves says left) = absurd (no_rise here line said why says free (subst BringsUp (sym is) tt))
   back_known_too line free (GroupHeld site kept taken lost disk next has is are failed notes says left) = absurd (no_rise here line said _ says free (subst BringsUp (sym is) tt))
 
@@ -142,6 +144,10 @@ module _ (told : Type 0) (tells : told) (d : Doubted) (s : ℕ) (known : (note_a
   pub over_known : (line : ScriptLine) → (MayDarken here line said → ⊥) → OverRvg told d line s fails said new → (note_at (new.world.nodes s)).dark ≡ false
   over_known (GroupDeport site) free ends = below_known (GroupDeport site) free ends
   over_known (Recover site) free ends = back_or_known (Recover site) free ends
+  over_known (Write site volume start count fill) free ends =
+      write_by told d (Write site volume start count fill) s fails said new ((note_at (new.world.nodes s)).dark ≡ false) (λ it. line_known (Write site volume start count fill) it) (λ below. below_known (Write site volume start count fill) free below) (is_data (kind_named (d.world.nodes s) volume)) ends
+  over_known (Put site volume start bytes) free ends =
+      write_by told d (Put site volume start bytes) s fails said new ((note_at (new.world.nodes s)).dark ≡ false) (λ it. line_known (Put site volume start bytes) it) (λ below. below_known (Put site volume start bytes) free below) (is_data (kind_named (d.world.nodes s) volume)) ends
   over_known (Read site volume start count) free ends =
       read_by told d (Read site volume start count) volume start count s fails said new ((note_at (new.world.nodes s)).dark ≡ false) (λ it. line_known (Read site volume start count) it) (λ left. ap (λ (g : GroupNode). g.dark) (read_note d new s left) ∙ known) (is_data (kind_named (d.world.nodes s) volume)) ends
   over_known (Show site volume start count) free ends =

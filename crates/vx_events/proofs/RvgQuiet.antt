@@ -7,6 +7,7 @@ use Rattle.vx_model.specs.declared.no.No.TheVariants.{Limit}
 use Rattle.vx_history.specs.Doubts.{Doubted}
 use Rattle.vx_history.specs.Groups.{GroupNode, MissedNote, NoteSettles}
 use Rattle.vx_history.specs.World.{Node, World}
+use Rattle.vx_model.specs.Content.{Write as BlockWrite}
 use Rattle.vx_config.specs.declared.config.Config.{Config}
 use Rattle.vx_script.specs.declared.line.ScriptLine.{ScriptLine}
 use Rattle.vx_script.specs.declared.line.ScriptLine.TheVariants.{Apply, GroupDeport, Recover, Write, Put, Read, Show}
@@ -17,10 +18,11 @@ use Rattle.vx_events.proofs.RvgStays.{back_group, but_group}
 use Rattle.vx_events.specs.Fails.{Fails}
 use Rattle.vx_events.specs.GroupEnds.{BringsUp, FindsGroup, FindsNoGroup, GroupCut, GroupDoes, GroupDone, GroupEnds, GroupFails, GroupLacks, GroupNotFound, ImportFails, InitFails, KeptUnread, NotFoundLeaves}
 use Rattle.vx_events.specs.GroupMaps.{WithMaps}
-use Rattle.vx_events.specs.GroupNotes.{NotesBack, NotesRefused, Reconfigures, no_note, note_at}
-use Rattle.vx_events.specs.RvgBack.{GroupHeld, GroupUnfound, LogFails, LogLacks, RvgBack, RvgFinds, RvgUp}
+use Rattle.vx_events.specs.GroupNotes.{NotesBack, NotesRefused, NotesWrite, Reconfigures, no_note, note_at}
+use Rattle.vx_events.specs.RvgBack.{GroupHeld, GroupUnfound, KeptLost, LogFails, LogLacks, RvgBack, RvgFinds, RvgUp}
 use Rattle.vx_order.specs.Calls.{is_data}
 use Rattle.vx_events.proofs.ReadsLeave.{read_by, read_note}
+use Rattle.vx_events.proofs.WritesBelow.{write_by}
 use Rattle.vx_events.specs.RvgOver.{BelowEnds, EndsOver, NotesLine, OverRvg, SaysOver, kind_named, missed_in, note_loosened}
 use Rattle.vx_events.specs.RvgWorks.{FuseRanOut, NoneFailed, NoteAgrees, NotesWork}
 use Rattle.vx_events.specs.declared.said.Said.{Said}
@@ -50,6 +52,10 @@ pub settled_maps : {C : Config → Config → Type 0} {Maps : Config → Config 
 settled_maps note next x a =
     let rests = x.goes.keeps.tight a.loose a.begun in
     agrees_same x.middle next (ap (λ (g : GroupNode). g.loose) x.is) (ap (λ (g : GroupNode). g.begun) x.is) (record { loose = rests.1; begun = rests.0 })
+
+-- a write that was done
+written_agrees : (s : ℕ) (fails : Fails) (x : BlockWrite) (note next : GroupNode) → NotesWrite s fails x note next → NoteAgrees note → NoteAgrees next
+written_agrees s fails x note next w a = agrees_same w.middle next (ap (λ (g : GroupNode). g.loose) w.is) (ap (λ (g : GroupNode). g.begun) w.is) (settled_maps note w.middle w.moves a)
 
 -- ---- a line on the group alone
 
@@ -90,6 +96,7 @@ module _ (told : Type 0) (tells : told) (d : Doubted) (s : ℕ) (fails : Fails) 
   back_agrees line (LogLacks site kept taken middle next has is are back keeps works lacks says left) =
       agrees_at (new.world.nodes s) next (but_group true s line taken next d _ new left)
       (agrees_same works.worked next (ap (λ (g : GroupNode). g.loose) works.is) (ap (λ (g : GroupNode). g.begun) works.is) (came_agrees middle works.worked back works.works))
+  back_agrees line (KeptLost site kept taken disk middle next has is are failed back keeps works says left) = absurd (none disk failed)
   back_agrees line (GroupUnfound site kept taken lost why next has is are not leaves says left) =
       agrees_at (new.world.nodes s) next (but_group lost s line taken next d _ new left) (agrees_unfound why here next leaves a)
   back_agrees line (GroupHeld site kept taken lost disk next has is are failed notes says left) = absurd (none disk failed)
@@ -125,6 +132,12 @@ module _ (told : Type 0) (tells : told) (d : Doubted) (s : ℕ) (fails : Fails) 
   pub over_agrees : (line : ScriptLine) → OverRvg told d line s fails said new → NoteAgrees (note_at (new.world.nodes s))
   over_agrees (GroupDeport site) ends = below_agrees (GroupDeport site) (λ brings. brings) (λ n note next done. settled_maps note next done.0) ends
   over_agrees (Recover site) ends = back_or (Recover site) ends
+  over_agrees (Write site volume start count fill) ends =
+      write_by told d (Write site volume start count fill) s fails said new (NoteAgrees (note_at (new.world.nodes s))) (λ it. line_ends (Write site volume start count fill) it)
+      (λ below. below_agrees (Write site volume start count fill) (λ brings. brings) (λ n note next done. written_agrees s fails _ note next done.0) below) (is_data (kind_named (d.world.nodes s) volume)) ends
+  over_agrees (Put site volume start bytes) ends =
+      write_by told d (Put site volume start bytes) s fails said new (NoteAgrees (note_at (new.world.nodes s))) (λ it. line_ends (Put site volume start bytes) it)
+      (λ below. below_agrees (Put site volume start bytes) (λ brings. brings) (λ n note next done. written_agrees s fails _ note next done.0) below) (is_data (kind_named (d.world.nodes s) volume)) ends
   over_agrees (Read site volume start count) ends =
       read_by told d (Read site volume start count) volume start count s fails said new (NoteAgrees (note_at (new.world.nodes s))) (λ it. line_ends (Read site volume start count) it) (λ left. agrees_note (note_at (d.world.nodes s)) (note_at (new.world.nodes s)) (read_note d new s left) a) (is_data (kind_named (d.world.nodes s) volume)) ends
   over_agrees (Show site volume start count) ends =

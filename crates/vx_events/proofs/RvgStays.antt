@@ -7,6 +7,7 @@ use Rattle.vx_model.specs.declared.no.No.TheVariants.{Limit}
 use Rattle.vx_history.specs.Doubts.{Doubted}
 use Rattle.vx_history.specs.Groups.{GroupNode, MissedNote}
 use Rattle.vx_history.specs.World.{Node, World}
+use Rattle.vx_model.specs.Content.{Write as BlockWrite}
 use Rattle.vx_config.specs.declared.config.Config.{Config}
 use Rattle.vx_script.specs.declared.line.ScriptLine.{ScriptLine}
 use Rattle.vx_script.specs.declared.line.ScriptLine.TheVariants.{Apply, GroupDeport, Recover, Write, Put, Read, Show}
@@ -20,12 +21,13 @@ use Rattle.vx_events.specs.Fails.{Fails}
 use Rattle.vx_events.specs.GroupConfigs.{ConfigLoses, opened_again}
 use Rattle.vx_order.specs.Calls.{is_data}
 use Rattle.vx_events.proofs.ReadsLeave.{read_by, read_note}
+use Rattle.vx_events.proofs.WritesBelow.{write_by}
 use Rattle.vx_events.specs.GroupEnds.{BringsUp, FindsGroup, FindsNoGroup, GroupCut, GroupCuts, GroupDoes, GroupDone, GroupEnds, GroupFails, GroupLacks, GroupNotFound, GroupSpoils, ImportFails, InitFails, KeptUnread, NotFoundLeaves}
 use Rattle.vx_events.specs.GroupLines.{group_noted, noting}
 use Rattle.vx_events.specs.GroupMaps.{WithMaps}
-use Rattle.vx_events.specs.GroupNotes.{IsKnown, NotesBack, NotesRefused, NotesUnfound, Reconfigures, no_note, note_at}
+use Rattle.vx_events.specs.GroupNotes.{IsKnown, NotesBack, NotesCut, NotesDoubt, NotesRefused, NotesUnfound, NotesWrite, Reconfigures, no_note, note_at}
 use Rattle.vx_events.specs.GroupViews.{config_of}
-use Rattle.vx_events.specs.RvgBack.{FindsNoRvg, FindsPlain, FindsRvg, GroupHeld, GroupUnfound, IsLeftBack, IsLeftBut, LogFails, LogLacks, RvgBack, RvgFinds, RvgUp}
+use Rattle.vx_events.specs.RvgBack.{FindsNoRvg, FindsPlain, FindsRvg, GroupHeld, GroupUnfound, IsLeftBack, IsLeftBut, KeptLost, LogFails, LogLacks, RvgBack, RvgFinds, RvgUp}
 use Rattle.vx_events.specs.RvgFits.{KeepsRvg, KeptConfig, NoteKeepsRvg, config_rvg, rvg_noted}
 use Rattle.vx_events.specs.RvgOver.{BelowEnds, NotesLine, OverRvg, EndsOver, kind_named, missed_in}
 use Rattle.vx_events.specs.RvgViews.{is_over_rvg}
@@ -103,6 +105,17 @@ module _ (told : Type 0) (d : Doubted) (line : ScriptLine) (s : ℕ) (fails : Fa
   group_keeps (FindsGroup next are brings unknown dark says left) = absurd (rests brings)
   group_keeps (FindsNoGroup next why are brings unknown device refused says left) = absurd (rests brings)
 
+-- so it is behind what else the line notes
+module _ (told : Type 0) (d : Doubted) (line : ScriptLine) (s : ℕ) (fails : Fails) (said : Said) (new : Doubted) (rests : BringsUp line → ⊥)
+    (does : (n : Node) (note next : GroupNode) → GroupDoes told s n note line fails said next → NoteKeepsRvg note next) (spoils : (note next : GroupNode) → GroupSpoils s note line fails next → NoteKeepsRvg note next)
+    (cuts : (note next : GroupNode) → GroupCuts s note line fails next → NoteKeepsRvg note next) where
+  pub below_keeps : BelowEnds told d line s fails said new → NoteKeepsRvg (note_at (d.world.nodes s)) (note_at (new.world.nodes s))
+  below_keeps below =
+      missed_keeps below.missed d s (note_at (new.world.nodes s))
+      (then_same (note_at ((missed_in below.missed d s).world.nodes s)) (note_at (below.middle.world.nodes s)) (note_at (new.world.nodes s))
+      (group_keeps told (missed_in below.missed d s) line s fails said below.middle rests (does ((missed_in below.missed d s).world.nodes s)) spoils cuts below.ends)
+      (ap (λ (g : GroupNode). g.config) (loosened_note below.loosens s below.middle new below.left)))
+
 -- a deport
 deport_keeps : (s : ℕ) (fails : Fails) (note next : GroupNode) (told : Type 0) (n : Node) (site : List ℕ) (said : Said) → GroupDoes told s n note (GroupDeport site) fails said next → NoteKeepsRvg note next
 deport_keeps s fails note next told n site said does =
@@ -113,11 +126,22 @@ deport_keeps s fails note next told n site said does =
 
 below_stays : (told : Type 0) (d : Doubted) (site : List ℕ) (s : ℕ) (fails : Fails) (said : Said) (new : Doubted) → BelowEnds told d (GroupDeport site) s fails said new → NoteKeepsRvg (note_at (d.world.nodes s)) (note_at (new.world.nodes s))
 below_stays told d site s fails said new below =
-    missed_keeps below.missed d s (note_at (new.world.nodes s))
-    (then_same (note_at ((missed_in below.missed d s).world.nodes s)) (note_at (below.middle.world.nodes s)) (note_at (new.world.nodes s))
-    (group_keeps told (missed_in below.missed d s) (GroupDeport site) s fails said below.middle (λ brings. brings) (λ note next does. deport_keeps s fails note next told ((missed_in below.missed d s).world.nodes s) site said does)
-    (λ note next spoils. mapped_by note next (λ c e. loses_keeps (λ _. false) s fails c e) spoils) (λ note next cuts. mapped_by note next (λ c e. loses_keeps (λ _. false) s fails c e) cuts) below.ends)
-    (ap (λ (g : GroupNode). g.config) (loosened_note below.loosens s below.middle new below.left)))
+    below_keeps told d (GroupDeport site) s fails said new (λ brings. brings) (λ n note next does. deport_keeps s fails note next told n site said does)
+    (λ note next spoils. mapped_by note next (λ c e. loses_keeps (λ _. false) s fails c e) spoils) (λ note next cuts. mapped_by note next (λ c e. loses_keeps (λ _. false) s fails c e) cuts) below
+
+-- a write that was done, failed or was cut off
+module _ (s : ℕ) (fails : Fails) (x : BlockWrite) (note next : GroupNode) where
+  lost_keeps : (c e : Config) → ConfigLoses s fails c e → KeepsRvg c e
+  lost_keeps c e lost = loses_keeps (λ _. false) s fails c e lost
+
+  written_keeps : NotesWrite s fails x note next → NoteKeepsRvg note next
+  written_keeps w = then_same note w.middle next (mapped_by note w.middle lost_keeps w.moves) (ap (λ (g : GroupNode). g.config) w.is)
+
+  doubt_keeps : NotesDoubt s fails x note next → NoteKeepsRvg note next
+  doubt_keeps w = then_same note w.middle next (mapped_by note w.middle lost_keeps w.moves) (ap (λ (g : GroupNode). g.config) w.is)
+
+  cut_keeps : NotesCut s fails x note next → NoteKeepsRvg note next
+  cut_keeps w = then_same note w.middle next (mapped_by note w.middle lost_keeps w.moves) (ap (λ (g : GroupNode). g.config) w.is)
 
 -- ---- recoveries and imports
 
@@ -174,6 +198,7 @@ module _ (told : Type 0) (d : Doubted) (line : ScriptLine) (s : ℕ) (fails : Fa
   back_stays (RvgUp site kept taken middle next shown has is are back keeps works says shows left) = left_keeps taken next d _ left (works_keeps ⊥ middle next keeps works)
   back_stays (LogFails site kept taken disk middle next events has is are failed back keeps works begun says left) = but_keeps true taken next d _ left (left_cut ⊥ middle next keeps works)
   back_stays (LogLacks site kept taken middle next has is are back keeps works lacks says left) = but_keeps true taken next d _ left (left_cut ⊥ middle next keeps works)
+  back_stays (KeptLost site kept taken disk middle next has is are failed back keeps works says left) = left_keeps taken next d _ left (left_cut ⊥ middle next keeps works)
   back_stays (GroupUnfound site kept taken lost why next has is are not leaves says left) =
       but_keeps lost taken next d _ left (same_config here next (unfound_config why here next leaves))
   back_stays (GroupHeld site kept taken lost disk next has is are failed notes says left) =
@@ -214,6 +239,12 @@ module _ (told : Type 0) (d : Doubted) (s : ℕ) (fails : Fails) (said : Said) (
   pub stays_or_finds : (line : ScriptLine) → OverRvg told d line s fails said new → Stays ⊎ RvgFinds told d line s fails said new
   stays_or_finds (GroupDeport site) ends = inl (below_stays told d site s fails said new ends)
   stays_or_finds (Recover site) ends = back_or (Recover site) ends
+  stays_or_finds (Write site volume start count fill) ends =
+      write_by told d (Write site volume start count fill) s fails said new (Stays ⊎ RvgFinds told d (Write site volume start count fill) s fails said new) (λ it. inl (line_stays told d (Write site volume start count fill) s fails said new over it))
+      (λ below. inl (below_keeps told d (Write site volume start count fill) s fails said new (λ brings. brings) (λ n note next does. written_keeps s fails _ note next does.0) (λ note next spoils. doubt_keeps s fails _ note next spoils) (λ note next cuts. cut_keeps s fails _ note next cuts) below)) (is_data (kind_named (d.world.nodes s) volume)) ends
+  stays_or_finds (Put site volume start bytes) ends =
+      write_by told d (Put site volume start bytes) s fails said new (Stays ⊎ RvgFinds told d (Put site volume start bytes) s fails said new) (λ it. inl (line_stays told d (Put site volume start bytes) s fails said new over it))
+      (λ below. inl (below_keeps told d (Put site volume start bytes) s fails said new (λ brings. brings) (λ n note next does. written_keeps s fails _ note next does.0) (λ note next spoils. doubt_keeps s fails _ note next spoils) (λ note next cuts. cut_keeps s fails _ note next cuts) below)) (is_data (kind_named (d.world.nodes s) volume)) ends
   stays_or_finds (Read site volume start count) ends =
       read_by told d (Read site volume start count) volume start count s fails said new (Stays ⊎ RvgFinds told d (Read site volume start count) s fails said new) (λ it. inl (line_stays told d (Read site volume start count) s fails said new over it)) (λ left. inl (same_note (note_at (d.world.nodes s)) (note_at (new.world.nodes s)) (read_note d new s left))) (is_data (kind_named (d.world.nodes s) volume)) ends
   stays_or_finds (Show site volume start count) ends =

@@ -8,7 +8,7 @@ use Rattle.vx_history.specs.World.{Node, World}
 use Rattle.vx_history.specs.declared.event.Event.{Event}
 use Rattle.vx_history.specs.declared.event.Event.TheVariants.{Crash as CrashAt, Fault, Recover as RecoverAt}
 use Rattle.vx_script.specs.declared.line.ScriptLine.{ScriptLine}
-use Rattle.vx_script.specs.declared.line.ScriptLine.TheVariants.{GroupDeport, Read, Recover, Rvg, Show}
+use Rattle.vx_script.specs.declared.line.ScriptLine.TheVariants.{GroupDeport, Put, Read, Recover, Rvg, Show, Write}
 use Rattle.vx_events.proofs.Straying.{run_strays, runs_strays}
 use Rattle.vx_events.specs.Doubts.{IsAs}
 use Rattle.vx_events.specs.Ends.{AllDone, DiskFails, Ends, FindsLinks, FindsNone, FromBare, FromDown, FromUp, FuseRunsOut, HeaderFails, NoNumber, Recovering, ShowsReceived, place_of as site_of}
@@ -23,12 +23,13 @@ use Rattle.vx_events.specs.LinkLists.{link_events}
 use Rattle.vx_events.specs.Lists.{Choice, crash_count, events_of}
 use Rattle.vx_events.specs.OpenLines.{is_open}
 use Rattle.vx_events.specs.Parts.{PartLeft, ReadFirst, StopsBetween, StopsDown, StopsInPart, StopsRead, StopsShort}
-use Rattle.vx_events.specs.RvgBack.{FindsNoRvg, FindsPlain, FindsRvg, GroupHeld, GroupUnfound, LogFails, LogLacks, RvgBack, RvgFinds, RvgUp, fall_first}
+use Rattle.vx_events.specs.RvgBack.{FindsNoRvg, FindsPlain, FindsRvg, GroupHeld, GroupUnfound, KeptLost, LogFails, LogLacks, RvgBack, RvgFinds, RvgUp, fall_first}
 use Rattle.vx_events.specs.RvgMakes.{MakesRvg, RvgCut, RvgDone, RvgFails, RvgLacks, noting_in, units_at}
 use Rattle.vx_events.specs.RvgNotes.{volume_events}
 use Rattle.vx_events.specs.GroupNotes.{IsKnown, note_at}
 use Rattle.vx_order.specs.Calls.{is_data}
 use Rattle.vx_events.proofs.ReadsLeave.{read_by}
+use Rattle.vx_events.proofs.WritesBelow.{write_by}
 use Rattle.vx_events.specs.RvgOver.{BelowEnds, EndsOver, OverRvg, kind_named, missed_in}
 use Rattle.vx_events.specs.RvgParts.{RvgShort, ShortFull, ShortGroup, ShortLog, ShortMade, short_place}
 use Rattle.vx_events.specs.RvgSteps.{AsBefore, FoundOne, FullBy, StepFull, WorksAbove, WorksBeside, WorksFull, is_for_rvg, rvg_place}
@@ -126,6 +127,8 @@ back_strays told d line s fails said new (LogFails site kept taken disk middle n
     left.strayed ∙ run_strays taken d (fall_first (d.world.nodes s).state s kept ++ begun)
 back_strays told d line s fails said new (LogLacks site kept taken middle next has is are back keeps works lacks says left) =
     left.strayed ∙ run_strays taken d (fall_first (d.world.nodes s).state s kept)
+back_strays told d line s fails said new (KeptLost site kept taken disk middle next has is are failed back keeps works says left) =
+    left.strayed ∙ run_strays taken d (fall_first (d.world.nodes s).state s kept ++ RecoverAt s None ∷ CrashAt s 0 ∷ [])
 back_strays told d line s fails said new (GroupUnfound site kept taken lost why next has is are not leaves says left) =
     left.strayed ∙ run_strays taken d (fall_first (d.world.nodes s).state s kept)
 back_strays told d line s fails said new (GroupHeld site kept taken lost disk next has is are failed notes says left) =
@@ -153,6 +156,10 @@ module _ (told : Type 0) (d : Doubted) (fails : Fails) (said : Said) (new : Doub
   over_found : (line : ScriptLine) (s : ℕ) → OverRvg told d line s fails said new → CalmOrFinds s line
   over_found (GroupDeport site) s ends = inl (below_strays told d (GroupDeport site) s fails said new ends)
   over_found (Recover site) s ends = either_strays (Recover site) s ends
+  over_found (Write site volume start count fill) s ends =
+      write_by told d (Write site volume start count fill) s fails said new (CalmOrFinds s (Write site volume start count fill)) (λ it. inl (ends_over_strays told d (Write site volume start count fill) s fails said new it)) (λ below. inl (below_strays told d (Write site volume start count fill) s fails said new below)) (is_data (kind_named (d.world.nodes s) volume)) ends
+  over_found (Put site volume start bytes) s ends =
+      write_by told d (Put site volume start bytes) s fails said new (CalmOrFinds s (Put site volume start bytes)) (λ it. inl (ends_over_strays told d (Put site volume start bytes) s fails said new it)) (λ below. inl (below_strays told d (Put site volume start bytes) s fails said new below)) (is_data (kind_named (d.world.nodes s) volume)) ends
   over_found (Read site volume start count) s ends =
       read_by told d (Read site volume start count) volume start count s fails said new (CalmOrFinds s (Read site volume start count)) (λ it. inl (ends_over_strays told d (Read site volume start count) s fails said new it)) (λ left. inl left.strayed) (is_data (kind_named (d.world.nodes s) volume)) ends
   over_found (Show site volume start count) s ends =

@@ -141,10 +141,19 @@ pub record BelowEnds (told : Type 0) (d : Doubted) (line : ScriptLine) (s : ℕ)
   pub why : loosens ≡ true → NoneFailed s fails → (FuseRanOut (d.world.nodes s) said → ⊥) → ⊥
   pub left : IsAs middle (loosened_at loosens middle.world s) new
 
--- a line at site s over a group with a replicated volume group, but for those on links: a deport, a recovery, a read, or another
+-- a line that writes to a data volume, or to another volume of the group alone
+abbrev pub EndsWrite : (mine : Bool) → Type 0 → Doubted → ScriptLine → (s : ℕ) → Fails → Said → Doubted → Type 0
+EndsWrite true told d line s fails said new = EndsOver told d line s fails said new
+EndsWrite false told d line s fails said new = BelowEnds told d line s fails said new
+
+-- a line at site s over a group with a replicated volume group, but for those on links: a deport, a recovery, a write, a read, or another
 abbrev pub OverRvg : Type 0 → Doubted → ScriptLine → ℕ → Fails → Said → Doubted → Type 0
 OverRvg told d (GroupDeport site) s fails said new = BelowEnds told d (GroupDeport site) s fails said new
 OverRvg told d (Recover site) s fails said new = RvgBack told d (Recover site) s fails said new ⊎ RvgFinds told d (Recover site) s fails said new
+OverRvg told d (Write site volume start count fill) s fails said new =
+    EndsWrite (is_data (kind_named (d.world.nodes s) volume)) told d (Write site volume start count fill) s fails said new
+OverRvg told d (Put site volume start bytes) s fails said new =
+    EndsWrite (is_data (kind_named (d.world.nodes s) volume)) told d (Put site volume start bytes) s fails said new
 OverRvg told d (Read site volume start count) s fails said new =
     EndsRead (is_data (kind_named (d.world.nodes s) volume)) told d (Read site volume start count) volume start count s fails said new
 OverRvg told d (Show site volume start count) s fails said new =

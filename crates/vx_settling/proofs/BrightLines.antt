@@ -10,7 +10,7 @@ use Rattle.vx_history.specs.declared.event.Event.{Event}
 use Rattle.vx_history.specs.declared.event.Event.TheVariants.{Crash as CrashAt, Recover as RecoverAt}
 use Rattle.vx_history.specs.Steps.{worked, worked_on}
 use Rattle.vx_script.specs.declared.line.ScriptLine.{ScriptLine}
-use Rattle.vx_script.specs.declared.line.ScriptLine.TheVariants.{GroupDeport, GroupImport, Read, Recover, Rvg, Show}
+use Rattle.vx_script.specs.declared.line.ScriptLine.TheVariants.{GroupDeport, GroupImport, Put, Read, Recover, Rvg, Show, Write}
 use Rattle.vx_events.proofs.KnownLaws.{group_known, left_note}
 use Rattle.vx_events.proofs.RvgEnding.{never_found}
 use Rattle.vx_events.proofs.RvgFull.{brings_found}
@@ -27,13 +27,14 @@ use Rattle.vx_events.specs.GroupLines.{cut_events, group_events, group_noted, no
 use Rattle.vx_events.specs.GroupNotes.{IsKnown, no_note, note_at}
 use Rattle.vx_events.specs.Known.{MayDarken, SaysNo}
 use Rattle.vx_events.specs.Lines.{is_of_links}
-use Rattle.vx_events.specs.RvgBack.{GroupHeld, GroupUnfound, IsLeftBack, LogFails, LogLacks, RvgBack, RvgUp, fall_first}
+use Rattle.vx_events.specs.RvgBack.{GroupHeld, GroupUnfound, IsLeftBack, KeptLost, LogFails, LogLacks, RvgBack, RvgUp, fall_first}
 use Rattle.vx_events.specs.Brights.{AllBright, IsBright, IsBrightNote}
 use Rattle.vx_events.specs.RvgMakes.{IsLeftRvg, MakesRvg, RvgCut, RvgDone, RvgFails, RvgLacks, noting_in, units_at}
 use Rattle.vx_events.specs.RvgNotes.{volume_events}
 use Rattle.vx_events.specs.OpenLines.{is_open}
 use Rattle.vx_order.specs.Calls.{is_data}
 use Rattle.vx_events.proofs.ReadsLeave.{read_by}
+use Rattle.vx_events.proofs.WritesBelow.{write_by}
 use Rattle.vx_events.specs.RvgOver.{BelowEnds, EndsOver, OverRvg, kind_named, loosened_at, missed_in, note_loosened, noting_over, fuse_behind}
 use Rattle.vx_events.specs.RvgSteps.{AsBefore, FoundOne, FullBy, StepFull, WorksAbove, WorksBeside, WorksFull, is_for_rvg, rvg_place}
 use Rattle.vx_events.specs.StepsOver.{WorksOver, group_place, is_for_group, refused_over}
@@ -111,6 +112,7 @@ module _ (told : Type 0) (tells : told) (d : Doubted) (b : AllBright d) (fails :
   rises_bright line s held here (LogFails site kept taken disk middle next events has is are failed back keeps works begun says left) =
       absurd (loud said line _ held says (subst BringsUp (sym is) tt))
   rises_bright line s held here (LogLacks site kept taken middle next has is are back keeps works lacks says left) = absurd (loud said line _ held says (subst BringsUp (sym is) tt))
+  rises_bright line s held here (KeptLost site kept taken disk middle next has is are failed back keeps works says left) = absurd (loud said line _ held says (subst BringsUp (sym is) tt))
   rises_bright line s held here (GroupUnfound site kept taken lost why next has is are not leaves says left) = absurd (loud said line why held says (subst BringsUp (sym is) tt))
   rises_bright line s held here (GroupHeld site kept taken lost disk next has is are failed notes says left) = absurd (loud said line _ held says (subst BringsUp (sym is) tt))
 
@@ -150,6 +152,10 @@ module _ (told : Type 0) (tells : told) (d : Doubted) (b : AllBright d) (fails :
   place_or (GroupDeport site) s held agree here below = below_bright (GroupDeport site) s held here below
   place_or (Recover site) s held agree here (inl back) = rises_bright (Recover site) s held here back
   place_or (Recover site) s held agree here (inr finds) = absurd (never_found told tells d s (b.sites s) fails said new (Recover site) (agree tt) finds)
+  place_or (Write site volume start count fill) s held agree here ends =
+      write_by told d (Write site volume start count fill) s fails said new (AllBright new) (λ it. line_bright (Write site volume start count fill) s here it) (λ below. below_bright (Write site volume start count fill) s held here below) (is_data (kind_named (d.world.nodes s) volume)) ends
+  place_or (Put site volume start bytes) s held agree here ends =
+      write_by told d (Put site volume start bytes) s fails said new (AllBright new) (λ it. line_bright (Put site volume start bytes) s here it) (λ below. below_bright (Put site volume start bytes) s held here below) (is_data (kind_named (d.world.nodes s) volume)) ends
   place_or (Read site volume start count) s held agree here ends =
       read_by told d (Read site volume start count) volume start count s fails said new (AllBright new) (λ it. line_bright (Read site volume start count) s here it) (λ left. beside_bright s left) (is_data (kind_named (d.world.nodes s) volume)) ends
   place_or (Show site volume start count) s held agree here ends =

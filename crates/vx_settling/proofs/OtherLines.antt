@@ -29,12 +29,13 @@ use Rattle.vx_events.specs.LinkEnds.{AppliesCut, AppliesPart, AreLeft, LinkEnds,
 use Rattle.vx_events.specs.Lists.{Choice, crash_count, events_of}
 use Rattle.vx_events.specs.LinkFinds.{ApplyCut, ApplyHalts, EndsBetween, FindsOther, GivesUp, HeaderCut, HeaderHalts, IsStored, IsUnread, KeepsOther, LosesOther, MovesBetween, ReadsNone, SendsOther, SettlesOther, TakesOther}
 use Rattle.vx_events.specs.LinkLists.{link_events}
-use Rattle.vx_events.specs.RvgBack.{FindsNoRvg, FindsPlain, FindsRvg, GroupHeld, GroupUnfound, IsLeftBack, IsLeftBut, LogFails, LogLacks, RvgBack, RvgFinds, RvgUp, fall_first, fuse_left, unmade_site}
+use Rattle.vx_events.specs.RvgBack.{FindsNoRvg, FindsPlain, FindsRvg, GroupHeld, GroupUnfound, IsLeftBack, IsLeftBut, KeptLost, LogFails, LogLacks, RvgBack, RvgFinds, RvgUp, fall_first, fuse_left, unmade_site}
 use Rattle.vx_events.specs.RvgMakes.{IsLeftRvg, MakesRvg, RvgCut, RvgDone, RvgFails, RvgLacks, noting_in, units_at}
 use Rattle.vx_events.specs.RvgNotes.{volume_events}
 use Rattle.vx_events.specs.OpenLines.{is_open}
 use Rattle.vx_order.specs.Calls.{is_data}
 use Rattle.vx_events.proofs.ReadsLeave.{read_by}
+use Rattle.vx_events.proofs.WritesBelow.{write_by}
 use Rattle.vx_events.specs.RvgOver.{BelowEnds, EndsOver, OverRvg, kind_named, loosened_at, missed_in, note_loosened, noting_over, fuse_behind}
 use Rattle.vx_events.specs.RvgSteps.{AsBefore, FoundOne, FullBy, StepFull, WorksAbove, WorksBeside, WorksFull, is_for_rvg, rvg_place}
 use Rattle.vx_events.specs.StepsOver.{WorksOver, group_place, is_for_group, refused_over}
@@ -299,6 +300,8 @@ module _ (i : ℕ) (o : Option GroupNode) where
           fell line s apart taken true next (fall_first (d.world.nodes s).state s kept ++ leaves) left
       rises_notes line s apart (LogLacks site kept taken middle next has is are back keeps works lacks says left) =
           fell line s apart taken true next (fall_first (d.world.nodes s).state s kept) left
+      rises_notes line s apart (KeptLost site kept taken disk middle next has is are failed back keeps works says left) =
+          rose line s apart taken next (fall_first (d.world.nodes s).state s kept ++ RecoverAt s None ∷ CrashAt s 0 ∷ []) left
       rises_notes line s apart (GroupUnfound site kept taken lost why next has is are not leaves says left) =
           fell line s apart taken lost next (fall_first (d.world.nodes s).state s kept) left
       rises_notes line s apart (GroupHeld site kept taken lost disk next has is are failed notes says left) =
@@ -345,6 +348,10 @@ module _ (i : ℕ) (o : Option GroupNode) where
       place_or (GroupDeport site) s off apart below = below_notes (GroupDeport site) s apart below
       place_or (Recover site) s off apart (inl back) = rises_notes (Recover site) s apart back
       place_or (Recover site) s off apart (inr finds) = finds_notes (Recover site) s apart finds
+      place_or (Write site volume start count fill) s off apart ends =
+          write_by told d (Write site volume start count fill) s fails said new (HasNote i o new) (λ it. line_notes (Write site volume start count fill) s off apart it) (λ below. below_notes (Write site volume start count fill) s apart below) (is_data (kind_named (d.world.nodes s) volume)) ends
+      place_or (Put site volume start bytes) s off apart ends =
+          write_by told d (Put site volume start bytes) s fails said new (HasNote i o new) (λ it. line_notes (Put site volume start bytes) s off apart it) (λ below. below_notes (Put site volume start bytes) s apart below) (is_data (kind_named (d.world.nodes s) volume)) ends
       place_or (Read site volume start count) s off apart ends =
           read_by told d (Read site volume start count) volume start count s fails said new (HasNote i o new) (λ it. line_notes (Read site volume start count) s off apart it) (λ left. read_notes s apart left) (is_data (kind_named (d.world.nodes s) volume)) ends
       place_or (Show site volume start count) s off apart ends =
