@@ -31,6 +31,8 @@ pub mod OverFrames
 pub mod OverKept
 pub mod OverLikes
 pub mod OverPlain
+pub mod CallsBelow
+pub mod Tidied
 pub mod OverReads
 pub mod OverReceivers
 pub mod OverAsked

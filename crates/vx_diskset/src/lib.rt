@@ -17,6 +17,7 @@ mod over_calls;
 mod over_disks;
 mod over_group;
 mod over_plain;
+mod over_plexes;
 mod over_set;
 mod over_starts;
 mod over_work;
