@@ -36,6 +36,9 @@ pub mod Tidied
 pub mod OverReads
 pub mod OverReceivers
 pub mod OverAsked
+pub mod OverAway
+pub mod OverDoubted
+pub mod Loosened
 pub mod OverRecovers
 pub mod OverSettles
 pub mod OverMaking

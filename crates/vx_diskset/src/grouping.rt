@@ -17,6 +17,7 @@ ghost use Rattle.vx_diskset.specs.Asked.{FuseGoesOn, SameFailing};
 ghost use Rattle.vx_diskset.specs.DiskSets.{Later};
 ghost use Rattle.vx_diskset.specs.GroupCalls.{AtPlain, AtSite, CalledOn, OnSites, config_in, cut_in};
 ghost use Rattle.vx_diskset.specs.GroupSets.{cut_behind, cut_value};
+ghost use Rattle.vx_diskset.specs.OverAways.{DeportsBelow};
 ghost use Rattle.vx_diskset.specs.OverPlains.{AttsBelow, DetsBelow, OnOver, ReadsBelow};
 ghost use Rattle.vx_watched.specs.Traces.{TellsLess};
 
@@ -107,9 +108,11 @@ impl<R: Rack> DiskSet<R> {
         ensures failing { SameFailing self.old self.new }
         ensures later { Later self.old self.new }
         ensures since { CalledOn self.old self.new }
+        ensures over { OnOver (DeportsBelow result) self.old self.new }
     {
         match self {
             DiskSet::OfGroup(group) => deport_site(&mut group.site),
+            DiskSet::Over(over) => over.deport(),
             _ => Err(Stop::No(No::Role)),
         }
     }

@@ -13,6 +13,7 @@ mod idles;
 mod keeping;
 mod labels;
 mod over_asked;
+mod over_away;
 mod over_calls;
 mod over_disks;
 mod over_group;
