@@ -31,9 +31,14 @@ pub mod OverFrames
 pub mod OverKept
 pub mod OverLikes
 pub mod OverPlain
+pub mod CallsBelow
+pub mod Tidied
 pub mod OverReads
 pub mod OverReceivers
 pub mod OverAsked
+pub mod OverAway
+pub mod OverDoubted
+pub mod Loosened
 pub mod OverRecovers
 pub mod OverSettles
 pub mod OverMaking

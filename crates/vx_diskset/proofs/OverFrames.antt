@@ -44,6 +44,7 @@ use Rattle.vx_grouped.specs.Volumes.{SiteGoes, VolumesGo, laid_seen}
 use Rattle.vx_diskset.specs.Fuses.{FuseOn}
 use Rattle.vx_diskset.specs.Holds.{HasWrites, KeptBeside}
 use Rattle.vx_diskset.specs.Lasts.{StandsHolding}
+use Rattle.vx_diskset.specs.OverKeeps.{BelowGoes}
 use Rattle.vx_diskset.specs.Stands.{AboveStands, IsHeldAt, IsReceiverAt, IsUpAt, OverStands}
 use Rattle.vx_diskset.proofs.LastWrites.{stands_with, still_with}
 
@@ -336,3 +337,15 @@ module _ {R : Type 0} {g : Ghosts R} where
   site_stays mine a (Down idle) new goes it = subst (λ (x : GroupSite R g). AboveStays a x) (sym goes) tt
   site_stays mine a (Marked rack) new goes it = absurd it
   site_stays mine a Gone new goes it = subst (λ (x : GroupSite R g). AboveStays a x) (sym goes) tt
+
+  -- so it is over one whose disks crashed behind the call
+  pub below_stays : (mine : Blocks) (a : Above) (old new : GroupSite R g) → BelowGoes mine old new → AboveStays a old → AboveStays a new
+  below_stays mine a (Up old) (Up new) goes it = above_goes mine a old new goes it
+  below_stays mine a (Up old) (Deported idle) goes it = tt
+  below_stays mine a (Up old) (Down idle) goes it = tt
+  below_stays mine a (Up old) (Marked rack) goes it = absurd goes
+  below_stays mine a (Up old) Gone goes it = absurd goes
+  below_stays mine a (Deported idle) new goes it = subst (λ (x : GroupSite R g). AboveStays a x) (sym goes) tt
+  below_stays mine a (Down idle) new goes it = subst (λ (x : GroupSite R g). AboveStays a x) (sym goes) tt
+  below_stays mine a (Marked rack) new goes it = absurd it
+  below_stays mine a Gone new goes it = subst (λ (x : GroupSite R g). AboveStays a x) (sym goes) tt

@@ -25,7 +25,7 @@ use Rattle.vx_diskset.specs.Aboves.{AboveStays, IsOutside, above_in, above_site,
 use Rattle.vx_diskset.specs.DiskSets.{CrashedAt}
 use Rattle.vx_history.specs.Steps.{worked}
 use Rattle.vx_diskset.specs.Holds.{KeptBeside}
-use Rattle.vx_diskset.specs.OverKeeps.{KeepsOver, KeptBy, StaysAbove, StaysHere}
+use Rattle.vx_diskset.specs.OverKeeps.{BelowGoes, KeepsOver, KeptBy, StaysAbove, StaysHere}
 use Rattle.vx_diskset.specs.Stands.{AboveStands, IsHeldAt, IsOverSite, RoleBy}
 use Rattle.vx_diskset.specs.declared.above.Above.{Above}
 use Rattle.vx_diskset.specs.declared.above.Above.TheVariants.{Nothing, Origin, Receiver}
@@ -109,7 +109,7 @@ module _ {R : Type 0} {g : Ghosts R} (laws : (s : Shade R) → Lawful (shade_mea
       receiver_behind n core waiting (laid_volumes old) (laid_volumes new) mine goes sound.0 over running (law old) (law new) aside.log aside.maps aside.vols it
 
   module _ (beside : KeptBeside) (n : Node) (a : Above) (new : OverSet R g) (aside : IsAside mine a) (over : IsOverSite beside n) (running : n.halted ≡ None) where
-    kept_by : (e e' : GroupSite R g) → site_in new ≡ e' → StaysAbove a e' (above_in new) → SiteGoes mine e e' → AboveStays a e → OverUp beside n a e → StaysHere e' → KeptBy beside n new e'
+    kept_by : (e e' : GroupSite R g) → site_in new ≡ e' → StaysAbove a e' (above_in new) → BelowGoes mine e e' → AboveStays a e → OverUp beside n a e → StaysHere e' → KeptBy beside n new e'
     kept_by (Up old) (Up mid) at above goes sound it here = (
       over_on beside n (worked n) refl refl refl refl over,
       over_from beside (worked n) new.site
@@ -130,11 +130,26 @@ module _ {R : Type 0} {g : Ghosts R} (laws : (s : Shade R) → Lawful (shade_mea
     kept_by Gone e' at above goes sound it here = absurd it
 
   -- so each such call leaves it
-  pub keeps_over : (old new : OverSet R g) (a : Above) (e e' : GroupSite R g) → a ≡ above_in old → e ≡ site_in old → site_in new ≡ e' → StaysAbove a e' (above_in new) → SiteGoes mine e e' → AboveStays a e → IsAside mine a → KeepsOver old new
-  keeps_over old new a e e' above_is site_is at above goes sound aside = record {
+  pub keeps_below : (old new : OverSet R g) (a : Above) (e e' : GroupSite R g) → a ≡ above_in old → e ≡ site_in old → site_in new ≡ e' → StaysAbove a e' (above_in new) → BelowGoes mine e e' → AboveStays a e → IsAside mine a → KeepsOver old new
+  keeps_below old new a e e' above_is site_is at above goes sound aside = record {
     each = λ beside n stands state running here.
         let was : OverUp beside n (above_in old) (site_in old) = over_to beside n old.site state stands.1 in
         let it : OverUp beside n a e = subst (λ (x : GroupSite R g). OverUp beside n a x) (sym site_is) (subst (λ (x : Above). OverUp beside n x (site_in old)) (sym above_is) was) in
         subst (λ (x : GroupSite R g). KeptBy beside n new x) (sym at) (kept_by beside n a new aside stands.0 running e e' at above goes sound it (subst (λ (x : GroupSite R g). StaysHere x) at here));
     above = λ n role. role_kept n a e' new.site at above (subst (λ (x : Above). RoleBy n x) (sym above_is) role);
   }
+
+  -- one of a group that crashes as those do over which nothing stands
+  goes_below : (e e' : GroupSite R g) → SiteGoes mine e e' → BelowGoes mine e e'
+  goes_below (Up old) (Up new) goes = goes
+  goes_below (Up old) (Deported idle) goes = tt
+  goes_below (Up old) (Down idle) goes = record { mid = goes.mid; goes = goes.goes; stopped = goes.stopped; lacking = goes.lacking }
+  goes_below (Up old) (Marked rack) goes = absurd goes
+  goes_below (Up old) Gone goes = absurd goes
+  goes_below (Deported idle) e' goes = goes
+  goes_below (Down idle) e' goes = goes
+  goes_below (Marked rack) e' goes = goes
+  goes_below Gone e' goes = goes
+
+  pub keeps_over : (old new : OverSet R g) (a : Above) (e e' : GroupSite R g) → a ≡ above_in old → e ≡ site_in old → site_in new ≡ e' → StaysAbove a e' (above_in new) → SiteGoes mine e e' → AboveStays a e → IsAside mine a → KeepsOver old new
+  keeps_over old new a e e' above_is site_is at above goes sound aside = keeps_below old new a e e' above_is site_is at above (goes_below e e' goes) sound aside

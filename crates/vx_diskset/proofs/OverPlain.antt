@@ -1,11 +1,17 @@
 -- Calls on the group below a replicated volume group.
 use Rattle.std.proofs.Common.{◌≡◌, refl, subst, sym}
+use Rattle.std.specs.Prelude.{Err, Ok, OnOk, Result}
 use Rattle.vx_disk.specs.declared.shelf.Shelf.{Ghosts}
 use Rattle.vx_grouped.specs.declared.group_site.GroupSite.{GroupSite}
 use Rattle.vx_diskset.specs.OverPlains.{OnOver}
 use Rattle.vx_diskset.specs.declared.disk_set.DiskSet.{DiskSet}
 use Rattle.vx_diskset.specs.declared.disk_set.DiskSet.TheVariants.{Bare, Spoiled, Up, Receives, Down, OfGroup, Over, Gone}
 use Rattle.vx_diskset.specs.declared.over_set.OverSet.{OverSet}
+
+-- where it is done
+pub ok_carried : {T E : Type 0} {P Q : Type 0} (r : Result T E) → (P → Q) → OnOk r P → OnOk r Q
+ok_carried (Ok x) f p = f p
+ok_carried (Err e) f p = p
 
 module _ {R : Type 0} {g : Ghosts R} where
   -- between the groups below two sites

@@ -29,6 +29,7 @@ pub mod Zeroing
 pub mod Zeros
 pub mod Works
 pub mod OverAsks
+pub mod OverAways
 pub mod OverKeeps
 pub mod OverPlains
 pub mod OverRises

@@ -17,7 +17,8 @@ ghost use Rattle.vx_diskset.specs.Asked.{FuseGoesOn, SameFailing};
 ghost use Rattle.vx_diskset.specs.DiskSets.{Later};
 ghost use Rattle.vx_diskset.specs.GroupCalls.{AtPlain, AtSite, CalledOn, OnSites, config_in, cut_in};
 ghost use Rattle.vx_diskset.specs.GroupSets.{cut_behind, cut_value};
-ghost use Rattle.vx_diskset.specs.OverPlains.{OnOver, ReadsBelow};
+ghost use Rattle.vx_diskset.specs.OverAways.{DeportsBelow};
+ghost use Rattle.vx_diskset.specs.OverPlains.{AttsBelow, DetsBelow, OnOver, ReadsBelow};
 ghost use Rattle.vx_watched.specs.Traces.{TellsLess};
 
 use crate::DiskSet;
@@ -107,9 +108,11 @@ impl<R: Rack> DiskSet<R> {
         ensures failing { SameFailing self.old self.new }
         ensures later { Later self.old self.new }
         ensures since { CalledOn self.old self.new }
+        ensures over { OnOver (DeportsBelow result) self.old self.new }
     {
         match self {
             DiskSet::OfGroup(group) => deport_site(&mut group.site),
+            DiskSet::Over(over) => over.deport(),
             _ => Err(Stop::No(No::Role)),
         }
     }
@@ -140,6 +143,7 @@ impl<R: Rack> DiskSet<R> {
         ensures refused { (n : Node) (note : GroupNode) (no : NoValue) → AtSite (UpNoted n note) self.old → AtPlain (λ o. refuses_det o volume plex ≡ Some no) self.old → result ≡ Err (Refused no) }
         ensures off { OnOk result (AtSite (λ e. is_plex_on e volume plex ≡ false) self.new) }
         ensures others { OnOk result ((w p : ℕ) → (w ≡ volume → p ≡ plex → ⊥) → OnSites (λ o e. is_plex_on e w p ≡ is_plex_on o w p) self.old self.new) }
+        ensures over { OnOver (DetsBelow volume plex result) self.old self.new }
         ensures cut { cut_in self.new ≡ cut_in self.old }
         ensures fuse { (n : Node) (note : GroupNode) → AtSite (UpNoted n note) self.old → FuseGoesOn self.old self.new }
         ensures failing { SameFailing self.old self.new }
@@ -148,6 +152,7 @@ impl<R: Rack> DiskSet<R> {
     {
         match self {
             DiskSet::OfGroup(group) => group.site.det(volume, plex),
+            DiskSet::Over(over) => over.det(volume, plex),
             _ => Err(Stop::No(No::Role)),
         }
     }
@@ -161,6 +166,7 @@ impl<R: Rack> DiskSet<R> {
         ensures count { AtSite (λ o. is_plex_on o volume plex ≡ false) self.old → IfOk result (λ k. AtSite (λ o. RegionsOf o volume k) self.old) }
         ensures on { AtSite (λ o. is_plex_on o volume plex ≡ false) self.old → OnOk result (AtSite (λ e. IsTrue (is_plex_on e volume plex)) self.new) }
         ensures others { OnOk result ((w p : ℕ) → (w ≡ volume → p ≡ plex → ⊥) → OnSites (λ o e. is_plex_on e w p ≡ is_plex_on o w p) self.old self.new) }
+        ensures over { OnOver (AttsBelow volume plex result) self.old self.new }
         ensures cut { cut_in self.new ≡ cut_in self.old }
         ensures fuse { (n : Node) (note : GroupNode) → AtSite (UpNoted n note) self.old → FuseGoesOn self.old self.new }
         ensures failing { SameFailing self.old self.new }
@@ -169,6 +175,7 @@ impl<R: Rack> DiskSet<R> {
     {
         match self {
             DiskSet::OfGroup(group) => group.site.att(volume, plex),
+            DiskSet::Over(over) => over.att(volume, plex),
             _ => Err(Stop::No(No::Role)),
         }
     }

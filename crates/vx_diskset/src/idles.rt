@@ -21,8 +21,8 @@ fn is_sure<R: Rack>(laid: &Laid<R>) -> bool
     }
 }
 
-// The same disks, imports of which may disagree.
-fn doubted<R: Rack>(idle: Idle<R>) -> Idle<R>
+/// The same disks, imports of which may disagree.
+pub(crate) fn doubted<R: Rack>(idle: Idle<R>) -> Idle<R>
     ensures rack { result.rack ≡ idle.rack }
     ensures agreed { result.agreed ≡ false }
     ensures rested { result.rested ≡ idle.rested }
