@@ -11,7 +11,7 @@ use Rattle.vx_grouped.specs.GroupSites.{GroupFallen, GroupUp, UpNoted, laid_belo
 use Rattle.vx_grouped.specs.declared.group_site.GroupSite.{GroupSite}
 use Rattle.vx_grouped.specs.declared.group_site.GroupSite.TheVariants.{Up, Deported, Down, Marked, Gone}
 use Rattle.vx_diskset.specs.Noted.{IsNoteTidy}
-use Rattle.vx_diskset.specs.OverPlains.{begins, note_tidied}
+use Rattle.vx_diskset.specs.OverPlains.{any_begun, note_tidied}
 
 -- ---- flags: whether a configuration is begun, and whether imports may disagree
 
@@ -19,7 +19,7 @@ pub loose_off : (b l : Bool) → (b || l) ≡ false → l ≡ false
 loose_off true l is = absurd (let clash : true ≡ false = is in cc)
 loose_off false l is = is
 
-pub begun_off : (begun : List (List ℕ)) (l : Bool) → (begins begun || l) ≡ false → begun ≡ []
+pub begun_off : (begun : List (List ℕ)) (l : Bool) → (any_begun begun || l) ≡ false → begun ≡ []
 begun_off [] l is = refl
 begun_off (x ∷ xs) l is = absurd (let clash : true ≡ false = is in cc)
 
@@ -33,13 +33,13 @@ lies_tidied n k note core m disks blocks it = record {
   units = it.units ∙ disks;
   size = λ u low. it.size u (subst (λ (x : ℕ). u < x) (sym disks) low) ∙ blocks;
   config = it.config;
-  agreed = λ tight. it.agreed (loose_off (begins note.begun) note.loose tight);
-  committed = λ tight none. it.committed (loose_off (begins note.begun) note.loose tight) none;
+  agreed = λ tight. it.agreed (loose_off (any_begun note.begun) note.loose tight);
+  committed = λ tight none. it.committed (loose_off (any_begun note.begun) note.loose tight) none;
   images = record {
-    noted = record { each = λ tight i x each is. it.images.noted.each (loose_off (begins note.begun) note.loose tight) i x each is };
+    noted = record { each = λ tight i x each is. it.images.noted.each (loose_off (any_begun note.begun) note.loose tight) i x each is };
     newest = it.images.newest;
     openly = it.images.openly;
-    free = λ tight none. it.images.free (loose_off (begins note.begun) note.loose tight) none;
+    free = λ tight none. it.images.free (loose_off (any_begun note.begun) note.loose tight) none;
   };
   holds = record { size = it.holds.size; has = it.holds.has };
 }

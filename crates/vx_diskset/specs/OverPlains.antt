@@ -26,13 +26,13 @@ use Rattle.vx_diskset.specs.declared.disk_set.DiskSet.TheVariants.{Over}
 use Rattle.vx_diskset.specs.declared.over_set.OverSet.{OverSet}
 
 -- a configuration is begun
-abbrev pub begins : List (List ℕ) → Bool
-begins [] = false
-begins (x ∷ xs) = true
+abbrev pub any_begun : List (List ℕ) → Bool
+any_begun [] = false
+any_begun (x ∷ xs) = true
 
 -- The note behind a call on the group: while a configuration is begun imports may disagree.
 abbrev pub note_tidied : GroupNode → GroupNode
-note_tidied note = record note { loose = begins note.begun || note.loose }
+note_tidied note = record note { loose = any_begun note.begun || note.loose }
 
 module _ {R : Type 0} {g : Ghosts R} where
   -- A call that writes to no volume: each has what it had. Done, failed, or cut by the fuse, the configuration changes so; behind a fuse that ran out each that an import
