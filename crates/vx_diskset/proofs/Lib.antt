@@ -34,6 +34,7 @@ pub mod OverPlain
 pub mod OverReads
 pub mod OverReceivers
 pub mod OverAsked
+pub mod OverHolds
 pub mod OverRecovers
 pub mod OverSettles
 pub mod OverMaking
