@@ -39,6 +39,7 @@ pub mod OverAsked
 pub mod OverAway
 pub mod OverDoubted
 pub mod Loosened
+pub mod OverHolds
 pub mod OverRecovers
 pub mod OverSettles
 pub mod OverMaking

@@ -146,8 +146,8 @@ module _ (told : Type 0) (tells : told) (d : Doubted) (b : AllBright d) (fails :
       over_group : (middle : Doubted) (s : ℕ) (next : GroupNode) → IsAs middle (noting_over line d.world middle.world s next) new → (new.world.nodes s).group ≡ Some next
       over_group middle s next left = ap (λ (w : World). (w.nodes s).group) left.world ∙ noted_over_here line d.world middle.world s next
 
-  beside_bright : (s : ℕ) → IsAs d (worked_on d.world s) new → AllBright new
-  beside_bright s left = as_bright d (worked_on d.world s) new left (node_bright d.world s (worked (d.world.nodes s)) (b.sites s) b.sites) b
+  read_bright : (s : ℕ) → IsAs d (worked_on d.world s) new → AllBright new
+  read_bright s left = as_bright d (worked_on d.world s) new left (node_bright d.world s (worked (d.world.nodes s)) (b.sites s) b.sites) b
 
   -- a line on the group alone
   below_bright : (line : ScriptLine) (s : ℕ) → (IsHeldDown line said → ⊥) → IsBright (new.world.nodes s) → BelowEnds told d line s fails said new → AllBright new
@@ -170,9 +170,9 @@ module _ (told : Type 0) (tells : told) (d : Doubted) (b : AllBright d) (fails :
   place_or (Put site volume start bytes) s held agree here ends =
       write_by told d (Put site volume start bytes) s fails said new (AllBright new) (λ it. line_bright (Put site volume start bytes) s here it) (λ below. below_bright (Put site volume start bytes) s held here below) (is_data (kind_named (d.world.nodes s) volume)) ends
   place_or (Read site volume start count) s held agree here ends =
-      read_by told d (Read site volume start count) volume start count s fails said new (AllBright new) (λ it. line_bright (Read site volume start count) s here it) (λ left. beside_bright s left) (is_data (kind_named (d.world.nodes s) volume)) ends
+      read_by told d (Read site volume start count) volume start count s fails said new (AllBright new) (λ it. line_bright (Read site volume start count) s here it) (λ left. read_bright s left) (is_data (kind_named (d.world.nodes s) volume)) ends
   place_or (Show site volume start count) s held agree here ends =
-      read_by told d (Show site volume start count) volume start count s fails said new (AllBright new) (λ it. line_bright (Show site volume start count) s here it) (λ left. beside_bright s left) (is_data (kind_named (d.world.nodes s) volume)) ends
+      read_by told d (Show site volume start count) volume start count s fails said new (AllBright new) (λ it. line_bright (Show site volume start count) s here it) (λ left. read_bright s left) (is_data (kind_named (d.world.nodes s) volume)) ends
   place_or other s held agree here ends = line_bright other s here ends
 
   over_rvg_bright : (line : ScriptLine) (s : ℕ) → (IsHeldDown line said → ⊥) → (BringsUp line → (note_at (d.world.nodes s)).loose ≡ false)
