@@ -37,6 +37,7 @@ pub mod OverReads
 pub mod OverReceivers
 pub mod OverAsked
 pub mod OverAway
+pub mod OverTaking
 pub mod OverDoubted
 pub mod Loosened
 pub mod OverHolds

@@ -1,6 +1,6 @@
 -- What a recovery leaves of the disks of a site whose group has a replicated volume group.
 use Rattle.std.proofs.Common.{◌≡◌, ◌∙◌, Bool, true, false, ap, arith, inl, inr, refl, subst, sym}
-use Rattle.std.specs.Prelude.{Err, IsFalse, None, Ok, Option, Result, Some}
+use Rattle.std.specs.Prelude.{◌&&◌, Err, IsFalse, None, Ok, Option, Result, Some, not}
 use Rattle.vx_disk.specs.Disks.{Disks}
 use Rattle.vx_disk.specs.Racks.{IsRack}
 use Rattle.vx_disk.specs.Shelf.{Meaning}
@@ -14,15 +14,16 @@ use Rattle.vx_watched.specs.Since.{CalledSince, is_rack}
 use Rattle.vx_watched.specs.Traces.{TellsLess}
 use Rattle.vx_grouped.specs.Brings.{AnswersUp, ComesUp}
 use Rattle.vx_grouped.specs.GroupSites.{idle_below, idle_disks, laid_below, laid_disks, site_below, site_disks}
+use Rattle.vx_grouped.specs.SiteEnds.{stops_down}
 use Rattle.vx_grouped.specs.SiteReturns.{ReturnSince}
 use Rattle.vx_grouped.specs.declared.group_site.GroupSite.{GroupSite}
 use Rattle.vx_grouped.specs.declared.group_site.GroupSite.TheVariants.{Up, Deported, Down, Marked, Gone}
 use Rattle.vx_grouped.specs.declared.idle.Idle.{Idle}
 use Rattle.vx_grouped.specs.declared.laid.Laid.{Laid}
-use Rattle.vx_diskset.specs.Aboves.{AboveStays}
+use Rattle.vx_diskset.specs.Aboves.{AboveStays, site_in}
 use Rattle.vx_diskset.specs.GroupCalls.{AtOver, AtSite, cut_in}
 use Rattle.vx_diskset.specs.GroupSets.{cut_value}
-use Rattle.vx_diskset.specs.OverStarts.{BehindImport, BroughtBy, FellBack, HandsOut, RaisesOver, StartFails, Started, StartsOver, TriedOn, WithRvg, WithUnits}
+use Rattle.vx_diskset.specs.OverStarts.{BackAt, BehindImport, BroughtBy, FellBack, HandsOut, RaisesOver, StartFails, Started, StartsOver, TakesOver, TriedOn, WithRvg, WithUnits}
 use Rattle.vx_diskset.specs.Recovers.{RisesSince}
 use Rattle.vx_diskset.specs.declared.above.Above.{Above}
 use Rattle.vx_diskset.specs.declared.disk_set.DiskSet.{DiskSet}
@@ -88,13 +89,13 @@ module _ {R : Type 0} {g : Ghosts R} where
   pub brought_as : (old o mid : GroupSite R g) (answer : Result (Unit {0}) Stop) → old ≡ o → BroughtBy old mid answer → BroughtBy o mid answer
   brought_as old o mid answer is it = subst (λ (x : GroupSite R g). BroughtBy x mid answer) is it
 
-  pub raises_done : (old mid : GroupSite R g) (was cut : Option CutWrite) (new : DiskSet R g) (answer started : Result (Unit {0}) Stop) (r : Result (Option CutWrite) Stop) → BroughtBy old mid answer → was ≡ cut → answer ≡ Ok tt → WithRvg mid was new started → HandsOut was started r → RaisesOver old cut new r
+  pub raises_done : (old mid : GroupSite R g) (was cut : Option CutWrite) (new : DiskSet R g) (answer started : Result (Unit {0}) Stop) (r : Result (Option CutWrite) Stop) → BroughtBy old mid answer → was ≡ cut → answer ≡ Ok tt → WithRvg false mid was new started → HandsOut was started r → RaisesOver old cut new r
   raises_done old mid was cut new answer started r by same is over hands = record {
     mid = mid;
     answer = answer;
     by = by;
     started = started;
-    behind = subst (λ (a : Result (Unit {0}) Stop). BehindImport mid cut new a started) (sym is) (subst (λ (k : Option CutWrite). WithRvg mid k new started) same over);
+    behind = subst (λ (a : Result (Unit {0}) Stop). BehindImport false mid cut new a started) (sym is) (subst (λ (k : Option CutWrite). WithRvg false mid k new started) same over);
     is = subst (λ (k : Option CutWrite). HandsOut k started r) same hands;
   }
 
@@ -104,14 +105,30 @@ module _ {R : Type 0} {g : Ghosts R} where
     answer = answer;
     by = by;
     started = Err stop;
-    behind = subst (λ (a : Result (Unit {0}) Stop). BehindImport mid cut new a (Err stop)) (sym is) (at, cut_is, refl);
+    behind = subst (λ (a : Result (Unit {0}) Stop). BehindImport false mid cut new a (Err stop)) (sym is) (at, cut_is, refl);
     is = refl;
+  }
+
+  pub takes_done : (old mid : GroupSite R g) (was cut : Option CutWrite) (new : DiskSet R g) (answer r : Result (Unit {0}) Stop) → BroughtBy old mid answer → was ≡ cut → answer ≡ Ok tt → WithRvg true mid was new r → TakesOver old cut new r
+  takes_done old mid was cut new answer r by same is over = record {
+    mid = mid;
+    answer = answer;
+    by = by;
+    behind = subst (λ (a : Result (Unit {0}) Stop). BehindImport true mid cut new a r) (sym is) (subst (λ (k : Option CutWrite). WithRvg true mid k new r) same over);
+  }
+
+  pub takes_stopped : (old mid : GroupSite R g) (cut : Option CutWrite) (new : DiskSet R g) (answer : Result (Unit {0}) Stop) (stop : Stop) → BroughtBy old mid answer → answer ≡ Err stop → AtOver (λ e. e ≡ mid) new → cut_in new ≡ cut_value cut → TakesOver old cut new (Err stop)
+  takes_stopped old mid cut new answer stop by is at cut_is = record {
+    mid = mid;
+    answer = answer;
+    by = by;
+    behind = subst (λ (a : Result (Unit {0}) Stop). BehindImport true mid cut new a (Err stop)) (sym is) (at, cut_is, refl);
   }
 
   -- ---- what holds of the group behind the import, and stays so in a start, holds behind both
 
-  module _ (P : GroupSite R g → Type 0) (starts : (laid : Laid R g) (units : Units) (cut : Option CutWrite) (new : DiskSet R g) (r : Result (Unit {0}) Stop) → P (Up laid) → StartsOver units laid cut new r → AtSite P new) where
-    at_with : (laid : Laid R g) (rvg : Option Units) (cut : Option CutWrite) (new : DiskSet R g) (r : Result (Unit {0}) Stop) → P (Up laid) → WithUnits rvg laid cut new r → AtSite P new
+  module _ (away : Bool) (P : GroupSite R g → Type 0) (starts : (laid : Laid R g) (units : Units) (cut : Option CutWrite) (new : DiskSet R g) (r : Result (Unit {0}) Stop) → P (Up laid) → StartsOver away units laid cut new r → AtSite P new) where
+    at_with : (laid : Laid R g) (rvg : Option Units) (cut : Option CutWrite) (new : DiskSet R g) (r : Result (Unit {0}) Stop) → P (Up laid) → WithUnits away rvg laid cut new r → AtSite P new
     at_with laid None cut new r it over = subst (λ (x : DiskSet R g). AtSite P x) (sym over.0) it
     at_with laid (Some units) cut new r it over = starts laid units cut new r it over
 
@@ -128,7 +145,7 @@ module _ {R : Type 0} {g : Ghosts R} where
     at_same mid (Over s) it at = subst P (sym at) it
     at_same mid GoneSet it at = absurd at
 
-    at_behind : (mid : GroupSite R g) (cut : Option CutWrite) (new : DiskSet R g) (answer r : Result (Unit {0}) Stop) → P mid → BehindImport mid cut new answer r → AtSite P new
+    pub at_behind : (mid : GroupSite R g) (cut : Option CutWrite) (new : DiskSet R g) (answer r : Result (Unit {0}) Stop) → P mid → BehindImport away mid cut new answer r → AtSite P new
     at_behind (Up laid) cut new (Ok done) r it behind = at_with laid laid.core.inner.config.rvg cut new r it behind
     at_behind (Deported idle) cut new (Ok done) r it behind = at_plain (Deported idle) cut new it behind.0
     at_behind (Down idle) cut new (Ok done) r it behind = at_plain (Down idle) cut new it behind.0
@@ -156,43 +173,67 @@ module _ {R : Type 0} {g : Ghosts R} where
   back_tells : (m : Meaning) (mid : Laid R g) (idle : Idle R g) → TellsLess m (laid_below mid) → FellBack mid idle → TellsLess m (idle_below idle)
   back_tells m mid idle less fell = subst (λ (s : Shade R). TellsLess m (g.meaning (rack_of s))) (sym fell.rack) (λ told. less (fell.is.told told))
 
-  pub over_rises : (m : Meaning) (units : Units) (laid : Laid R g) (cut : Option CutWrite) (new : DiskSet R g) (r : Result (Unit {0}) Stop) → RisesSince m (laid_disks laid) → StartsOver units laid cut new r → AtSite (λ e. RisesSince m (site_disks e)) new
-  over_rises m units laid cut (Bare rack) r since it = absurd it
-  over_rises m units laid cut (Spoiled rack) r since it = absurd it
-  over_rises m units laid cut (UpSet rvg) r since it = absurd it
-  over_rises m units laid cut (Receives s) r since it = absurd it
-  over_rises m units laid cut (DownSet rack) r since it = absurd it
-  over_rises m units laid cut (OfGroup s) r since it = absurd it
-  over_rises m units laid cut (Over s) (Ok done) since it =
-      let up : Started units laid s = it in
-      subst (λ (e : GroupSite R g). RisesSince m (site_disks e)) (sym up.site) (rises_on m (laid_disks laid) (laid_disks up.laid) since up.starts.since)
-  over_rises m units laid cut (Over s) (Err stop) since it =
-      let off : StartFails units laid cut s stop = it in
-      subst (λ (e : GroupSite R g). RisesSince m (site_disks e)) (sym off.site) (back_rises m off.mid off.idle (tried_rises m units laid off.mid stop since off.tried) off.fell)
-  over_rises m units laid cut GoneSet r since it = absurd it
+  -- those of a site that was deported are by themselves
+  at_tells : (m : Meaning) (away : Bool) (idle : Idle R g) (e : GroupSite R g) → TellsLess m (idle_below idle) → BackAt away idle e → TellsLess m (site_below e)
+  at_tells m false idle e less at = subst (λ (x : GroupSite R g). TellsLess m (site_below x)) (sym at) less
+  at_tells m true idle e less (x, at, up) = subst (λ (y : GroupSite R g). TellsLess m (site_below y)) (sym at) (λ told. less (up.told told))
 
-  over_tells : (m : Meaning) (units : Units) (laid : Laid R g) (cut : Option CutWrite) (new : DiskSet R g) (r : Result (Unit {0}) Stop) → TellsLess m (laid_below laid) → StartsOver units laid cut new r → AtSite (λ e. TellsLess m (site_below e)) new
-  over_tells m units laid cut (Bare rack) r less it = absurd it
-  over_tells m units laid cut (Spoiled rack) r less it = absurd it
-  over_tells m units laid cut (UpSet rvg) r less it = absurd it
-  over_tells m units laid cut (Receives s) r less it = absurd it
-  over_tells m units laid cut (DownSet rack) r less it = absurd it
-  over_tells m units laid cut (OfGroup s) r less it = absurd it
-  over_tells m units laid cut (Over s) (Ok done) less it =
+  over_tells : (away : Bool) (m : Meaning) (units : Units) (laid : Laid R g) (cut : Option CutWrite) (new : DiskSet R g) (r : Result (Unit {0}) Stop) → TellsLess m (laid_below laid) → StartsOver away units laid cut new r → AtSite (λ e. TellsLess m (site_below e)) new
+  over_tells away m units laid cut (Bare rack) r less it = absurd it
+  over_tells away m units laid cut (Spoiled rack) r less it = absurd it
+  over_tells away m units laid cut (UpSet rvg) r less it = absurd it
+  over_tells away m units laid cut (Receives s) r less it = absurd it
+  over_tells away m units laid cut (DownSet rack) r less it = absurd it
+  over_tells away m units laid cut (OfGroup s) r less it = absurd it
+  over_tells away m units laid cut (Over s) (Ok done) less it =
       let up : Started units laid s = it in
       subst (λ (e : GroupSite R g). TellsLess m (site_below e)) (sym up.site) (λ told. less (up.starts.told told))
-  over_tells m units laid cut (Over s) (Err stop) less it =
-      let off : StartFails units laid cut s stop = it in
-      subst (λ (e : GroupSite R g). TellsLess m (site_below e)) (sym off.site) (back_tells m off.mid off.idle (tried_tells m units laid off.mid stop less off.tried) off.fell)
-  over_tells m units laid cut GoneSet r less it = absurd it
+  over_tells away m units laid cut (Over s) (Err stop) less it =
+      let off : StartFails away units laid cut s stop = it in
+      at_tells m (away && not (stops_down stop)) off.idle (site_in s) (back_tells m off.mid off.idle (tried_tells m units laid off.mid stop less off.tried) off.fell) off.site
+  over_tells away m units laid cut GoneSet r less it = absurd it
 
-  pub raise_rises : (old : GroupSite R g) (cut : Option CutWrite) (new : DiskSet R g) (r : Result (Option CutWrite) Stop) → RaisesOver old cut new r → AtSite (λ e. RisesSince (site_disks old) (site_disks e)) new
-  raise_rises old cut new r it =
-      at_behind (λ e. RisesSince (site_disks old) (site_disks e)) (λ laid units cut new r since over. over_rises (site_disks old) units laid cut new r since over) it.mid cut new it.answer it.started (rises_returned (site_disks old) (site_disks it.mid) it.by.since) it.behind
+  module _ (racks : (s : Shade R) → IsRack (shade_meaning g.meaning s)) where
+    at_rises : (m : Meaning) (away : Bool) (mid : Laid R g) (idle : Idle R g) (e : GroupSite R g) → FellBack mid idle → RisesSince m (idle_disks idle) → BackAt away idle e → RisesSince m (site_disks e)
+    at_rises m false mid idle e fell since at = subst (λ (x : GroupSite R g). RisesSince m (site_disks x)) (sym at) since
+    at_rises m true mid idle e fell since (x, at, up) =
+        subst (λ (y : GroupSite R g). RisesSince m (site_disks y)) (sym at)
+        (rises_alone m (idle_disks idle) (idle_disks x) since up.since (racks x.rack) (up.armed ∙ ap (λ (s : Shade R). (shade_meaning g.meaning s).armed) fell.rack ∙ fell.is.stopped.unarmed))
+
+    over_rises : (away : Bool) (m : Meaning) (units : Units) (laid : Laid R g) (cut : Option CutWrite) (new : DiskSet R g) (r : Result (Unit {0}) Stop) → RisesSince m (laid_disks laid) → StartsOver away units laid cut new r → AtSite (λ e. RisesSince m (site_disks e)) new
+    over_rises away m units laid cut (Bare rack) r since it = absurd it
+    over_rises away m units laid cut (Spoiled rack) r since it = absurd it
+    over_rises away m units laid cut (UpSet rvg) r since it = absurd it
+    over_rises away m units laid cut (Receives s) r since it = absurd it
+    over_rises away m units laid cut (DownSet rack) r since it = absurd it
+    over_rises away m units laid cut (OfGroup s) r since it = absurd it
+    over_rises away m units laid cut (Over s) (Ok done) since it =
+        let up : Started units laid s = it in
+        subst (λ (e : GroupSite R g). RisesSince m (site_disks e)) (sym up.site) (rises_on m (laid_disks laid) (laid_disks up.laid) since up.starts.since)
+    over_rises away m units laid cut (Over s) (Err stop) since it =
+        let off : StartFails away units laid cut s stop = it in
+        at_rises m (away && not (stops_down stop)) off.mid off.idle (site_in s) off.fell (back_rises m off.mid off.idle (tried_rises m units laid off.mid stop since off.tried) off.fell) off.site
+    over_rises away m units laid cut GoneSet r since it = absurd it
+
+    behind_rises : (away : Bool) (old mid : GroupSite R g) (cut : Option CutWrite) (new : DiskSet R g) (answer r : Result (Unit {0}) Stop) → BroughtBy old mid answer → BehindImport away mid cut new answer r → AtSite (λ e. RisesSince (site_disks old) (site_disks e)) new
+    behind_rises away old mid cut new answer r by behind =
+        at_behind away (λ e. RisesSince (site_disks old) (site_disks e)) (λ laid units cut new r since over. over_rises away (site_disks old) units laid cut new r since over) mid cut new answer r (rises_returned (site_disks old) (site_disks mid) by.since) behind
+
+    pub raise_rises : (old : GroupSite R g) (cut : Option CutWrite) (new : DiskSet R g) (r : Result (Option CutWrite) Stop) → RaisesOver old cut new r → AtSite (λ e. RisesSince (site_disks old) (site_disks e)) new
+    raise_rises old cut new r it = behind_rises false old it.mid cut new it.answer it.started it.by it.behind
+
+    pub take_rises : (old : GroupSite R g) (cut : Option CutWrite) (new : DiskSet R g) (r : Result (Unit {0}) Stop) → TakesOver old cut new r → AtSite (λ e. RisesSince (site_disks old) (site_disks e)) new
+    take_rises old cut new r it = behind_rises true old it.mid cut new it.answer r it.by it.behind
+
+  behind_tells : (away : Bool) (old mid : GroupSite R g) (cut : Option CutWrite) (new : DiskSet R g) (answer r : Result (Unit {0}) Stop) → BroughtBy old mid answer → BehindImport away mid cut new answer r → AtSite (λ e. TellsLess (site_below old) (site_below e)) new
+  behind_tells away old mid cut new answer r by behind =
+      at_behind away (λ e. TellsLess (site_below old) (site_below e)) (λ laid units cut new r less over. over_tells away (site_below old) units laid cut new r less over) mid cut new answer r by.told behind
 
   pub raise_tells : (old : GroupSite R g) (cut : Option CutWrite) (new : DiskSet R g) (r : Result (Option CutWrite) Stop) → RaisesOver old cut new r → AtSite (λ e. TellsLess (site_below old) (site_below e)) new
-  raise_tells old cut new r it =
-      at_behind (λ e. TellsLess (site_below old) (site_below e)) (λ laid units cut new r less over. over_tells (site_below old) units laid cut new r less over) it.mid cut new it.answer it.started it.by.told it.behind
+  raise_tells old cut new r it = behind_tells false old it.mid cut new it.answer it.started it.by it.behind
+
+  pub take_tells : (old : GroupSite R g) (cut : Option CutWrite) (new : DiskSet R g) (r : Result (Unit {0}) Stop) → TakesOver old cut new r → AtSite (λ e. TellsLess (site_below old) (site_below e)) new
+  take_tells old cut new r it = behind_tells true old it.mid cut new it.answer r it.by it.behind
 
   -- ---- what stood over the group
 

@@ -357,11 +357,11 @@ module _ {R : Type 0} {g : Ghosts R} (racks : (s : Shade R) → IsRack (shade_me
     started_by u has s started true told = RisesAgain s refl refl (rose_again told s (subst (λ (x : Units). Started x laid s) (same_units_of u has told) started))
     started_by u has s started false dim = RisesFound s refl refl (found_again n note idle down names laws beside cut group state over unfused rests settles cut_is inside tidy laid by (λ told. never_both (laid_disks laid).tells told dim) u has s started)
 
-    failed_by : (u : Units) → laid.core.inner.config.rvg ≡ Some u → (s : OverSet R g) (stop : Stop) → StartFails u laid cut s stop → (b : Bool) → (laid_disks laid).tells ≡ b → OverRises beside n note (Down idle) (Over s) (Err stop)
+    failed_by : (u : Units) → laid.core.inner.config.rvg ≡ Some u → (s : OverSet R g) (stop : Stop) → StartFails false u laid cut s stop → (b : Bool) → (laid_disks laid).tells ≡ b → OverRises beside n note (Down idle) (Over s) (Err stop)
     failed_by u has s stop off true told = RisesLost s stop refl refl (lost_tried told off.mid off.idle off.fell s off.site off.cut_is stop (subst (λ (x : Units). TriedOn x laid off.mid stop) (same_units_of u has told) off.tried))
     failed_by u has s stop off false dim = RisesHeld s stop refl refl (held_untold n note idle down names laws beside cut group state over unfused rests settles cut_is inside tidy laid by (λ told. never_both (laid_disks laid).tells told dim) u off.mid off.idle off.fell s off.site off.cut_is stop off.tried)
 
-    start_in : (u : Units) → laid.core.inner.config.rvg ≡ Some u → (new : DiskSet R g) (r : Result (Unit {0}) Stop) → StartsOver u laid cut new r → OverRises beside n note (Down idle) new r
+    start_in : (u : Units) → laid.core.inner.config.rvg ≡ Some u → (new : DiskSet R g) (r : Result (Unit {0}) Stop) → StartsOver false u laid cut new r → OverRises beside n note (Down idle) new r
     start_in u has (Bare rack) r it = absurd it
     start_in u has (Spoiled rack) r it = absurd it
     start_in u has (UpSet rvg) r it = absurd it
@@ -372,11 +372,11 @@ module _ {R : Type 0} {g : Ghosts R} (racks : (s : Shade R) → IsRack (shade_me
     start_in u has (Over s) (Err stop) it = failed_by u has s stop it (laid_disks laid).tells refl
     start_in u has GoneSet r it = absurd it
 
-    start_units : (o : Option Units) → laid.core.inner.config.rvg ≡ o → (new : DiskSet R g) (r : Result (Unit {0}) Stop) → WithUnits o laid cut new r → OverRises beside n note (Down idle) new r
+    start_units : (o : Option Units) → laid.core.inner.config.rvg ≡ o → (new : DiskSet R g) (r : Result (Unit {0}) Stop) → WithUnits false o laid cut new r → OverRises beside n note (Down idle) new r
     start_units None has new r it = let s : GroupSet R g = record { site = Up laid; cut = None } in RisesPlain s it.0 it.1 (plain_again n note idle down names laid by s refl has)
     start_units (Some u) has new r it = start_in u has new r it
 
-  refused_in : (now : Idle R g) (stop : Stop) → BroughtBy (Down idle) (Down now) (Err stop) → (new : DiskSet R g) (r : Result (Unit {0}) Stop) → BehindImport (Down now) cut new (Err stop) r → OverRises beside n note (Down idle) new r
+  refused_in : (now : Idle R g) (stop : Stop) → BroughtBy (Down idle) (Down now) (Err stop) → (new : DiskSet R g) (r : Result (Unit {0}) Stop) → BehindImport false (Down now) cut new (Err stop) r → OverRises beside n note (Down idle) new r
   refused_in now stop by (Bare rack) r behind = absurd behind.0
   refused_in now stop by (Spoiled rack) r behind = absurd behind.0
   refused_in now stop by (UpSet rvg) r behind = absurd behind.0
@@ -386,7 +386,7 @@ module _ {R : Type 0} {g : Ghosts R} (racks : (s : Shade R) → IsRack (shade_me
   refused_in now stop by (Over s) r behind = RisesHeld s stop refl behind.2 (held_refused n note idle down names laws beside cut group state over unfused rests settles cut_is inside tidy now stop by s behind.0 behind.1)
   refused_in now stop by GoneSet r behind = absurd behind.0
 
-  rises_behind : (mid : GroupSite R g) (answer : Result (Unit {0}) Stop) → BroughtBy (Down idle) mid answer → (new : DiskSet R g) (r : Result (Unit {0}) Stop) → BehindImport mid cut new answer r → OverRises beside n note (Down idle) new r
+  rises_behind : (mid : GroupSite R g) (answer : Result (Unit {0}) Stop) → BroughtBy (Down idle) mid answer → (new : DiskSet R g) (r : Result (Unit {0}) Stop) → BehindImport false mid cut new answer r → OverRises beside n note (Down idle) new r
   rises_behind (Up laid) (Ok done) by new r behind = start_units laid by laid.core.inner.config.rvg refl new r behind
   rises_behind (Deported x) (Ok done) by new r behind = let it = by.recovered (below_rvg n) note down in absurd it.2
   rises_behind (Down x) (Ok done) by new r behind = let it = by.recovered (below_rvg n) note down in absurd it.2

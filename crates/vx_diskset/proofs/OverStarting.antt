@@ -8,6 +8,7 @@ use Rattle.vx_ground.specs.Lifted.{laid_volumes}
 use Rattle.vx_grouped.specs.GroupSites.{laid_below, laid_disks}
 use Rattle.vx_grouped.specs.declared.group_site.GroupSite.{GroupSite}
 use Rattle.vx_grouped.specs.declared.group_site.GroupSite.TheVariants.{Deported, Down, Gone, Marked, Up}
+use Rattle.vx_grouped.specs.declared.idle.Idle.{Idle}
 use Rattle.vx_grouped.specs.declared.laid.Laid.{Laid}
 use Rattle.vx_logimport.specs.declared.rested.Rested.{Rested}
 use Rattle.vx_model.specs.declared.errors.Stop.{Stop}
@@ -18,7 +19,7 @@ use Rattle.vx_model.specs.declared.units.Units.{Units}
 use Rattle.vx_rvg.specs.Views.{Core}
 use Rattle.vx_watched.specs.Since.{CalledSince}
 use Rattle.vx_watched.specs.Traces.{TellsLess}
-use Rattle.vx_diskset.specs.OverStarts.{PlainBack, PlainStarts, PlainTried, PlainUnits, StartsOn, WithPlain, WithRvg, WithUnits}
+use Rattle.vx_diskset.specs.OverStarts.{BackAt, PlainBack, PlainStarts, PlainTried, PlainUnits, StartsOn, WithPlain, WithRvg, WithUnits}
 use Rattle.vx_diskset.specs.Works.{DoesStart}
 use Rattle.vx_diskset.specs.declared.disk_set.DiskSet.{DiskSet}
 use Rattle.vx_diskset.specs.declared.disk_set.DiskSet.TheVariants.{Bare, Spoiled, Up as UpSet, Receives, Down as DownSet, OfGroup, Over, Gone as GoneSet}
@@ -44,11 +45,16 @@ module _ {R : Type 0} {g : Ghosts R} where
   plain_fails away rested units old mid cut stop (Over s) r tried back = absurd back
   plain_fails away rested units old mid cut stop GoneSet r tried back = absurd back
 
+  -- ---- disks that crashed
+
+  pub back_as : (away rests : Bool) (idle : Idle R g) (e new : GroupSite R g) → rests ≡ away → new ≡ e → BackAt rests idle e → BackAt away idle new
+  back_as away rests idle e new same at it = subst (λ (x : GroupSite R g). BackAt away idle x) (sym at) (subst (λ (b : Bool). BackAt b idle e) same it)
+
   -- ---- a group without one
 
-  pub units_none : (o : Option Units) (laid : Laid R g) (cut : Option CutWrite) → o ≡ None → WithUnits o laid cut (let s : GroupSet R g = record { site = Up laid; cut = None } in OfGroup s) (Ok tt)
-  units_none None laid cut is = (refl, refl)
-  units_none (Some units) laid cut is = absurd (none-some units (sym is))
+  pub units_none : (away : Bool) (o : Option Units) (laid : Laid R g) (cut : Option CutWrite) → o ≡ None → WithUnits away o laid cut (let s : GroupSet R g = record { site = Up laid; cut = None } in OfGroup s) (Ok tt)
+  units_none away None laid cut is = (refl, refl)
+  units_none away (Some units) laid cut is = absurd (none-some units (sym is))
 
   pub plain_units_none : (away : Bool) (rested : Option Rested) (o : Option Units) (laid : Laid R g) (cut : Option CutWrite) → o ≡ None → PlainUnits away rested o laid cut (let s : GroupSet R g = record { site = Up laid; cut = None } in OfGroup s) (Ok tt)
   plain_units_none away rested None laid cut is = (refl, refl)
@@ -56,12 +62,12 @@ module _ {R : Type 0} {g : Ghosts R} where
 
   -- ---- a site that did not come up
 
-  pub with_none : (e : GroupSite R g) (cut : Option CutWrite) → ((laid : Laid R g) → e ≡ Up laid → ⊥) → WithRvg e cut (let s : GroupSet R g = record { site = e; cut = cut } in OfGroup s) (Err (Refused NoRole))
-  with_none (Up laid) cut never = absurd (never laid refl)
-  with_none (Deported idle) cut never = (refl, refl)
-  with_none (Down idle) cut never = (refl, refl)
-  with_none (Marked rack) cut never = (refl, refl)
-  with_none Gone cut never = (refl, refl)
+  pub with_none : (away : Bool) (e : GroupSite R g) (cut : Option CutWrite) → ((laid : Laid R g) → e ≡ Up laid → ⊥) → WithRvg away e cut (let s : GroupSet R g = record { site = e; cut = cut } in OfGroup s) (Err (Refused NoRole))
+  with_none away (Up laid) cut never = absurd (never laid refl)
+  with_none away (Deported idle) cut never = (refl, refl)
+  with_none away (Down idle) cut never = (refl, refl)
+  with_none away (Marked rack) cut never = (refl, refl)
+  with_none away Gone cut never = (refl, refl)
 
   pub plain_none : (away : Bool) (rested : Option Rested) (e : GroupSite R g) (cut : Option CutWrite) → ((laid : Laid R g) → e ≡ Up laid → ⊥) → WithPlain away rested e cut (let s : GroupSet R g = record { site = e; cut = cut } in OfGroup s) (Err (Refused NoRole))
   plain_none away rested (Up laid) cut never = absurd (never laid refl)

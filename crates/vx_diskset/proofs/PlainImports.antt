@@ -71,15 +71,15 @@ module _ {R : Type 0} {g : Ghosts R} where
   imports_rest P Q (Over s) never it = tt
   imports_rest P Q GoneSet never it = it
 
-  pub imports_none : (e new : DiskSet R g) (r : Result (Unit {0}) Stop) → ((s : GroupSet R g) → e ≡ OfGroup s → ⊥) → ImportsIn e new r
-  imports_none (Bare rack) new r plain = tt
-  imports_none (Spoiled rack) new r plain = tt
-  imports_none (UpSet rvg) new r plain = tt
-  imports_none (Receives s) new r plain = tt
-  imports_none (DownSet rack) new r plain = tt
-  imports_none (OfGroup s) new r plain = absurd (plain s refl)
-  imports_none (Over s) new r plain = tt
-  imports_none GoneSet new r plain = tt
+  pub imports_none : (e new : DiskSet R g) (r : Result (Unit {0}) Stop) → ((s : GroupSet R g) → e ≡ OfGroup s → ⊥) → ((s : OverSet R g) → e ≡ Over s → ⊥) → ImportsIn e new r
+  imports_none (Bare rack) new r plain over = tt
+  imports_none (Spoiled rack) new r plain over = tt
+  imports_none (UpSet rvg) new r plain over = tt
+  imports_none (Receives s) new r plain over = tt
+  imports_none (DownSet rack) new r plain over = tt
+  imports_none (OfGroup s) new r plain over = absurd (plain s refl)
+  imports_none (Over s) new r plain over = absurd (over s refl)
+  imports_none GoneSet new r plain over = tt
 
   pub raises_rest : (e new : DiskSet R g) (r : Result (Option CutWrite) Stop) → ((s : GroupSet R g) → e ≡ OfGroup s → ⊥) → ((s : OverSet R g) → e ≡ Over s → ⊥) → RaisesIn e new r
   raises_rest (Bare rack) new r plain over = tt

@@ -120,31 +120,6 @@ module _ {R : Type 0} {g : Ghosts R} where
     pub agreed : is_dark fell.rack ≡ false → idle.agreed ≡ fell.agreed
     pub void : is_dark fell.rack ≡ true → idle.agreed ≡ true
 
-  -- then the write is cut still
-  pub record StartFails (units : Units) (old : Laid R g) (cut : Option CutWrite) (s : OverSet R g) (stop : Stop) : Type 0 where
-    pub mid : Laid R g
-    pub idle : Idle R g
-    pub tried : TriedOn units old mid stop
-    pub fell : FellBack mid idle
-    pub site : site_in s ≡ Down idle
-    pub cut_is : s.cut ≡ cut
-
-  abbrev pub StartsOver : Units → Laid R g → Option CutWrite → DiskSet R g → Result (Unit {0}) Stop → Type 0
-  StartsOver units old cut (Over s) (Ok done) = Started units old s
-  StartsOver units old cut (Over s) (Err stop) = StartFails units old cut s stop
-  StartsOver units old cut other r = ⊥
-
-  -- A group that came up, with its replicated volume group where its configuration has one.
-  abbrev pub WithUnits : Option Units → Laid R g → Option CutWrite → DiskSet R g → Result (Unit {0}) Stop → Type 0
-  WithUnits None laid cut new r = (new ≡ (let s : GroupSet R g = record { site = Up laid; cut = None } in OfGroup s)) × (r ≡ Ok tt)
-  WithUnits (Some units) laid cut new r = StartsOver units laid cut new r
-
-  abbrev pub WithRvg : GroupSite R g → Option CutWrite → DiskSet R g → Result (Unit {0}) Stop → Type 0
-  WithRvg (Up laid) cut new r = WithUnits laid.core.inner.config.rvg laid cut new r
-  WithRvg other cut new r = (new ≡ (let s : GroupSet R g = record { site = other; cut = cut } in OfGroup s)) × (r ≡ Err (Refused NoRole))
-
-  -- ---- a group of a site that had no replicated volume group
-
   -- disks that crashed, and were brought up by themselves
   pub record Revived (fell idle : Idle R g) : Type 0 where
     pub agreed : idle.agreed ≡ fell.agreed
@@ -154,6 +129,39 @@ module _ {R : Type 0} {g : Ghosts R} where
     pub armed : (idle_disks idle).armed ≡ (idle_disks fell).armed
     pub since : ReturnSince (idle_disks fell) (idle_disks idle)
     pub told : TellsLess (idle_below fell) (idle_below idle)
+
+  -- those of a site that was deported are by themselves then
+  abbrev pub BackAt : (away : Bool) → Idle R g → GroupSite R g → Type 0
+  BackAt false idle e = e ≡ Down idle
+  BackAt true idle e = (x : Idle R g) × (e ≡ Deported x) × Revived idle x
+
+  abbrev pub FellAt : (away : Bool) → Laid R g → GroupSite R g → Type 0
+  FellAt away mid e = (idle : Idle R g) × FellBack mid idle × BackAt away idle e
+
+  -- So they are, unless the fuse ran out, where the start is refused; and the write is cut still.
+  pub record StartFails (away : Bool) (units : Units) (old : Laid R g) (cut : Option CutWrite) (s : OverSet R g) (stop : Stop) : Type 0 where
+    pub mid : Laid R g
+    pub idle : Idle R g
+    pub tried : TriedOn units old mid stop
+    pub fell : FellBack mid idle
+    pub site : BackAt (away && not (stops_down stop)) idle (site_in s)
+    pub cut_is : s.cut ≡ cut
+
+  abbrev pub StartsOver : (away : Bool) → Units → Laid R g → Option CutWrite → DiskSet R g → Result (Unit {0}) Stop → Type 0
+  StartsOver away units old cut (Over s) (Ok done) = Started units old s
+  StartsOver away units old cut (Over s) (Err stop) = StartFails away units old cut s stop
+  StartsOver away units old cut other r = ⊥
+
+  -- A group that came up, of a site that was deported or not, with its replicated volume group where its configuration has one.
+  abbrev pub WithUnits : (away : Bool) → Option Units → Laid R g → Option CutWrite → DiskSet R g → Result (Unit {0}) Stop → Type 0
+  WithUnits away None laid cut new r = (new ≡ (let s : GroupSet R g = record { site = Up laid; cut = None } in OfGroup s)) × (r ≡ Ok tt)
+  WithUnits away (Some units) laid cut new r = StartsOver away units laid cut new r
+
+  abbrev pub WithRvg : (away : Bool) → GroupSite R g → Option CutWrite → DiskSet R g → Result (Unit {0}) Stop → Type 0
+  WithRvg away (Up laid) cut new r = WithUnits away laid.core.inner.config.rvg laid cut new r
+  WithRvg away other cut new r = (new ≡ (let s : GroupSet R g = record { site = other; cut = cut } in OfGroup s)) × (r ≡ Err (Refused NoRole))
+
+  -- ---- a group of a site that had no replicated volume group
 
   -- The disks crash, and tell nothing from then on: of which volumes they told what a clean stop left is void of them, and is what it was before the import.
   pub record FellDark (rested : Option Rested) (mid : Laid R g) (idle : Idle R g) : Type 0 where
@@ -201,9 +209,9 @@ module _ {R : Type 0} {g : Ghosts R} where
   -- ---- behind an import of the group
 
   -- its replicated volume group, or what the refused import left
-  abbrev pub BehindImport : GroupSite R g → Option CutWrite → DiskSet R g → Result (Unit {0}) Stop → Result (Unit {0}) Stop → Type 0
-  BehindImport mid cut new (Ok done) r = WithRvg mid cut new r
-  BehindImport mid cut new (Err stop) r = AtOver (λ e. e ≡ mid) new × (cut_in new ≡ cut_value cut) × (r ≡ Err stop)
+  abbrev pub BehindImport : (away : Bool) → GroupSite R g → Option CutWrite → DiskSet R g → Result (Unit {0}) Stop → Result (Unit {0}) Stop → Type 0
+  BehindImport away mid cut new (Ok done) r = WithRvg away mid cut new r
+  BehindImport away mid cut new (Err stop) r = AtOver (λ e. e ≡ mid) new × (cut_in new ≡ cut_value cut) × (r ≡ Err stop)
 
   abbrev pub BehindPlain : (away : Bool) → Option Rested → GroupSite R g → Option CutWrite → DiskSet R g → Result (Unit {0}) Stop → Result (Unit {0}) Stop → Type 0
   BehindPlain away rested mid cut new (Ok done) r = WithPlain away rested mid cut new r
@@ -239,12 +247,20 @@ module _ {R : Type 0} {g : Ghosts R} where
     pub answer : Result (Unit {0}) Stop
     pub by : BroughtBy old mid answer
     pub started : Result (Unit {0}) Stop
-    pub behind : BehindImport mid cut new answer started
+    pub behind : BehindImport false mid cut new answer started
     pub is : HandsOut cut started r
+
+  -- an import of one that was deported
+  pub record TakesOver (old : GroupSite R g) (cut : Option CutWrite) (new : DiskSet R g) (r : Result (Unit {0}) Stop) : Type 0 where
+    pub mid : GroupSite R g
+    pub answer : Result (Unit {0}) Stop
+    pub by : BroughtBy old mid answer
+    pub behind : BehindImport true mid cut new answer r
 
   -- what an import of the group of a site comes to, and one of a site that crashed
   abbrev pub ImportsIn : DiskSet R g → DiskSet R g → Result (Unit {0}) Stop → Type 0
   ImportsIn (OfGroup s) new r = ImportsBy true s.site s.cut new r
+  ImportsIn (Over s) new r = TakesOver (site_in s) s.cut new r
   ImportsIn old new r = Unit {0}
 
   abbrev pub RaisesIn : DiskSet R g → DiskSet R g → Result (Option CutWrite) Stop → Type 0

@@ -15,7 +15,7 @@ ghost use Rattle.vx_diskset.specs.Asked.{FuseGoesOn, SameFailing};
 ghost use Rattle.vx_diskset.specs.DiskSets.{Later};
 ghost use Rattle.vx_diskset.specs.Aboves.{site_in};
 ghost use Rattle.vx_diskset.specs.OverRises.{FindsOver, LooksOver, RaisesAbove};
-ghost use Rattle.vx_diskset.specs.OverStarts.{HandsOut, ImportsBy, ImportsIn, RaisesBy, RaisesIn, RaisesOver};
+ghost use Rattle.vx_diskset.specs.OverStarts.{HandsOut, ImportsBy, ImportsIn, RaisesBy, RaisesIn, RaisesOver, TakesOver};
 ghost use Rattle.vx_diskset.specs.GroupCalls.{AtFound, AtPlain, AtSite, ImportsOn, InitIs, OnSites, cut_behind as cut_behind_of, cut_in};
 ghost use Rattle.vx_diskset.specs.Holds.{KeptBeside};
 ghost use Rattle.vx_diskset.specs.Recovers.{LooksAt, LooksKept, RaisesGroup, RaisesMaps, RisesSince, RisesWith, cut_past};
@@ -204,9 +204,21 @@ fn raise_over<R: Rack>(
     let (site, answer) = site.import(alloc);
     match answer {
         Ok(()) => {
-            let (disk_set, started) = with_rvg(alloc, site, cut);
+            let (disk_set, started) = with_rvg(alloc, site, cut, false);
             (disk_set, hands_out(started, kept))
         }
+        Err(stop) => (DiskSet::Over(OverSet::of(site, above, cut)), Err(stop)),
+    }
+}
+
+// The same of one that was deported. Where it is refused it is so still, or is down where its fuse ran out.
+fn take_over<R: Rack>(over: OverSet<R>, alloc: Global) -> (DiskSet<R>, Result<(), Stop>)
+    ensures brought { TakesOver (site_in over) over.cut result.0 result.1 }
+{
+    let (site, above, cut) = over.parts();
+    let (site, answer) = site.import(alloc);
+    match answer {
+        Ok(()) => with_rvg(alloc, site, cut, true),
         Err(stop) => (DiskSet::Over(OverSet::of(site, above, cut)), Err(stop)),
     }
 }
@@ -261,6 +273,7 @@ impl<R: Rack> DiskSet<R> {
     {
         match self {
             DiskSet::OfGroup(group) => import_in(group, alloc),
+            DiskSet::Over(over) => take_over(over, alloc),
             other => (other, Err(Stop::No(No::Role))),
         }
     }

@@ -1,7 +1,7 @@
 // Disks below a replicated volume group that crash.
 ghost use Rattle.std.specs.Prelude.{◌≡◌, false, true};
 ghost use Rattle.vx_diskset.specs.Founded.{LaidFell};
-ghost use Rattle.vx_diskset.specs.OverStarts.{DarkBack, FellBack, FellDark, is_dark as is_dark_of};
+ghost use Rattle.vx_diskset.specs.OverStarts.{DarkBack, FellAt, FellBack, FellDark, is_dark as is_dark_of};
 ghost use Rattle.vx_grouped.specs.GroupNotes.{is_sure as is_sure_of};
 ghost use Rattle.vx_untold.specs.Shades.{rack_of};
 ghost use Rattle.vx_untold.specs.declared.shade.Shade.TheVariants.{Dark as DarkRack};
@@ -59,8 +59,8 @@ fn dark_idle<R: Rack>(idle: Idle<R>, rested: Option<Rested>) -> Idle<R>
     Idle::of(idle.rack.darkened(), true, rested)
 }
 
-/// The disks of a group that came up whose replicated volume group did not: they crash.
-pub(crate) fn fell_back<R: Rack>(laid: Laid<R>) -> Idle<R>
+// The disks of a group that came up whose replicated volume group did not: they crash.
+fn fell_back<R: Rack>(laid: Laid<R>) -> Idle<R>
     ensures { FellBack laid result }
 {
     let idle = fell_idle(laid, u64::MAX);
@@ -69,6 +69,18 @@ pub(crate) fn fell_back<R: Rack>(laid: Laid<R>) -> Idle<R>
         dark_idle(idle, rested)
     } else {
         idle
+    }
+}
+
+/// The same of a site; where it was deported they are by themselves then.
+pub(crate) fn back_at<R: Rack>(laid: Laid<R>, away: bool) -> GroupSite<R>
+    ensures { FellAt away laid result }
+{
+    let idle = fell_back(laid);
+    if away {
+        GroupSite::Deported(idle.revive())
+    } else {
+        GroupSite::Down(idle)
     }
 }
 

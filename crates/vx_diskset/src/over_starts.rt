@@ -12,7 +12,7 @@ ghost use Rattle.vx_model.specs.declared.no.No.TheVariants.{Limit as LimitNo};
 ghost use Rattle.vx_rvg.specs.Views.{UnitsPlaced};
 
 use crate::group_set::CutWrite;
-use crate::idles::{dark_back, fell_back, is_dark};
+use crate::idles::{back_at, dark_back, is_dark};
 use crate::over_work::Starts;
 use crate::{Above, DiskSet, GroupSet, OverSet};
 use std::alloc::Global;
@@ -127,16 +127,25 @@ fn start_in<R: Rack>(
     }
 }
 
-// The same of the disks of a site. Where it is refused, the disks crash, and the write is cut still.
+// Whether the disks of a site that was deported, or not, are by themselves behind a refusal: not where the fuse ran out.
+fn rests_away(away: bool, stop: &Stop) -> bool
+    ensures { result ≡ (away && not (stops_down stop.now)) }
+{
+    if away { !is_down_stop(stop) } else { false }
+}
+
+// The same of the disks of a site. Where it is refused, the disks crash, and the write is cut still; those of a site that was deported are by themselves
+// then.
 fn start_over<R: Rack>(
     alloc: Global,
     laid: Laid<R>,
     cut: Option<CutWrite>,
     units: &Units,
+    away: bool,
 ) -> (DiskSet<R>, Result<(), Stop>)
     requires there { UnitsPlaced units.now (laid_volumes laid) }
     requires large { LEAST_BLOCKS ≤ (laid_volumes laid).size units.now.srl }
-    ensures starts { StartsOver units.now laid cut result.0 result.1 }
+    ensures starts { StartsOver away units.now laid cut result.0 result.1 }
 {
     let (laid, started) = start_in(alloc, laid, units);
     match started {
@@ -145,20 +154,14 @@ fn start_over<R: Rack>(
             Ok(()),
         ),
         Err(stop) => {
-            let site = GroupSite::Down(fell_back(laid));
+            let rests = rests_away(away, &stop);
+            let site = back_at(laid, rests);
             (
                 DiskSet::Over(OverSet::of(site, Above::Nothing, cut)),
                 Err(stop),
             )
         }
     }
-}
-
-// Whether the disks of a site that was deported, or not, are by themselves behind a refusal: not where the fuse ran out.
-fn rests_away(away: bool, stop: &Stop) -> bool
-    ensures { result ≡ (away && not (stops_down stop.now)) }
-{
-    if away { !is_down_stop(stop) } else { false }
 }
 
 // The disks of a site that had no replicated volume group, behind an import that is refused.
@@ -244,11 +247,12 @@ fn with_units<R: Rack>(
     alloc: Global,
     laid: Laid<R>,
     cut: Option<CutWrite>,
+    away: bool,
 ) -> (DiskSet<R>, Result<(), Stop>)
-    ensures over { WithUnits laid.core.inner.config.rvg laid cut result.0 result.1 }
+    ensures over { WithUnits away laid.core.inner.config.rvg laid cut result.0 result.1 }
 {
     match units_in(laid.config()) {
-        Some(units) => start_over(alloc, laid, cut, &units),
+        Some(units) => start_over(alloc, laid, cut, &units, away),
         None => (
             DiskSet::OfGroup(GroupSet {
                 site: GroupSite::Up(laid),
@@ -286,11 +290,12 @@ pub(crate) fn with_rvg<R: Rack>(
     alloc: Global,
     site: GroupSite<R>,
     cut: Option<CutWrite>,
+    away: bool,
 ) -> (DiskSet<R>, Result<(), Stop>)
-    ensures over { WithRvg site cut result.0 result.1 }
+    ensures over { WithRvg away site cut result.0 result.1 }
 {
     match site {
-        GroupSite::Up(laid) => with_units(alloc, laid, cut),
+        GroupSite::Up(laid) => with_units(alloc, laid, cut, away),
         site => (
             DiskSet::OfGroup(GroupSet { site, cut }),
             Err(Stop::No(No::Role)),

@@ -1,6 +1,10 @@
 -- A start over the volumes of a group, and the disks of the site behind it.
 use Rattle.std.proofs.Common.{subst}
+use Rattle.std.specs.Prelude.{◌&&◌, not}
+use Rattle.vx_grouped.specs.SiteEnds.{stops_down}
+use Rattle.vx_diskset.specs.Aboves.{site_in}
 use Rattle.vx_diskset.specs.OverStarts.{StartsIn}
+use Rattle.vx_diskset.proofs.OverStarting.{back_as}
 use Rattle.vx_diskset.proofs.over_starts.start_over.Goals as goal
 
 pub start_in-laid-requires-clause-there : goal.start_in-laid-requires-clause-there
@@ -33,10 +37,10 @@ pub returns-in-Err : goal.returns-in-Err
 returns-in-Err g c = record {
   starts = record {
     mid = c.start_in-laid.result.0;
-    idle = c.fell_back.result;
+    idle = c.back_at-site.ensures.0;
     tried = subst (λ r. StartsIn c.args.units.now c.args.laid c.start_in-laid.result.0 r) c.in-Err.is c.start_in-laid.ensures.starts;
-    fell = c.fell_back.ensures;
-    site = c.of-in-Err.ensures.site;
+    fell = c.back_at-site.ensures.1;
+    site = back_as (c.args.away && not (stops_down c.in-Err.stop)) c.rests_away-rests.result c.back_at-site.ensures.0 c.back_at-site.result (site_in c.of-in-Err.result) c.rests_away-rests.ensures c.of-in-Err.ensures.site c.back_at-site.ensures.2;
     cut_is = c.of-in-Err.ensures.cut;
   };
 }

@@ -13,8 +13,8 @@ start_over-requires-clause-large g c = λ κs lives. laid_large c.args.laid c.in
 
 pub returns-in-Some : goal.returns-in-Some
 returns-in-Some g c = record {
-  over = subst (λ o. WithUnits o c.args.laid c.args.cut c.start_over.result.0 c.start_over.result.1) (sym c.in-Some.is ∙ c.units_in.ensures ∙ ap (λ k. k.rvg) c.config.ensures) c.start_over.ensures.starts;
+  over = subst (λ o. WithUnits c.args.away o c.args.laid c.args.cut c.start_over.result.0 c.start_over.result.1) (sym c.in-Some.is ∙ c.units_in.ensures ∙ ap (λ k. k.rvg) c.config.ensures) c.start_over.ensures.starts;
 }
 
 pub returns-in-None : goal.returns-in-None
-returns-in-None g c = record { over = units_none c.args.laid.core.inner.config.rvg c.args.laid c.args.cut (sym (ap (λ k. k.rvg) c.config.ensures) ∙ sym c.units_in.ensures ∙ c.in-None.is) }
+returns-in-None g c = record { over = units_none c.args.away c.args.laid.core.inner.config.rvg c.args.laid c.args.cut (sym (ap (λ k. k.rvg) c.config.ensures) ∙ sym c.units_in.ensures ∙ c.in-None.is) }

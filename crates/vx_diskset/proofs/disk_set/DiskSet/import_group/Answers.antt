@@ -11,7 +11,12 @@ use Rattle.vx_diskset.specs.Recovers.{cut_past}
 use Rattle.vx_diskset.proofs.GroupCalling.{at_sites}
 use Rattle.vx_diskset.proofs.GroupRising.{imported_settled, rise_failing, rise_fuse, rise_later}
 use Rattle.vx_diskset.proofs.KeepsFailing.{failing_same}
+use Rattle.vx_diskset.proofs.OverCalling.{at_overs}
+use Rattle.vx_diskset.proofs.OverImports.{take_rises, take_tells}
 use Rattle.vx_diskset.proofs.OverMaking.{fuse_rest}
+use Rattle.vx_diskset.proofs.OverRisen.{over_failing, over_fuse, over_later}
+use Rattle.vx_diskset.proofs.OverTaking.{take_cut, take_settles}
+use Rattle.vx_diskset.specs.Aboves.{site_in}
 use Rattle.vx_diskset.proofs.PlainImports.{import_settles, imports_none, imports_rest}
 use Rattle.vx_diskset.proofs.PlainRises.{finds_away, finds_rest}
 use Rattle.vx_untold.specs.Shades.{shade_lawful, shade_rack}
@@ -69,7 +74,7 @@ pub returns-in_default-clause-failing : goal.returns-in_default-clause-failing
 returns-in_default-clause-failing g c = failing_same c.args.self
 
 pub returns-in_default-clause-brought : goal.returns-in_default-clause-brought
-returns-in_default-clause-brought g c = imports_none c.args.self c.args.self _ c.in_default.not-OfGroup
+returns-in_default-clause-brought g c = imports_none c.args.self c.args.self _ c.in_default.not-OfGroup c.in_default.not-Over
 
 pub returns-in-OfGroup-clause-found : goal.returns-in-OfGroup-clause-found
 returns-in-OfGroup-clause-found g c = λ beside n note stands group away.
@@ -79,3 +84,39 @@ returns-in-OfGroup-clause-found g c = λ beside n note stands group away.
 
 pub returns-in_default-clause-found : goal.returns-in_default-clause-found
 returns-in_default-clause-found g c = λ beside n note stands group away. finds_rest beside n note c.args.self c.args.self c.in_default.not-OfGroup
+
+pub returns-in-Over-clause-imported : goal.returns-in-Over-clause-imported
+returns-in-Over-clause-imported g c = λ n note away. subst (λ x. ImportsOn (λ o e. SiteImports n note o e c.take_over.result.1) x c.take_over.result.0) (sym c.in-Over.is) tt
+
+pub returns-in-Over-clause-maps : goal.returns-in-Over-clause-maps
+returns-in-Over-clause-maps g c = λ n note away. subst (λ x. ImportsOn (λ o e. CameMapped o e c.take_over.result.1) x c.take_over.result.0) (sym c.in-Over.is) tt
+
+pub returns-in-Over-clause-cut : goal.returns-in-Over-clause-cut
+returns-in-Over-clause-cut g c = take_cut c.in-Over.over c.take_over.result.0 c.take_over.result.1 c.take_over.ensures.brought ∙ ap (λ x. cut_past c.take_over.result.1 x) (sym c.in-Over.is)
+
+pub returns-in-Over-clause-brought : goal.returns-in-Over-clause-brought
+returns-in-Over-clause-brought g c = subst (λ x. ImportsIn x c.take_over.result.0 c.take_over.result.1) (sym c.in-Over.is) c.take_over.ensures.brought
+
+pub returns-in-Over-clause-found : goal.returns-in-Over-clause-found
+returns-in-Over-clause-found g c = λ beside n note stands group away. subst (λ x. FindsOver beside n note x c.take_over.result.0) (sym c.in-Over.is) tt
+
+pub returns-in-Over-clause-fuse : goal.returns-in-Over-clause-fuse
+returns-in-Over-clause-fuse g c = λ n note.
+    let is_rack = (g.met.R.Rack g.world.𝓛 g.world.𝓜 g.world.𝓡 ((λ s x. x), (λ x. x), (λ x. x), λ x. x)).rack in
+    let racks = shade_rack g.R.Shelf.meaning is_rack in
+    at_overs (AwayNoted n note) (FuseGoesOn c.args.self c.take_over.result.0) c.args.self c.in-Over.over c.in-Over.is
+    (λ it.
+    let by = c.take_over.ensures.brought in
+    over_fuse c.args.self c.take_over.result.0 c.in-Over.over c.in-Over.is (take_rises racks (site_in c.in-Over.over) c.in-Over.over.cut c.take_over.result.0 c.take_over.result.1 by)
+    (take_settles racks (site_in c.in-Over.over) c.in-Over.over.cut c.take_over.result.0 c.take_over.result.1 by (imported_settled is_rack n note (site_in c.in-Over.over) by.mid by.answer (by.by.imported n note it))))
+
+pub returns-in-Over-clause-failing : goal.returns-in-Over-clause-failing
+returns-in-Over-clause-failing g c =
+    let racks = shade_rack g.R.Shelf.meaning (g.met.R.Rack g.world.𝓛 g.world.𝓜 g.world.𝓡 ((λ s x. x), (λ x. x), (λ x. x), λ x. x)).rack in
+    over_failing c.args.self c.take_over.result.0 c.in-Over.over c.in-Over.is (take_rises racks (site_in c.in-Over.over) c.in-Over.over.cut c.take_over.result.0 c.take_over.result.1 c.take_over.ensures.brought)
+
+pub returns-in-Over-clause-later : goal.returns-in-Over-clause-later
+returns-in-Over-clause-later g c =
+    let racks = shade_rack g.R.Shelf.meaning (g.met.R.Rack g.world.𝓛 g.world.𝓜 g.world.𝓡 ((λ s x. x), (λ x. x), (λ x. x), λ x. x)).rack in
+    over_later c.args.self c.take_over.result.0 c.in-Over.over c.in-Over.is (take_rises racks (site_in c.in-Over.over) c.in-Over.over.cut c.take_over.result.0 c.take_over.result.1 c.take_over.ensures.brought)
+    (take_tells (site_in c.in-Over.over) c.in-Over.over.cut c.take_over.result.0 c.take_over.result.1 c.take_over.ensures.brought)

@@ -46,11 +46,13 @@ returns-in-Over-clause-brought g c = subst (λ x. RaisesIn x c.raise_over.result
 
 pub returns-in-Over-clause-failing : goal.returns-in-Over-clause-failing
 returns-in-Over-clause-failing g c =
-    over_failing c.args.self c.raise_over.result.0 c.in-Over.over c.in-Over.is (raise_rises (site_in c.in-Over.over) c.in-Over.over.cut c.raise_over.result.0 c.raise_over.result.1 c.raise_over.ensures.brought)
+    let racks = shade_rack g.R.Shelf.meaning (g.met.R.Rack g.world.𝓛 g.world.𝓜 g.world.𝓡 ((λ s x. x), (λ x. x), (λ x. x), λ x. x)).rack in
+    over_failing c.args.self c.raise_over.result.0 c.in-Over.over c.in-Over.is (raise_rises racks (site_in c.in-Over.over) c.in-Over.over.cut c.raise_over.result.0 c.raise_over.result.1 c.raise_over.ensures.brought)
 
 pub returns-in-Over-clause-later : goal.returns-in-Over-clause-later
 returns-in-Over-clause-later g c =
-    over_later c.args.self c.raise_over.result.0 c.in-Over.over c.in-Over.is (raise_rises (site_in c.in-Over.over) c.in-Over.over.cut c.raise_over.result.0 c.raise_over.result.1 c.raise_over.ensures.brought)
+    let racks = shade_rack g.R.Shelf.meaning (g.met.R.Rack g.world.𝓛 g.world.𝓜 g.world.𝓡 ((λ s x. x), (λ x. x), (λ x. x), λ x. x)).rack in
+    over_later c.args.self c.raise_over.result.0 c.in-Over.over c.in-Over.is (raise_rises racks (site_in c.in-Over.over) c.in-Over.over.cut c.raise_over.result.0 c.raise_over.result.1 c.raise_over.ensures.brought)
     (raise_tells (site_in c.in-Over.over) c.in-Over.over.cut c.raise_over.result.0 c.raise_over.result.1 c.raise_over.ensures.brought)
 
 pub returns-in_default-clause-brought : goal.returns-in_default-clause-brought
