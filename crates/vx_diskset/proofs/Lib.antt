@@ -38,6 +38,7 @@ pub mod OverReceivers
 pub mod OverAsked
 pub mod OverAway
 pub mod OverDoubted
+pub mod OverWrites
 pub mod Loosened
 pub mod OverRecovers
 pub mod OverSettles
