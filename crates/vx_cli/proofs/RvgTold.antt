@@ -7,7 +7,7 @@ use Rattle.vx_model.specs.declared.no.No.{No}
 use Rattle.vx_model.specs.declared.units.Units.{Units}
 use Rattle.vx_order.specs.Calls.{is_data}
 use Rattle.vx_script.specs.declared.line.ScriptLine.{ScriptLine}
-use Rattle.vx_script.specs.declared.line.ScriptLine.TheVariants.{GroupDeport, Put, Read, Recover, Rvg, Show, Write}
+use Rattle.vx_script.specs.declared.line.ScriptLine.TheVariants.{GroupDeport, Put, Read, Recover, Rvg, Show, Write, GroupImport}
 use Rattle.vx_events.specs.Ends.{place_of}
 use Rattle.vx_events.specs.Facts.{site_number}
 use Rattle.vx_events.specs.Fails.{Fails}
@@ -27,6 +27,7 @@ use Rattle.vx_events.proofs.LineTold.{ends_told}
 use Rattle.vx_events.proofs.ReadsLeave.{read_told}
 use Rattle.vx_events.proofs.WritesBelow.{write_told}
 use Rattle.vx_events.proofs.Tolds.{works_told}
+use Rattle.vx_events.specs.RvgTakes.{RvgTaken, TakeFails, TakeLacks, TakeCut, TakeOff, TakeUnfound, TakeHeld, RvgTakes, NotesOff}
 
 module _ {T U : Type 0} (f : U → T) where
   -- ---- a line that makes one
@@ -72,6 +73,23 @@ module _ {T U : Type 0} (f : U → T) where
   found_told d line s fails said new (FindsNoRvg kept taken lost next why over of brings knows other notes says left) =
       FindsNoRvg kept taken lost next why over of brings (nothing_told f (note_at (d.world.nodes s)) knows) other notes says left
 
+  off_told : (note next : GroupNode) → NotesOff T note next → NotesOff U note next
+  off_told note next (inl refused) = inl refused
+  off_told note next (inr (knows, notes)) = inr (nothing_told f note knows, notes)
+
+  takes_told : (d : Doubted) (line : ScriptLine) (s : ℕ) (fails : Fails) (said : Said) (new : Doubted) → RvgTakes T d line s fails said new → RvgTakes U d line s fails said new
+  takes_told d line s fails said new (RvgTaken site middle next has is of back keeps works says left) =
+      RvgTaken site middle next has is of (back_told f s (d.world.nodes s) fails (note_at (d.world.nodes s)) middle back) keeps works says left
+  takes_told d line s fails said new (TakeFails site disk middle next gone has is of failed back keeps works session says left) =
+      TakeFails site disk middle next gone has is of failed (back_told f s (d.world.nodes s) fails (note_at (d.world.nodes s)) middle back) keeps works session says left
+  takes_told d line s fails said new (TakeLacks site middle next has is of back keeps works lacks says left) =
+      TakeLacks site middle next has is of (back_told f s (d.world.nodes s) fails (note_at (d.world.nodes s)) middle back) keeps works (λ u. lacks (f u)) says left
+  takes_told d line s fails said new (TakeCut site middle next gone has is of fused back keeps works session says left) =
+      TakeCut site middle next gone has is of fused (back_told f s (d.world.nodes s) fails (note_at (d.world.nodes s)) middle back) keeps works session says left
+  takes_told d line s fails said new (TakeOff site next has is of fused notes says left) = TakeOff site next has is of fused (off_told (note_at (d.world.nodes s)) next notes) says left
+  takes_told d line s fails said new (TakeUnfound site lost why next has is of not leaves says left) = TakeUnfound site lost why next has is of not leaves says left
+  takes_told d line s fails said new (TakeHeld site lost disk next has is of failed notes says left) = TakeHeld site lost disk next has is of failed notes says left
+
   -- ---- one at a site with one
 
   over_told : (d : Doubted) (line : ScriptLine) (s : ℕ) (fails : Fails) (said : Said) (new : Doubted) → EndsOver T d line s fails said new → EndsOver U d line s fails said new
@@ -101,6 +119,8 @@ module _ {T U : Type 0} (f : U → T) where
 
   place_told : (d : Doubted) (line : ScriptLine) (s : ℕ) (fails : Fails) (said : Said) (new : Doubted) → OverRvg T d line s fails said new → OverRvg U d line s fails said new
   place_told d (GroupDeport site) s fails said new x = below_told d (GroupDeport site) s fails said new x
+  place_told d (GroupImport site) s fails said new (inl x) = inl (takes_told d (GroupImport site) s fails said new x)
+  place_told d (GroupImport site) s fails said new (inr x) = inr (found_told d (GroupImport site) s fails said new x)
   place_told d (Recover site) s fails said new (inl x) = inl (came_told d (Recover site) s fails said new x)
   place_told d (Recover site) s fails said new (inr x) = inr (found_told d (Recover site) s fails said new x)
   place_told d (Write site volume start count fill) s fails said new x =
@@ -140,9 +160,9 @@ module _ {T U : Type 0} (f : U → T) where
   stops_told d line new (StopsBetween never p s middle is moves left) = StopsBetween (λ u calm. never (f u) calm) p s middle is moves left
 
   part_told : (d : Doubted) (line : ScriptLine) (s : ℕ) (new : Doubted) → RvgShort T d line s new → RvgShort U d line s new
-  part_told d line s new (ShortGroup site kept taken lost next has is notes left) = ShortGroup site kept taken lost next has is notes left
-  part_told d line s new (ShortLog site kept taken fails middle next has is of back keeps cut left) =
-      ShortLog site kept taken fails middle next has is of (back_told f s (d.world.nodes s) fails (note_at (d.world.nodes s)) middle back) keeps cut left
+  part_told d line s new (ShortGroup kept taken lost next has is notes left) = ShortGroup kept taken lost next has is notes left
+  part_told d line s new (ShortLog kept taken fails middle next has is of back keeps cut left) =
+      ShortLog kept taken fails middle next has is of (back_told f s (d.world.nodes s) fails (note_at (d.world.nodes s)) middle back) keeps cut left
   part_told d line s new (ShortMade site srl maps volumes fails next is of notes left) = ShortMade site srl maps volumes fails next is of (no_rvg_told _ s fails _ (note_at (d.world.nodes s)) next notes) left
 
   pub short_told : (d : Doubted) (line : ScriptLine) (new : Doubted) → ShortFull T d line new → ShortFull U d line new

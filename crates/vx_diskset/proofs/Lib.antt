@@ -40,6 +40,7 @@ pub mod OverAway
 pub mod OverDoubted
 pub mod OverWrites
 pub mod Loosened
+pub mod OverHolds
 pub mod OverRecovers
 pub mod OverSettles
 pub mod OverMaking

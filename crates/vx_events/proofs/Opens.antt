@@ -16,14 +16,12 @@ use Rattle.vx_events.specs.RvgSteps.{HasNoRvgs, is_for_rvg}
 use Rattle.vx_events.specs.RvgViews.{is_over_rvg}
 
 pub open_links : (w : World) (line : ScriptLine) → is_open w line ≡ false → links_rvg w line ≡ false
-open_links w (GroupImport site) closed = refl
 open_links w (Volume site volume blocks mirrors layout log map policy) closed = refl
 open_links w (PlexDetach site volume plex) closed = refl
 open_links w (PlexAttach site volume plex) closed = refl
 open_links w other closed = closed
 
 pub open_beside : (w : World) (line : ScriptLine) → is_for_rvg w line ≡ false → links_rvg w line ≡ false → is_open w line ≡ false
-open_beside w (GroupImport site) off links = off
 open_beside w (Volume site volume blocks mirrors layout log map policy) off links = off
 open_beside w (PlexDetach site volume plex) off links = off
 open_beside w (PlexAttach site volume plex) off links = off
@@ -79,7 +77,6 @@ module _ (w : World) (none : HasNoRvgs w) where
   for_none other = refl
 
   pub open_none : HasNoOpen w
-  open_none (GroupImport site) = none (site_number w site)
   open_none (Volume site volume blocks mirrors layout log map policy) = none (site_number w site)
   open_none (PlexDetach site volume plex) = none (site_number w site)
   open_none (PlexAttach site volume plex) = none (site_number w site)

@@ -10,9 +10,9 @@ use Rattle.vx_history.specs.Likes.{IsLike}
 use Rattle.vx_history.specs.Stops.{EventsEnd, AllDone as EventsDone, Halts, Cuts, Reads, IsLikeDoubted, IsOpen, all_fails, told_fails}
 use Rattle.vx_history.specs.World.{NoFuse, World}
 use Rattle.vx_history.specs.declared.event.Event.{Event}
-use Rattle.vx_history.specs.declared.event.Event.TheVariants.{Crash as CrashAt, Recover as RecoverAt}
+use Rattle.vx_history.specs.declared.event.Event.TheVariants.{Crash as CrashAt, Recover as RecoverAt, Fall as FallAt}
 use Rattle.vx_script.specs.declared.line.ScriptLine.{ScriptLine}
-use Rattle.vx_script.specs.declared.line.ScriptLine.TheVariants.{Site, Raw, Disk as DiskLine, Crash, Fuse as FuseLine, GroupDeport, Recover, Write, Put, Read, Show, Apply, Status}
+use Rattle.vx_script.specs.declared.line.ScriptLine.TheVariants.{Site, Raw, Disk as DiskLine, Crash, Fuse as FuseLine, GroupDeport, Recover, Write, Put, Read, Show, Apply, Status, GroupImport}
 use Rattle.vx_events.proofs.GroupStopping.{group_stops, noted_like}
 use Rattle.vx_events.proofs.KnownLaws.{finds_none}
 use Rattle.vx_events.proofs.Noting.{as_like, disks_like, like_disks, like_noted, like_self, like_then, like_site}
@@ -30,11 +30,12 @@ use Rattle.vx_events.specs.GroupEnds.{KnowsNothing}
 use Rattle.vx_events.specs.GroupLines.{group_noted, noting}
 use Rattle.vx_events.specs.GroupNotes.{IsKnown, note_at}
 use Rattle.vx_events.specs.Lists.{Choice, events_of, recovery_of, crash_count}
-use Rattle.vx_events.specs.RvgBack.{FindsNoRvg, FindsPlain, FindsRvg, GroupHeld, GroupUnfound, IsLeftBack, KeptLost, IsLeftBut, LogFails, LogLacks, RvgBack, RvgFinds, RvgUp, fall_first, fuse_left}
+use Rattle.vx_events.specs.RvgBack.{FindsNoRvg, FindsPlain, FindsRvg, GroupHeld, GroupUnfound, IsLeftBack, KeptLost, IsLeftBut, LogFails, LogLacks, RvgBack, RvgFinds, RvgUp, fall_first, fuse_left, SessionLeft}
 use Rattle.vx_events.specs.RvgMakes.{RvgStops}
 use Rattle.vx_events.specs.RvgOver.{BelowEnds, EndsOver, OpensFor, OverRvg, kind_named, missed_in, noting_over, fuse_behind}
 use Rattle.vx_events.specs.RvgParts.{RvgShort, ShortGroup, ShortLog, ShortMade}
 use Rattle.vx_events.specs.declared.said.Said.{Said}
+use Rattle.vx_events.specs.RvgTakes.{RvgTaken, TakeFails, TakeLacks, TakeCut, TakeOff, TakeUnfound, TakeHeld, RvgTakes}
 
 -- ---- ends in worlds that differ in notes alone
 
@@ -127,6 +128,23 @@ module _ (told : Type 0) (d : Doubted) (line : ScriptLine) (s : ℕ) (fails : Fa
   back_stops (GroupUnfound site kept taken lost why next has is are not leaves says left) = fall_stops d s line kept taken lost next new left
   back_stops (GroupHeld site kept taken lost disk next has is are failed notes says left) = fall_stops d s line kept taken lost next new left
 
+  -- ---- imports
+
+  session_tells : (disk : ℕ) (left : List Event) → SessionLeft s disk left → (ending : Fails) × (all_fails left ≡ ending)
+  session_tells disk left (inl none) = ([], ap all_fails none)
+  session_tells disk left (inr begun) = ((s, disk) ∷ [], ap all_fails begun)
+
+  pub takes_stops : RvgTakes told d line s fails said new → RvgStops d new
+  takes_stops (RvgTaken site middle next has is are back keeps works says left) = done_by d s line false next (RecoverAt s None ∷ []) [] new refl left
+  takes_stops (TakeFails site disk middle next events has is are failed back keeps works begun says left) =
+      let tells = session_tells disk events begun in but_by true d s line false next events tells.0 new tells.1 left
+  takes_stops (TakeLacks site middle next has is are back keeps works lacks says left) = but_by true d s line false next [] [] new refl left
+  takes_stops (TakeCut site middle next events has is are fused back keeps works begun says left) =
+      let tells = session_tells 0 events begun in done_by d s line false next (events ++ FallAt s ∷ []) (tells.0 ++ []) new (told_both events (FallAt s ∷ []) ∙ ap (λ (fs : Fails). fs ++ []) tells.1) left
+  takes_stops (TakeOff site next has is are fused notes says left) = done_by d s line false next (FallAt s ∷ []) [] new refl left
+  takes_stops (TakeUnfound site lost why next has is are not leaves says left) = but_by lost d s line false next [] [] new refl left
+  takes_stops (TakeHeld site lost disk next has is are failed notes says left) = but_by lost d s line false next [] [] new refl left
+
   -- ---- other lines
 
   -- one on the group alone
@@ -160,8 +178,8 @@ module _ (told : Type 0) (d : Doubted) (line : ScriptLine) (s : ℕ) (fails : Fa
 
 -- what want of memory leaves of a recovery or an import
 pub short_stops : (told : Type 0) (d : Doubted) (line : ScriptLine) (s : ℕ) (new : Doubted) → RvgShort told d line s new → RvgStops d new
-short_stops told d line s new (ShortGroup site kept taken lost next has is notes left) = fall_stops d s line kept taken lost next new left
-short_stops told d line s new (ShortLog site kept taken fails middle next has is are back keeps cut left) = fall_stops d s line kept taken true next new left
+short_stops told d line s new (ShortGroup kept taken lost next has is notes left) = fall_stops d s line kept taken lost next new left
+short_stops told d line s new (ShortLog kept taken fails middle next has is are back keeps cut left) = fall_stops d s line kept taken true next new left
 short_stops told d line s new (ShortMade site srl maps volumes fails next is are notes left) = ended_rvg d d new (same_doubted d) s next [] refl left
 
 -- ---- where a line writes its site is open
@@ -216,9 +234,14 @@ module _ (told : Type 0) (d : Doubted) (s : ℕ) (fails : Fails) (said : Said) (
   back_or line (inl back) = inl (back_stops told d line s fails said new back)
   back_or line (inr finds) = inr finds
 
+  takes_or : (line : ScriptLine) → RvgTakes told d line s fails said new ⊎ RvgFinds told d line s fails said new → RvgStops d new ⊎ RvgFinds told d line s fails said new
+  takes_or line (inl takes) = inl (takes_stops told d line s fails said new takes)
+  takes_or line (inr finds) = inr finds
+
   -- the line ended as events do, or found something on disks of which nothing is known
   pub stops_or_finds : (line : ScriptLine) → OpensFor d.world line → OverRvg told d line s fails said new → RvgStops d new ⊎ RvgFinds told d line s fails said new
   stops_or_finds (GroupDeport site) opens ends = inl (below_stops told d (GroupDeport site) s fails said new ends)
+  stops_or_finds (GroupImport site) opens ends = takes_or (GroupImport site) ends
   stops_or_finds (Recover site) opens ends = back_or (Recover site) ends
   stops_or_finds (Write site volume start count fill) opens ends =
       write_by told d (Write site volume start count fill) s fails said new (RvgStops d new ⊎ RvgFinds told d (Write site volume start count fill) s fails said new) (λ it. inl (over_stops told d (Write site volume start count fill) s fails said new (λ recovers. recovers) (opens_at d.world (Write site volume start count fill) opens) it)) (λ below. inl (below_stops told d (Write site volume start count fill) s fails said new below)) (is_data (kind_named (d.world.nodes s) volume)) ends

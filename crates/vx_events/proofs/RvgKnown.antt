@@ -10,7 +10,7 @@ use Rattle.vx_history.specs.World.{NoFuse, Node, World}
 use Rattle.vx_config.specs.declared.config.Config.{Config}
 use Rattle.vx_model.specs.declared.units.Units.{Units}
 use Rattle.vx_script.specs.declared.line.ScriptLine.{ScriptLine}
-use Rattle.vx_script.specs.declared.line.ScriptLine.TheVariants.{Apply, GroupDeport, Put, Read, Recover, Show, Write}
+use Rattle.vx_script.specs.declared.line.ScriptLine.TheVariants.{Apply, GroupDeport, Put, Read, Recover, Show, Write, GroupImport}
 use Rattle.vx_order.specs.Calls.{is_data}
 use Rattle.vx_events.proofs.ReadsLeave.{read_by, read_note}
 use Rattle.vx_events.proofs.WritesBelow.{write_by}
@@ -28,6 +28,7 @@ use Rattle.vx_events.specs.RvgNotes.{NotesNarrowed}
 use Rattle.vx_events.specs.RvgOver.{BelowEnds, EndsOver, NotesLine, OverRvg, kind_named, missed_in, noting_over, fuse_behind}
 use Rattle.vx_events.specs.RvgWorks.{FuseRanOut, NotesWork, WorksAs}
 use Rattle.vx_events.specs.declared.said.Said.{Said}
+use Rattle.vx_events.specs.RvgTakes.{RvgTaken, TakeFails, TakeLacks, TakeCut, TakeOff, TakeUnfound, TakeHeld, RvgTakes}
 
 -- ---- the note that a line leaves
 
@@ -115,6 +116,17 @@ module _ (told : Type 0) (tells : told) (d : Doubted) (s : ℕ) (known : (note_a
   finds_known line free (FindsNoRvg kept taken lost next why has are brings unknown device notes says left) =
       finds_none told tells here known (λ loose. free (brings, inl loose)) unknown
 
+  takes_known : (line : ScriptLine) → (MayDarken here line said → ⊥) → RvgTakes told d line s fails said new → (note_at (new.world.nodes s)).dark ≡ false
+  takes_known line free (RvgTaken site middle next has is are back keeps works says left) =
+      back_note s line false next d _ new left
+      (works_dark ⊥ s fails middle next works ∙ back_known told s (d.world.nodes s) fails here middle known (λ loose. free (subst BringsUp (sym is) tt, inl loose)) back)
+  takes_known line free (TakeFails site disk middle next events has is are failed back keeps works begun says left) = absurd (no_rise here line said _ says free (subst BringsUp (sym is) tt))
+  takes_known line free (TakeLacks site middle next has is are back keeps works lacks says left) = absurd (no_rise here line said _ says free (subst BringsUp (sym is) tt))
+  takes_known line free (TakeCut site middle next events has is are fused back keeps works begun says left) = absurd (no_rise here line said _ says free (subst BringsUp (sym is) tt))
+  takes_known line free (TakeOff site next has is are fused notes says left) = absurd (no_rise here line said _ says free (subst BringsUp (sym is) tt))
+  takes_known line free (TakeUnfound site lost why next has is are not leaves says left) = absurd (no_rise here line said why says free (subst BringsUp (sym is) tt))
+  takes_known line free (TakeHeld site lost disk next has is are failed notes says left) = absurd (no_rise here line said _ says free (subst BringsUp (sym is) tt))
+
   -- ---- other lines
 
   line_dark : (Off : Type 0) (line : ScriptLine) (next : GroupNode) → NotesLine Off s fails line here next → next.dark ≡ false
@@ -134,6 +146,10 @@ module _ (told : Type 0) (tells : told) (d : Doubted) (s : ℕ) (known : (note_a
   back_or_known line free (inl back) = back_known_too line free back
   back_or_known line free (inr finds) = absurd (finds_known line free finds)
 
+  takes_or_known : (line : ScriptLine) → (MayDarken here line said → ⊥) → RvgTakes told d line s fails said new ⊎ RvgFinds told d line s fails said new → (note_at (new.world.nodes s)).dark ≡ false
+  takes_or_known line free (inl takes) = takes_known line free takes
+  takes_or_known line free (inr finds) = absurd (finds_known line free finds)
+
   -- one on the group alone
   below_known : (line : ScriptLine) → (MayDarken here line said → ⊥) → BelowEnds told d line s fails said new → (note_at (new.world.nodes s)).dark ≡ false
   below_known line free below =
@@ -143,6 +159,7 @@ module _ (told : Type 0) (tells : told) (d : Doubted) (s : ℕ) (known : (note_a
 
   pub over_known : (line : ScriptLine) → (MayDarken here line said → ⊥) → OverRvg told d line s fails said new → (note_at (new.world.nodes s)).dark ≡ false
   over_known (GroupDeport site) free ends = below_known (GroupDeport site) free ends
+  over_known (GroupImport site) free ends = takes_or_known (GroupImport site) free ends
   over_known (Recover site) free ends = back_or_known (Recover site) free ends
   over_known (Write site volume start count fill) free ends =
       write_by told d (Write site volume start count fill) s fails said new ((note_at (new.world.nodes s)).dark ≡ false) (λ it. line_known (Write site volume start count fill) it) (λ below. below_known (Write site volume start count fill) free below) (is_data (kind_named (d.world.nodes s) volume)) ends

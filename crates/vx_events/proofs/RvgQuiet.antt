@@ -10,7 +10,7 @@ use Rattle.vx_history.specs.World.{Node, World}
 use Rattle.vx_model.specs.Content.{Write as BlockWrite}
 use Rattle.vx_config.specs.declared.config.Config.{Config}
 use Rattle.vx_script.specs.declared.line.ScriptLine.{ScriptLine}
-use Rattle.vx_script.specs.declared.line.ScriptLine.TheVariants.{Apply, GroupDeport, Recover, Write, Put, Read, Show}
+use Rattle.vx_script.specs.declared.line.ScriptLine.TheVariants.{Apply, GroupDeport, Recover, Write, Put, Read, Show, GroupImport}
 use Rattle.vx_events.proofs.KnownLaws.{left_note}
 use Rattle.vx_events.proofs.RvgEnding.{never_found}
 use Rattle.vx_events.proofs.RvgMissed.{loosened_group, missed_agrees, missed_node}
@@ -27,6 +27,7 @@ use Rattle.vx_events.specs.RvgOver.{BelowEnds, EndsOver, NotesLine, OverRvg, Say
 use Rattle.vx_events.specs.RvgWorks.{FuseRanOut, NoneFailed, NoteAgrees, NotesWork}
 use Rattle.vx_events.specs.declared.said.Said.{Said}
 use Rattle.vx_events.proofs.RvgKnown.{noted_over_here}
+use Rattle.vx_events.specs.RvgTakes.{RvgTaken, TakeFails, TakeLacks, TakeCut, TakeOff, TakeUnfound, TakeHeld, RvgTakes}
 
 -- ---- notes
 
@@ -101,6 +102,17 @@ module _ (told : Type 0) (tells : told) (d : Doubted) (s : ℕ) (fails : Fails) 
       agrees_at (new.world.nodes s) next (but_group lost s line taken next d _ new left) (agrees_unfound why here next leaves a)
   back_agrees line (GroupHeld site kept taken lost disk next has is are failed notes says left) = absurd (none disk failed)
 
+  takes_agrees : (line : ScriptLine) → RvgTakes told d line s fails said new → NoteAgrees (note_at (new.world.nodes s))
+  takes_agrees line (RvgTaken site middle next has is are back keeps works says left) = agrees_at (new.world.nodes s) next (back_group s line false next d _ new left) (came_agrees middle next back works)
+  takes_agrees line (TakeFails site disk middle next events has is are failed back keeps works begun says left) = absurd (none disk failed)
+  takes_agrees line (TakeLacks site middle next has is are back keeps works lacks says left) =
+      agrees_at (new.world.nodes s) next (but_group true s line false next d _ new left)
+      (agrees_same works.worked next (ap (λ (g : GroupNode). g.loose) works.is) (ap (λ (g : GroupNode). g.begun) works.is) (came_agrees middle works.worked back works.works))
+  takes_agrees line (TakeCut site middle next events has is are fused back keeps works begun says left) = absurd (dry (fused, says))
+  takes_agrees line (TakeOff site next has is are fused notes says left) = absurd (dry (fused, says))
+  takes_agrees line (TakeUnfound site lost why next has is are not leaves says left) = agrees_at (new.world.nodes s) next (but_group lost s line false next d _ new left) (agrees_unfound why here next leaves a)
+  takes_agrees line (TakeHeld site lost disk next has is are failed notes says left) = absurd (none disk failed)
+
   -- ---- other lines
 
   line_agrees : (Off : Type 0) → (Off → ⊥) → (line : ScriptLine) (next : GroupNode) → NotesLine Off s fails line here next → NoteAgrees next
@@ -121,6 +133,10 @@ module _ (told : Type 0) (tells : told) (d : Doubted) (s : ℕ) (fails : Fails) 
   back_or line (inl back) = back_agrees line back
   back_or line (inr finds) = absurd (never_found told tells d s bright fails said new line a.loose finds)
 
+  takes_or : (line : ScriptLine) → RvgTakes told d line s fails said new ⊎ RvgFinds told d line s fails said new → NoteAgrees (note_at (new.world.nodes s))
+  takes_or line (inl takes) = takes_agrees line takes
+  takes_or line (inr finds) = absurd (never_found told tells d s bright fails said new line a.loose finds)
+
   -- one on the group alone
   below_agrees : (line : ScriptLine) → (BringsUp line → ⊥) → ((n : Node) (note next : GroupNode) → GroupDoes told s n note line fails said next → NoteAgrees note → NoteAgrees next) → BelowEnds told d line s fails said new → NoteAgrees (note_at (new.world.nodes s))
   below_agrees line rests does below =
@@ -131,6 +147,7 @@ module _ (told : Type 0) (tells : told) (d : Doubted) (s : ℕ) (fails : Fails) 
 
   pub over_agrees : (line : ScriptLine) → OverRvg told d line s fails said new → NoteAgrees (note_at (new.world.nodes s))
   over_agrees (GroupDeport site) ends = below_agrees (GroupDeport site) (λ brings. brings) (λ n note next done. settled_maps note next done.0) ends
+  over_agrees (GroupImport site) ends = takes_or (GroupImport site) ends
   over_agrees (Recover site) ends = back_or (Recover site) ends
   over_agrees (Write site volume start count fill) ends =
       write_by told d (Write site volume start count fill) s fails said new (NoteAgrees (note_at (new.world.nodes s))) (λ it. line_ends (Write site volume start count fill) it)

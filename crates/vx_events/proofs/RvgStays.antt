@@ -10,7 +10,7 @@ use Rattle.vx_history.specs.World.{Node, World}
 use Rattle.vx_model.specs.Content.{Write as BlockWrite}
 use Rattle.vx_config.specs.declared.config.Config.{Config}
 use Rattle.vx_script.specs.declared.line.ScriptLine.{ScriptLine}
-use Rattle.vx_script.specs.declared.line.ScriptLine.TheVariants.{Apply, GroupDeport, Recover, Write, Put, Read, Show}
+use Rattle.vx_script.specs.declared.line.ScriptLine.TheVariants.{Apply, GroupDeport, Recover, Write, Put, Read, Show, GroupImport}
 use Rattle.vx_events.proofs.KnownLaws.{group_stays, left_note, never}
 use Rattle.vx_events.proofs.Places.{some_same}
 use Rattle.vx_events.proofs.RvgConfigs.{again_keeps, closed_keeps, keeps_self, keeps_then, loses_keeps, stayed}
@@ -33,6 +33,8 @@ use Rattle.vx_events.specs.RvgOver.{BelowEnds, NotesLine, OverRvg, EndsOver, kin
 use Rattle.vx_events.specs.RvgViews.{is_over_rvg}
 use Rattle.vx_events.specs.RvgWorks.{NotesWork, FuseRanOut, WorksCut}
 use Rattle.vx_events.specs.declared.said.Said.{Said}
+use Rattle.vx_events.specs.RvgTakes.{RvgTaken, TakeFails, TakeLacks, TakeCut, TakeOff, TakeUnfound, TakeHeld, RvgTakes, NotesOff}
+use Rattle.vx_history.specs.Stops.{IsFused}
 
 -- ---- notes
 
@@ -204,6 +206,19 @@ module _ (told : Type 0) (d : Doubted) (line : ScriptLine) (s : ℕ) (fails : Fa
   back_stays (GroupHeld site kept taken lost disk next has is are failed notes says left) =
       but_keeps lost taken next d _ left (same_config here next (refused_config here next notes))
 
+  off_config : (next : GroupNode) → NotesOff told here next → next.config ≡ here.config
+  off_config next (inl refused) = refused_config here next refused
+  off_config next (inr unknown) = unmade_config here next unknown.1
+
+  pub takes_stays : RvgTakes told d line s fails said new → NoteKeepsRvg here (note_at (new.world.nodes s))
+  takes_stays (RvgTaken site middle next has is are back keeps works says left) = left_keeps false next d _ left (works_keeps ⊥ middle next keeps works)
+  takes_stays (TakeFails site disk middle next events has is are failed back keeps works begun says left) = but_keeps true false next d _ left (left_cut ⊥ middle next keeps works)
+  takes_stays (TakeLacks site middle next has is are back keeps works lacks says left) = but_keeps true false next d _ left (left_cut ⊥ middle next keeps works)
+  takes_stays (TakeCut site middle next events has is are fused back keeps works begun says left) = left_keeps false next d _ left (left_cut (IsFused (d.world.nodes s).fuse) middle next keeps works)
+  takes_stays (TakeOff site next has is are fused notes says left) = left_keeps false next d _ left (same_config here next (off_config next notes))
+  takes_stays (TakeUnfound site lost why next has is are not leaves says left) = but_keeps lost false next d _ left (same_config here next (unfound_config why here next leaves))
+  takes_stays (TakeHeld site lost disk next has is are failed notes says left) = but_keeps lost false next d _ left (same_config here next (refused_config here next notes))
+
   -- what is found on disks of which nothing is known may be another one, and stays unknown
   finds_stays : told → RvgFinds told d line s fails said new → (note_at (new.world.nodes s)).dark ≡ false → NoteKeepsRvg here (note_at (new.world.nodes s))
   finds_stays tells (FindsRvg kept taken next mid n k row c units are brings unknown dark is same comes config fits lies says left) known =
@@ -235,9 +250,14 @@ module _ (told : Type 0) (d : Doubted) (s : ℕ) (fails : Fails) (said : Said) (
   back_or line (inl back) = inl (back_stays told d line s fails said new over back)
   back_or line (inr finds) = inr finds
 
+  takes_or : (line : ScriptLine) → RvgTakes told d line s fails said new ⊎ RvgFinds told d line s fails said new → Stays ⊎ RvgFinds told d line s fails said new
+  takes_or line (inl takes) = inl (takes_stays told d line s fails said new over takes)
+  takes_or line (inr finds) = inr finds
+
   -- the line left it noted so, or found something on disks of which nothing is known
   pub stays_or_finds : (line : ScriptLine) → OverRvg told d line s fails said new → Stays ⊎ RvgFinds told d line s fails said new
   stays_or_finds (GroupDeport site) ends = inl (below_stays told d site s fails said new ends)
+  stays_or_finds (GroupImport site) ends = takes_or (GroupImport site) ends
   stays_or_finds (Recover site) ends = back_or (Recover site) ends
   stays_or_finds (Write site volume start count fill) ends =
       write_by told d (Write site volume start count fill) s fails said new (Stays ⊎ RvgFinds told d (Write site volume start count fill) s fails said new) (λ it. inl (line_stays told d (Write site volume start count fill) s fails said new over it))

@@ -6,9 +6,9 @@ use Rattle.vx_history.specs.Doubts.{Doubted}
 use Rattle.vx_history.specs.Steps.{worked_on}
 use Rattle.vx_history.specs.World.{Node, World}
 use Rattle.vx_history.specs.declared.event.Event.{Event}
-use Rattle.vx_history.specs.declared.event.Event.TheVariants.{Crash as CrashAt, Fault, Recover as RecoverAt}
+use Rattle.vx_history.specs.declared.event.Event.TheVariants.{Crash as CrashAt, Fault, Recover as RecoverAt, Fall as FallAt}
 use Rattle.vx_script.specs.declared.line.ScriptLine.{ScriptLine}
-use Rattle.vx_script.specs.declared.line.ScriptLine.TheVariants.{GroupDeport, Put, Read, Recover, Rvg, Show, Write}
+use Rattle.vx_script.specs.declared.line.ScriptLine.TheVariants.{GroupDeport, Put, Read, Recover, Rvg, Show, Write, GroupImport}
 use Rattle.vx_events.proofs.Straying.{run_strays, runs_strays}
 use Rattle.vx_events.specs.Doubts.{IsAs}
 use Rattle.vx_events.specs.Ends.{AllDone, DiskFails, Ends, FindsLinks, FindsNone, FromBare, FromDown, FromUp, FuseRunsOut, HeaderFails, NoNumber, Recovering, ShowsReceived, place_of as site_of}
@@ -35,6 +35,7 @@ use Rattle.vx_events.specs.RvgParts.{RvgShort, ShortFull, ShortGroup, ShortLog, 
 use Rattle.vx_events.specs.RvgSteps.{AsBefore, FoundOne, FullBy, StepFull, WorksAbove, WorksBeside, WorksFull, is_for_rvg, rvg_place}
 use Rattle.vx_events.specs.StepsOver.{WorksOver, group_place, is_for_group, refused_over}
 use Rattle.vx_events.specs.declared.said.Said.{Said}
+use Rattle.vx_events.specs.RvgTakes.{RvgTaken, TakeFails, TakeLacks, TakeCut, TakeOff, TakeUnfound, TakeHeld, RvgTakes}
 
 -- one world has strayed where the other has
 abbrev pub StraysAs : (d new : Doubted) → Type 0
@@ -134,6 +135,15 @@ back_strays told d line s fails said new (GroupUnfound site kept taken lost why 
 back_strays told d line s fails said new (GroupHeld site kept taken lost disk next has is are failed notes says left) =
     left.strayed ∙ run_strays taken d (fall_first (d.world.nodes s).state s kept)
 
+takes_strays : (told : Type 0) (d : Doubted) (line : ScriptLine) (s : ℕ) (fails : Fails) (said : Said) (new : Doubted) → RvgTakes told d line s fails said new → StraysAs d new
+takes_strays told d line s fails said new (RvgTaken site middle next has is are back keeps works says left) = left.strayed ∙ run_strays false d (RecoverAt s None ∷ [])
+takes_strays told d line s fails said new (TakeFails site disk middle next events has is are failed back keeps works begun says left) = left.strayed ∙ run_strays false d events
+takes_strays told d line s fails said new (TakeLacks site middle next has is are back keeps works lacks says left) = left.strayed
+takes_strays told d line s fails said new (TakeCut site middle next events has is are fused back keeps works begun says left) = left.strayed ∙ run_strays false d (events ++ FallAt s ∷ [])
+takes_strays told d line s fails said new (TakeOff site next has is are fused notes says left) = left.strayed ∙ run_strays false d (FallAt s ∷ [])
+takes_strays told d line s fails said new (TakeUnfound site lost why next has is are not leaves says left) = left.strayed
+takes_strays told d line s fails said new (TakeHeld site lost disk next has is are failed notes says left) = left.strayed
+
 pub ends_over_strays : (told : Type 0) (d : Doubted) (line : ScriptLine) (s : ℕ) (fails : Fails) (said : Said) (new : Doubted) → EndsOver told d line s fails said new → StraysAs d new
 ends_over_strays told d line s fails said new h =
     h.left.strayed ∙ site_strays (IsKnown told (note_at (d.world.nodes s))) d line (site_of d.world line) h.ending h.inner h.middle h.ends
@@ -153,8 +163,13 @@ module _ (told : Type 0) (d : Doubted) (fails : Fails) (said : Said) (new : Doub
   either_strays line s (inl back) = inl (back_strays told d line s fails said new back)
   either_strays line s (inr finds) = inr finds
 
+  takes_found : (line : ScriptLine) (s : ℕ) → RvgTakes told d line s fails said new ⊎ RvgFinds told d line s fails said new → CalmOrFinds s line
+  takes_found line s (inl takes) = inl (takes_strays told d line s fails said new takes)
+  takes_found line s (inr finds) = inr finds
+
   over_found : (line : ScriptLine) (s : ℕ) → OverRvg told d line s fails said new → CalmOrFinds s line
   over_found (GroupDeport site) s ends = inl (below_strays told d (GroupDeport site) s fails said new ends)
+  over_found (GroupImport site) s ends = takes_found (GroupImport site) s ends
   over_found (Recover site) s ends = either_strays (Recover site) s ends
   over_found (Write site volume start count fill) s ends =
       write_by told d (Write site volume start count fill) s fails said new (CalmOrFinds s (Write site volume start count fill)) (λ it. inl (ends_over_strays told d (Write site volume start count fill) s fails said new it)) (λ below. inl (below_strays told d (Write site volume start count fill) s fails said new below)) (is_data (kind_named (d.world.nodes s) volume)) ends
@@ -240,8 +255,8 @@ short_strays told d line new (StopsRead read) = read_strays d line new read
 short_strays told d line new (StopsBetween untold p s middle is moves left) = left.strayed ∙ moves.strayed
 
 rvg_short_strays : (told : Type 0) (d : Doubted) (line : ScriptLine) (s : ℕ) (new : Doubted) → RvgShort told d line s new → StraysAs d new
-rvg_short_strays told d line s new (ShortGroup site kept taken lost next has is notes left) = left.strayed ∙ run_strays taken d (fall_first (d.world.nodes s).state s kept)
-rvg_short_strays told d line s new (ShortLog site kept taken fails middle next has is are back keeps cut left) =
+rvg_short_strays told d line s new (ShortGroup kept taken lost next has is notes left) = left.strayed ∙ run_strays taken d (fall_first (d.world.nodes s).state s kept)
+rvg_short_strays told d line s new (ShortLog kept taken fails middle next has is are back keeps cut left) =
     left.strayed ∙ run_strays taken d (fall_first (d.world.nodes s).state s kept)
 rvg_short_strays told d line s new (ShortMade site srl maps volumes fails next is are notes left) = left.strayed
 

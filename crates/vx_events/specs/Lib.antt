@@ -35,6 +35,7 @@ pub mod RvgNotes
 pub mod RvgOver
 pub mod RvgParts
 pub mod RvgSteps
+pub mod RvgTakes
 pub mod RvgViews
 pub mod RvgWorks
 pub mod Sayings

@@ -8,7 +8,7 @@ use Rattle.vx_model.specs.declared.no.No.TheVariants.{Device}
 use Rattle.vx_disk.specs.declared.shelf.Shelf.{Ghosts}
 use Rattle.vx_history.specs.Doubts.{Doubted}
 use Rattle.vx_history.specs.Groups.{GroupNode}
-use Rattle.vx_history.specs.Steps.{worked, worked_on}
+use Rattle.vx_history.specs.Steps.{burned, worked, worked_on}
 use Rattle.vx_history.specs.World.{Node}
 use Rattle.vx_order.specs.Calls.{is_data}
 use Rattle.vx_script.specs.declared.line.ScriptLine.{ScriptLine}
@@ -45,11 +45,13 @@ use Rattle.vx_events.specs.LinkedFacts.{linked_fact}
 use Rattle.vx_events.specs.RvgFits.{entries_noted}
 use Rattle.vx_events.specs.RvgOver.{EndsRead, OverRvg, ReadOut, ReadsBeside, kind_named}
 use Rattle.vx_events.specs.RvgSteps.{rvg_place}
+use Rattle.vx_events.specs.StepsOver.{fact_over}
 use Rattle.vx_events.specs.declared.said.Said.{Said}
 use Rattle.vx_events.specs.declared.said.Said.TheVariants.{Got, Refused}
 use Rattle.vx_diskset.specs.Layouts.{units_of}
 use Rattle.vx_yard.proofs.ApplySite.{comes_effect}
 use Rattle.vx_yard.proofs.Carrying.{SameLoad, carries_at, feeds_like}
+use Rattle.vx_yard.proofs.CrashLine.{fuse_fact}
 use Rattle.vx_yard.proofs.FailsStay.{fails_then}
 use Rattle.vx_yard.proofs.Lists.{get-set_same, set_same}
 use Rattle.vx_yard.proofs.OneSite.{Changed, Comes, stands_at, told_by}
@@ -176,8 +178,8 @@ module _ {R : Type 0} {g : Ghosts R} where
       noted_now : NotedOver (worked n) (Over p)
       noted_now = ((λ other here. subst (λ (x : GroupNode). SiteNoted (worked n) x (Over p)) (some_same (sym (note_is n call.at.over) ∙ here)) site_now), call.at.named)
 
-      shown : linked_fact d.world s ≡ linked_fact left.world s
-      shown = sym (fact_like n (worked n) (d.world.links s) d.world.sites refl (λ k l. refl))
+      shown : linked_fact d.world s ≡ fact_over left.world s
+      shown = sym (fact_like n (worked n) (d.world.links s) d.world.sites (fuse_fact n (burned n.fuse)) (λ k l. refl))
           ∙ sym (apart_same (worked n) (left.world.nodes s) (d.world.links s) (left.world.links s) d.world.sites left.world.sites (rvg_apart (worked n) call.at.over) effect.is.node effect.is.links effect.site.sites)
 
       pub reads_follow : Follows d left old new

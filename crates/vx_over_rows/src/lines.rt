@@ -27,9 +27,20 @@ fn lines_are_refused_at_such_a_site(rt: HostRuntime) -> Result<(), Fail> {
 #[test]
 fn lines_on_links_are_refused_at_such_a_site(rt: HostRuntime) -> Result<(), Fail> {
     let script =
-        b"site a 2 1024\ndg a init\nvol a log1 64 mirrors=2 layout=concat log=none fmr=off rdpol=round\nvol a maps 8 mirrors=2 layout=concat log=none fmr=off rdpol=round\nvol a v 256 mirrors=2 layout=concat log=none fmr=off rdpol=round\nrvg a srl=log1 dcm=maps vols=v\nsite b 3 256\nraw b\nset a b synchronous=off srlprot=fail\npump a b\nsettle a b\nset b a synchronous=off srlprot=fail\npump b a\nsettle b a\nwrite a v 0 1 11\nread a v 0 1\n";
+        b"site a 2 1024\ndg a init\nvol a log1 64 mirrors=2 layout=concat log=none fmr=off rdpol=round\nvol a maps 8 mirrors=2 layout=concat log=none fmr=off rdpol=round\nvol a v 256 mirrors=2 layout=concat log=none fmr=off rdpol=round\nrvg a srl=log1 dcm=maps vols=v\nsite b 3 256\nraw b\nset a b synchronous=off srlprot=fail\npump a b\nsettle a b\nset b a synchronous=off srlprot=fail\npump b a\nsettle b a\nconnect a b\ncut a b\npause a b\nresume a b\ntick a b\nconnect b a\ntick b a\nwrite a v 0 1 11\nread a v 0 1\n";
     let wanted =
-        "done\ndone\ndone\ndone\ndone\ndone\ndone\ndone\nno 1 unknown b\nno 1 unknown b\nno 1 unknown b\nno 1 unknown a\nno 1 unknown a\nno 1 unknown a\ndone 1\n11\n";
+        "done\ndone\ndone\ndone\ndone\ndone\ndone\ndone\nno 1 unknown b\nno 1 unknown b\nno 1 unknown b\nno 1 unknown a\nno 1 unknown a\nno 1 unknown a\nno 1 unknown b\nno 1 unknown b\nno 1 unknown b\nno 1 unknown b\nno 1 unknown b\nno 1 unknown a\nno 1 unknown a\ndone 1\n11\n";
+    assert!(rt; is_done(&rt, rt.alloc(), script, wanted)?);
+    Ok(())
+}
+
+// As it has no link, each of its writes is confirmed, and stays so.
+#[test]
+fn a_write_is_confirmed_at_such_a_site(rt: HostRuntime) -> Result<(), Fail> {
+    let script =
+        b"site a 2 1024\ndg a init\nvol a log1 64 mirrors=2 layout=concat log=none fmr=off rdpol=round\nvol a maps 8 mirrors=2 layout=concat log=none fmr=off rdpol=round\nvol a v 256 mirrors=2 layout=concat log=none fmr=off rdpol=round\nrvg a srl=log1 dcm=maps vols=v\nwait a 1\nwrite a v 0 1 11\nwait a 1\nwait a 2\ncrash a 0\nwait a 1\nrecover a\nwait a 1\n";
+    let wanted =
+        "done\ndone\ndone\ndone\ndone\ndone\nno 1 unknown 1\ndone 1\ndone 1\nno 1 unknown 2\ndone\nno 6 down\nrecovered 1\nsite a up\ndisk 0 ok\ndisk 1 ok\nvol log1 64 none off\nplex 0 ACTIVE\nplex 1 ACTIVE\nvol maps 8 none off\nplex 0 ACTIVE\nplex 1 ACTIVE\nvol v 256 none off\nplex 0 ACTIVE\nplex 1 ACTIVE\nrvg primary 1 a head 1 mark consistent session 2\ndone 1\n";
     assert!(rt; is_done(&rt, rt.alloc(), script, wanted)?);
     Ok(())
 }

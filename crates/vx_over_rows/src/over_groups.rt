@@ -78,3 +78,14 @@ fn other_volumes_are_read_behind_a_failed_disk(rt: HostRuntime) -> Result<(), Fa
     assert!(rt; is_done(&rt, rt.alloc(), script, wanted)?);
     Ok(())
 }
+
+// A plex that missed a write is not read, where the other one fails too.
+#[test]
+fn other_volumes_are_read_as_they_were_written(rt: HostRuntime) -> Result<(), Fail> {
+    let script =
+        b"site a 2 1024\ndg a init\nvol a log1 64 mirrors=2 layout=concat log=none fmr=off rdpol=round\nvol a maps 8 mirrors=2 layout=concat log=none fmr=off rdpol=round\nvol a v 256 mirrors=2 layout=concat log=none fmr=off rdpol=round\nvol a u 64 mirrors=2 layout=concat log=none fmr=off rdpol=round\ndisk a 1 fail\nwrite a u 5 1 66\ncrash a 0\ndisk a 1 ok\nrecover a\nrvg a srl=log1 dcm=maps vols=v\nread a u 5 2\nread a u 5 1\nshow a u 5 1\ndisk a 0 fail\nread a u 5 1\nshow a u 5 1\ndisk a 0 ok\nwrite a v 0 1 11\ncrash a 0\nrecover a\nread a u 5 1\nread a u 5 1\n";
+    let wanted =
+        "done\ndone\ndone\ndone\ndone\ndone\ndone\ndone\ndone\ndone\nrecovered\nsite a up\ndisk 0 ok\ndisk 1 ok\nvol log1 64 none off\nplex 0 ACTIVE\nplex 1 ACTIVE\nvol maps 8 none off\nplex 0 ACTIVE\nplex 1 ACTIVE\nvol v 256 none off\nplex 0 ACTIVE\nplex 1 ACTIVE\nvol u 64 none off\nplex 0 ACTIVE\nplex 1 STALE\ndone\n66\n00\n66\n66\ndone\nno 7 device 0\nno 7 device 0\ndone\ndone 1\ndone\nrecovered 1\nsite a up\ndisk 0 ok\ndisk 1 ok\nvol log1 64 none off\nplex 0 ACTIVE\nplex 1 ACTIVE\nvol maps 8 none off\nplex 0 ACTIVE\nplex 1 ACTIVE\nvol v 256 none off\nplex 0 ACTIVE\nplex 1 ACTIVE\nvol u 64 none off\nplex 0 ACTIVE\nplex 1 STALE\nrvg primary 1 a head 1 mark consistent session 2\n66\n66\n";
+    assert!(rt; is_done(&rt, rt.alloc(), script, wanted)?);
+    Ok(())
+}

@@ -43,6 +43,7 @@ use Rattle.vx_events.specs.declared.said.Said.TheVariants.{Refused}
 use Rattle.vx_settling.specs.Brights.{IsHeldDown}
 use Rattle.vx_settling.proofs.Brights.{as_bright, disks_bright, group_noted_bright, node_bright, noting_bright, run_bright, worked_bright}
 use Rattle.vx_settling.proofs.EachLines.{ends_each, kind_each}
+use Rattle.vx_events.specs.RvgTakes.{RvgTaken, TakeFails, TakeLacks, TakeCut, TakeOff, TakeUnfound, TakeHeld, RvgTakes}
 
 -- ---- what a line leaves
 
@@ -116,6 +117,16 @@ module _ (told : Type 0) (tells : told) (d : Doubted) (b : AllBright d) (fails :
   rises_bright line s held here (GroupUnfound site kept taken lost why next has is are not leaves says left) = absurd (loud said line why held says (subst BringsUp (sym is) tt))
   rises_bright line s held here (GroupHeld site kept taken lost disk next has is are failed notes says left) = absurd (loud said line _ held says (subst BringsUp (sym is) tt))
 
+  takes_bright : (line : ScriptLine) (s : ℕ) → (IsHeldDown line said → ⊥) → IsBright (new.world.nodes s) → RvgTakes told d line s fails said new → AllBright new
+  takes_bright line s held here (RvgTaken site middle next has is are back keeps works says left) =
+      back_bright s line false next d (run_as false d (RecoverAt s None ∷ [])) new left here b (run_bright false d (RecoverAt s None ∷ []) b)
+  takes_bright line s held here (TakeFails site disk middle next events has is are failed back keeps works begun says left) = absurd (loud said line _ held says (subst BringsUp (sym is) tt))
+  takes_bright line s held here (TakeLacks site middle next has is are back keeps works lacks says left) = absurd (loud said line _ held says (subst BringsUp (sym is) tt))
+  takes_bright line s held here (TakeCut site middle next events has is are fused back keeps works begun says left) = absurd (loud said line _ held says (subst BringsUp (sym is) tt))
+  takes_bright line s held here (TakeOff site next has is are fused notes says left) = absurd (loud said line _ held says (subst BringsUp (sym is) tt))
+  takes_bright line s held here (TakeUnfound site lost why next has is are not leaves says left) = absurd (loud said line why held says (subst BringsUp (sym is) tt))
+  takes_bright line s held here (TakeHeld site lost disk next has is are failed notes says left) = absurd (loud said line _ held says (subst BringsUp (sym is) tt))
+
   -- where imports agree, and the line is no refused one that brings a group up, its site stays known
   dim : (line : ScriptLine) (s : ℕ) → (BringsUp line → (note_at (d.world.nodes s)).loose ≡ false) → (IsHeldDown line said → ⊥)
       → MayDarken (note_at (d.world.nodes s)) line said → ⊥
@@ -135,8 +146,8 @@ module _ (told : Type 0) (tells : told) (d : Doubted) (b : AllBright d) (fails :
       over_group : (middle : Doubted) (s : ℕ) (next : GroupNode) → IsAs middle (noting_over line d.world middle.world s next) new → (new.world.nodes s).group ≡ Some next
       over_group middle s next left = ap (λ (w : World). (w.nodes s).group) left.world ∙ noted_over_here line d.world middle.world s next
 
-  beside_bright : (s : ℕ) → IsAs d (worked_on d.world s) new → AllBright new
-  beside_bright s left = as_bright d (worked_on d.world s) new left (node_bright d.world s (worked (d.world.nodes s)) (b.sites s) b.sites) b
+  read_bright : (s : ℕ) → IsAs d (worked_on d.world s) new → AllBright new
+  read_bright s left = as_bright d (worked_on d.world s) new left (node_bright d.world s (worked (d.world.nodes s)) (b.sites s) b.sites) b
 
   -- a line on the group alone
   below_bright : (line : ScriptLine) (s : ℕ) → (IsHeldDown line said → ⊥) → IsBright (new.world.nodes s) → BelowEnds told d line s fails said new → AllBright new
@@ -150,6 +161,8 @@ module _ (told : Type 0) (tells : told) (d : Doubted) (b : AllBright d) (fails :
   place_or : (line : ScriptLine) (s : ℕ) → (IsHeldDown line said → ⊥) → (BringsUp line → (note_at (d.world.nodes s)).loose ≡ false)
       → IsBright (new.world.nodes s) → OverRvg told d line s fails said new → AllBright new
   place_or (GroupDeport site) s held agree here below = below_bright (GroupDeport site) s held here below
+  place_or (GroupImport site) s held agree here (inl takes) = takes_bright (GroupImport site) s held here takes
+  place_or (GroupImport site) s held agree here (inr finds) = absurd (never_found told tells d s (b.sites s) fails said new (GroupImport site) (agree tt) finds)
   place_or (Recover site) s held agree here (inl back) = rises_bright (Recover site) s held here back
   place_or (Recover site) s held agree here (inr finds) = absurd (never_found told tells d s (b.sites s) fails said new (Recover site) (agree tt) finds)
   place_or (Write site volume start count fill) s held agree here ends =
@@ -157,9 +170,9 @@ module _ (told : Type 0) (tells : told) (d : Doubted) (b : AllBright d) (fails :
   place_or (Put site volume start bytes) s held agree here ends =
       write_by told d (Put site volume start bytes) s fails said new (AllBright new) (λ it. line_bright (Put site volume start bytes) s here it) (λ below. below_bright (Put site volume start bytes) s held here below) (is_data (kind_named (d.world.nodes s) volume)) ends
   place_or (Read site volume start count) s held agree here ends =
-      read_by told d (Read site volume start count) volume start count s fails said new (AllBright new) (λ it. line_bright (Read site volume start count) s here it) (λ left. beside_bright s left) (is_data (kind_named (d.world.nodes s) volume)) ends
+      read_by told d (Read site volume start count) volume start count s fails said new (AllBright new) (λ it. line_bright (Read site volume start count) s here it) (λ left. read_bright s left) (is_data (kind_named (d.world.nodes s) volume)) ends
   place_or (Show site volume start count) s held agree here ends =
-      read_by told d (Show site volume start count) volume start count s fails said new (AllBright new) (λ it. line_bright (Show site volume start count) s here it) (λ left. beside_bright s left) (is_data (kind_named (d.world.nodes s) volume)) ends
+      read_by told d (Show site volume start count) volume start count s fails said new (AllBright new) (λ it. line_bright (Show site volume start count) s here it) (λ left. read_bright s left) (is_data (kind_named (d.world.nodes s) volume)) ends
   place_or other s held agree here ends = line_bright other s here ends
 
   over_rvg_bright : (line : ScriptLine) (s : ℕ) → (IsHeldDown line said → ⊥) → (BringsUp line → (note_at (d.world.nodes s)).loose ≡ false)

@@ -11,7 +11,7 @@ use Rattle.vx_history.specs.Missing.{with_maps}
 use Rattle.vx_history.specs.Steps.{group_set, worked, worked_on}
 use Rattle.vx_history.specs.World.{Link as LinkRecord, Node, World, no_link}
 use Rattle.vx_history.specs.declared.event.Event.{Event}
-use Rattle.vx_history.specs.declared.event.Event.TheVariants.{Crash as CrashAt, Deliver as DeliverAt, Fault, Pump as PumpAt, Recover as RecoverAt}
+use Rattle.vx_history.specs.declared.event.Event.TheVariants.{Crash as CrashAt, Deliver as DeliverAt, Fault, Pump as PumpAt, Recover as RecoverAt, Fall as FallAt}
 use Rattle.vx_script.specs.declared.line.ScriptLine.{ScriptLine}
 use Rattle.vx_script.specs.declared.line.ScriptLine.TheVariants.{Apply, Crash, Disk, Fuse, GroupDeport, GroupImport, GroupInit, PlexAttach, PlexDetach, Put, Read, Recover, Rvg, Show, Status, Volume, Write}
 use Rattle.vx_world.proofs.Doubting.{like_good}
@@ -43,6 +43,7 @@ use Rattle.vx_events.specs.Strays.{gone_astray}
 use Rattle.vx_events.specs.declared.said.Said.{Said}
 use Rattle.vx_settling.specs.OtherNotes.{HasNote, may_note}
 use Rattle.vx_settling.proofs.OtherNotes
+use Rattle.vx_events.specs.RvgTakes.{RvgTaken, TakeFails, TakeLacks, TakeCut, TakeOff, TakeUnfound, TakeHeld, RvgTakes}
 
 -- ---- the sites of lines
 
@@ -307,6 +308,15 @@ module _ (i : ℕ) (o : Option GroupNode) where
       rises_notes line s apart (GroupHeld site kept taken lost disk next has is are failed notes says left) =
           fell line s apart taken lost next (fall_first (d.world.nodes s).state s kept) left
 
+      takes_notes : (line : ScriptLine) (s : ℕ) → eqb i s ≡ false → RvgTakes told d line s fails said new → HasNote i o new
+      takes_notes line s apart (RvgTaken site middle next has is are back keeps works says left) = rose line s apart false next (RecoverAt s None ∷ []) left
+      takes_notes line s apart (TakeFails site disk middle next events has is are failed back keeps works begun says left) = fell line s apart false true next events left
+      takes_notes line s apart (TakeLacks site middle next has is are back keeps works lacks says left) = fell line s apart false true next [] left
+      takes_notes line s apart (TakeCut site middle next events has is are fused back keeps works begun says left) = rose line s apart false next (events ++ FallAt s ∷ []) left
+      takes_notes line s apart (TakeOff site next has is are fused notes says left) = rose line s apart false next (FallAt s ∷ []) left
+      takes_notes line s apart (TakeUnfound site lost why next has is are not leaves says left) = fell line s apart false lost next [] left
+      takes_notes line s apart (TakeHeld site lost disk next has is are failed notes says left) = fell line s apart false lost next [] left
+
       -- the site as it came up
       came : (line : ScriptLine) (s : ℕ) (taken : Bool) (next : GroupNode) (mid : Doubted) (k : Node) (row : ℕ → LinkRecord) → eqb i s ≡ false → HasNote i o mid
           → IsLeftBack s line taken next d (gone_astray (found_linked mid s k row)) new → HasNote i o new
@@ -346,6 +356,8 @@ module _ (i : ℕ) (o : Option GroupNode) where
 
       place_or : (line : ScriptLine) (s : ℕ) → may_note d.world line i ≡ false → eqb i s ≡ false → OverRvg told d line s fails said new → HasNote i o new
       place_or (GroupDeport site) s off apart below = below_notes (GroupDeport site) s apart below
+      place_or (GroupImport site) s off apart (inl takes) = takes_notes (GroupImport site) s apart takes
+      place_or (GroupImport site) s off apart (inr finds) = finds_notes (GroupImport site) s apart finds
       place_or (Recover site) s off apart (inl back) = rises_notes (Recover site) s apart back
       place_or (Recover site) s off apart (inr finds) = finds_notes (Recover site) s apart finds
       place_or (Write site volume start count fill) s off apart ends =

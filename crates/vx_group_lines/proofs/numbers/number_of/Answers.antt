@@ -8,11 +8,13 @@ use Rattle.vx_group_lines.proofs.GroupShown.{config_at}
 use Rattle.vx_group_lines.proofs.numbers.number_of.Goals as goal
 
 -- the configuration that is asked for is sound
-pub number_by-requires-clause-sound : goal.number_by-requires-clause-sound
-number_by-requires-clause-sound g c = λ κs within x is.
-    let one = get_at c.args.yard.now.disk_sets.items c.args.site c.index.result.now c.requires.disk_set c.index.ensures in
-    let two = get_at c.args.yard.now.disk_sets.items c.args.site c.index-2.result.now c.requires.disk_set c.index-2.ensures in
-    c.sound.ensures x (ap (λ e. config_in e) (some_same (sym one ∙ two)) ∙ sym c.config.ensures ∙ is)
+pub number_by-requires : goal.number_by-requires
+number_by-requires g c = record {
+  sound = λ x is.
+      let one = get_at c.args.yard.now.disk_sets.items c.args.site c.index.result.now c.requires.disk_set c.index.ensures in
+      let two = get_at c.args.yard.now.disk_sets.items c.args.site c.index-2.result.now c.requires.disk_set c.index-2.ensures in
+      c.sound.ensures x (ap (λ e. config_in e) (some_same (sym one ∙ two)) ∙ sym c.config.ensures ∙ is);
+}
 
 pub returns : goal.returns
 returns g c = λ x has.
