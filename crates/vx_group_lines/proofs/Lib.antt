@@ -22,6 +22,9 @@ pub mod GroupWrite
 pub mod GroupRead
 pub mod BelowAt
 pub mod BelowReads
+pub mod BelowMissed
+pub mod BelowUp
+pub mod BelowOff
 pub mod BareSites
 pub mod GroupInit
 pub mod GroupEnding
