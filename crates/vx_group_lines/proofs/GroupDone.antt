@@ -50,7 +50,7 @@ abbrev pub Turns : Type 1
 Turns = Meaning → Meaning → Config → Config → Type 0
 
 module _ {R : Type 0} {g : Ghosts R} where
-  burned_noted : (n : Node) (note : GroupNode) (e : GroupSite R g) → n.group ≡ Some note → UpNoted (worked n) note e → UpNoted (with_note note n) note e
+  pub burned_noted : (n : Node) (note : GroupNode) (e : GroupSite R g) → n.group ≡ Some note → UpNoted (worked n) note e → UpNoted (with_note note n) note e
   burned_noted n note e is noted = subst (λ (o : Option GroupNode). let m : Node = record n { group = o; fuse = burned n.fuse } in UpNoted m note e) is noted
 
   module _ (d : Doubted) (line : ScriptLine) (old new : Yard R g) (name : List ℕ) (s : ℕ) (before after : DiskSet R g) (stands : StandsFor d old) (it : Calling d line old new name s before after) where

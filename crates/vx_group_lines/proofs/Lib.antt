@@ -25,6 +25,7 @@ pub mod BelowReads
 pub mod BelowMissed
 pub mod BelowUp
 pub mod BelowOff
+pub mod BelowDone
 pub mod BareSites
 pub mod GroupInit
 pub mod GroupEnding
