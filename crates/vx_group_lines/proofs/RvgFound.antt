@@ -349,7 +349,7 @@ module _ {R : Type 0} {g : Ghosts R} where
 
     named : IsNamed call.over.node
     named =
-        (call.over.now, call.over.units, ap (λ (x : GroupNode). config_of x.config) found_noted ∙ call.over.is, call.over.fits.rvg, call.over.fits.volumes, call.over.has, ap (λ (x : GroupNode). x.cut) found_noted ∙ call.over.clear)
+        (call.over.now, call.over.units, ap (λ (x : GroupNode). config_of x.config) found_noted ∙ call.over.is, call.over.fits.rvg, call.over.fits.volumes, call.over.has, cut_none call.over.node call.over.next call.over.same.group call.over.clear)
 
     here_noted : NotedOver call.over.node (Over p)
     here_noted = over_noted m next (Over p) call.over.same.group named call.over.noted

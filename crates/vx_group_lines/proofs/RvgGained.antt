@@ -172,7 +172,7 @@ module _ {R : Type 0} {g : Ghosts R} (d : Doubted) (old new : Yard R g) (name sr
             fits_here.1.rvg,
             fits_here.1.volumes,
             subst (λ (u : Units). HasUnits sits.config.volumes u) (some_same (sym it.0 ∙ fits_here.1.rvg)) it.1,
-            clear,
+            cut_none k gained refl clear,
           )
 
       -- and it is so noted

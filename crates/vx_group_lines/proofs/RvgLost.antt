@@ -137,10 +137,14 @@ module _ {R : Type 0} {g : Ghosts R} (d : Doubted) (s kept : ℕ) (taken : Bool)
       let k : KeptConfig c r.worked = then_keeps note r.group.middle r.worked keeps_here (loses s (fails 0) r.group.middle r.worked (works 0)) c at in
       record { now = k.now; is = k.is; keeps = k.keeps }
 
+  -- the volumes are as large as they were
+  sizes_lost : (v : ℕ) → 0 < note.bytes.size v → lost_note.bytes.size v ≡ note.bytes.size v
+  sizes_lost v low = ap (λ (k : Content). k.size v) r.works.same.bytes ∙ r.group.returns.size r.told v low
+
   named : IsNamed m
   named =
       let was_named = rest_named b old new s o (Over p) call in
-      named_again n m lost_note refl refl keeps_lost was_named.6 was_named
+      named_again n m lost_note refl refl keeps_lost (cut_stays n m lost_note refl refl sizes_lost (λ up. up) was_named.6) was_named
 
   -- ---- what is seen of it
 

@@ -24,7 +24,7 @@ use Rattle.vx_grouped.specs.declared.laid.Laid.{Laid}
 use Rattle.vx_diskset.proofs.GroundNotes.{calm_by}
 use Rattle.vx_diskset.specs.Aboves.{site_in}
 use Rattle.vx_diskset.specs.Layouts.{units_of}
-use Rattle.vx_diskset.specs.Noted.{AgreesStill, IsNamed, below_rvg}
+use Rattle.vx_diskset.specs.Noted.{AgreesStill, CutRests, IsNamed, below_rvg}
 use Rattle.vx_diskset.specs.OverRises.{CameGroup, note_ready}
 use Rattle.vx_diskset.specs.declared.disk_set.DiskSet.TheVariants.{Over}
 use Rattle.vx_diskset.specs.declared.over_set.OverSet.{OverSet}
@@ -63,8 +63,8 @@ rose_between a x y z low it high = record {
 }
 
 -- the data volumes of a site are those of another note as well that keeps the replicated volume group
-pub named_again : (n m : Node) (next : GroupNode) → m.volumes ≡ n.volumes → m.group ≡ Some next → NoteKeepsRvg (note_at n) next → next.cut ≡ None → IsNamed n → IsNamed m
-named_again n m next volumes group keeps clear it =
+pub named_again : (n m : Node) (next : GroupNode) → m.volumes ≡ n.volumes → m.group ≡ Some next → NoteKeepsRvg (note_at n) next → CutRests m → IsNamed n → IsNamed m
+named_again n m next volumes group keeps rests it =
     let k : KeptConfig it.0 next = keeps it.0 it.2 in (
       k.now,
       it.1,
@@ -72,7 +72,7 @@ named_again n m next volumes group keeps clear it =
       k.keeps.rvg ∙ it.3,
       volumes ∙ it.4 ∙ ap (λ (ys : List DataVolume). map as_volume ys) (sym (data_kept it.0 k.now k.keeps it.1.vols it.5.vols)),
       record { srl = has_kept it.0 k.now k.keeps it.1.srl it.5.srl; vols = all_kept it.0 k.now k.keeps it.1.vols it.5.vols },
-      ap (λ (o : Option GroupNode). (unwrap_or o no_note).cut) group ∙ clear,
+      rests,
     )
 
 module _ {R : Type 0} {g : Ghosts R} (b : Doubted) (old new : Yard R g) (s : ℕ) (o p : OverSet R g) (call : DownCall b old new s o (Over p)) where

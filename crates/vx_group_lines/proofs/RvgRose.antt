@@ -146,7 +146,7 @@ module _ {R : Type 0} {g : Ghosts R} (d : Doubted) (s kept : ℕ) (taken : Bool)
     clear = r.over.works.same.cut ∙ r.group.returns.cut
 
     named : IsNamed risen
-    named = named_again n risen next refl refl keeps_next clear (rest_named b old new s o (Over p) call)
+    named = named_again n risen next refl refl keeps_next (cut_none risen next refl clear) (rest_named b old new s o (Over p) call)
 
     -- ---- the world
 
