@@ -1,6 +1,7 @@
 -- What calls on the group below a replicated volume group lead the yard of a site to whose fuse ran out in them: it crashed, and keeps all its writes.
 use Rattle.std.proofs.Common.{◌≡◌, ◌∙◌, ◌⊎◌, inl, inr, ℕ, ◌<◌, ◌≤◌, Bool, true, false, List, length, map, ap, sym, subst, refl, arith}
 use Rattle.std.specs.Prelude.{Some, None, if◌then◌else◌, slice_set}
+use Rattle.vx_model.specs.Content.{Write}
 use Rattle.vx_model.specs.Sites.{is_origin}
 use Rattle.vx_model.specs.declared.site.SiteState.TheVariants.{Up as IsUp, Down as IsDown}
 use Rattle.vx_model.specs.declared.units.Units.{Units}
@@ -16,7 +17,7 @@ use Rattle.vx_history.specs.Step.{done, headers_counted}
 use Rattle.vx_history.specs.Steps.{burned, crashed}
 use Rattle.vx_history.specs.World.{Fuse, Node, NoFuse}
 use Rattle.vx_history.specs.declared.event.Event.TheVariants.{Crash as CrashAt}
-use Rattle.vx_grouped.specs.GroupSites.{DownNoted, idle_below, idle_disks, with_note}
+use Rattle.vx_grouped.specs.GroupSites.{DownNoted, FitsPlain, idle_below, idle_disks, with_note}
 use Rattle.vx_grouped.specs.SetFuses.{HasFuse}
 use Rattle.vx_grouped.specs.declared.group_site.GroupSite.{GroupSite}
 use Rattle.vx_grouped.specs.declared.group_site.GroupSite.TheVariants.{Up as SiteUp, Deported as SiteAway, Down as SiteDown, Marked, Gone as SiteGone}
@@ -59,7 +60,7 @@ use Rattle.vx_yard.specs.Standing.{BeginsFirst, StandsFor, crash_of}
 use Rattle.vx_yard.specs.declared.yard.Yard.{Yard}
 use Rattle.vx_above.proofs.OverComes.{none_still, on_still}
 use Rattle.vx_above.proofs.OverSites.{over_again}
-use Rattle.vx_group_lines.proofs.BelowUp.{BelowCalled, NotesBelow, changed_over, same_rvg, same_units, there_before}
+use Rattle.vx_group_lines.proofs.BelowUp.{BelowAs, BelowCalled, NotesBelow, NotesStill, below_as, changed_over, none_cut, notes_still, same_cut, same_rvg, same_units, there_before}
 use Rattle.vx_group_lines.proofs.GroupEnding.{world_off, world_up}
 use Rattle.vx_group_lines.proofs.GroupLeads.{Follows}
 use Rattle.vx_group_lines.proofs.RvgReturns.{named_again}
@@ -131,8 +132,9 @@ module _ {R : Type 0} {g : Ghosts R} where
   on_down n m note (Marked rack) like it = absurd it
   on_down n m note SiteGone like it = absurd it
 
-  module _ (d : Doubted) (old new : Yard R g) (name : List ℕ) (s : ℕ) (before after : DiskSet R g) (p : OverSet R g) (stands : StandsFor d old) (call : BelowCalled d old new name s before after p)
-      (k : GroupNode) (noted : DownNoted (crashed (with_note k (below_rvg (d.world.nodes s))) 0) k (site_in p)) (notes : NotesBelow (note_at (d.world.nodes s)) k)
+  module _ (d : Doubted) (old new : Yard R g) (name : List ℕ) (s : ℕ) (before after : DiskSet R g) (p : OverSet R g) (stands : StandsFor d old) (call : BelowAs d old new name s before after p)
+      (k : GroupNode) (noted : DownNoted (crashed (with_note k (below_rvg (d.world.nodes s))) 0) k (site_in p)) (notes : NotesStill (note_at (d.world.nodes s)) k)
+      (cut : cut_value p.cut ≡ k.cut) (fits_cut : (x : Write) → k.cut ≡ Some x → FitsPlain k x.volume x.start (length x.bytes))
       (rests : (units : Units) → rvg_noted k ≡ Some units → RestsNamed units (length (entries_noted k)) (site_in p)) (table : over_table (with_note k (d.world.nodes s)) k ≡ over_table (d.world.nodes s) (note_at (d.world.nodes s))) where
     abbrev n : Node
     n = d.world.nodes s
@@ -218,14 +220,14 @@ module _ {R : Type 0} {g : Ghosts R} where
     site_now : SiteNoted m k (Over p)
     site_now = (
       on_down (crashed (with_note k (below_rvg n)) 0) (below_rvg m) k (site_in p) (fell_like n k m refl refl refl refl refl) noted,
-      ap (λ x. cut_value x) call.cut ∙ call.at.noted.1 ∙ sym notes.cut,
+      cut,
       λ u inside. ap (λ (f : ℕ → Bool). f u) notes.inside ∙ call.at.noted.2 u (subst (λ (us : Units). IsGroupDisk us u) units_here inside),
       record { tidy = notes.tidy; named = named_now },
       rests (units_of m) named_now,
     )
 
     noted_now : NotedOver m (Over p)
-    noted_now = ((λ other there. subst (λ (x : GroupNode). SiteNoted m x (Over p)) (some_same there) site_now), named_again n m k refl refl notes.keeps (notes.cut ∙ call.at.named.6) call.at.named)
+    noted_now = ((λ other there. subst (λ (x : GroupNode). SiteNoted m x (Over p)) (some_same there) site_now), named_again n m k refl refl notes.keeps (λ up. absurd (down_up up), fits_cut) call.at.named)
 
     seen : down_fact (fact_from n (d.world.links s) d.world.sites) ≡ fact_from m ((world_up e s k).world.links s) (world_up e s k).world.sites
     seen = facts_is (down_fact (fact_from n (d.world.links s) d.world.sites)) (fact_from m ((world_up e s k).world.links s) (world_up e s k).world.sites) refl refl refl refl
@@ -247,5 +249,17 @@ module _ {R : Type 0} {g : Ghosts R} where
     }
 
     -- the yard stands for the crash that a line of the group tells of, and carries it
+    pub fell_by : new.facts.items ≡ slice_set old.facts.items s (down_fact (fact_from (d.world.nodes s) (d.world.links s) d.world.sites)) → LetsGo old new s → Follows d (world_off d s k) old new
+    fell_by facts lets = subst (λ (x : Doubted). Follows d (world_up x s k) old new) (crash_as d s fell.count 0 call.at.seat.below call.up kept_all) (fell_follows facts lets)
+
+  -- where no write is cut
+  module _ (d : Doubted) (old new : Yard R g) (name : List ℕ) (s : ℕ) (before after : DiskSet R g) (p : OverSet R g) (stands : StandsFor d old) (call : BelowCalled d old new name s before after p)
+      (k : GroupNode) (noted : DownNoted (crashed (with_note k (below_rvg (d.world.nodes s))) 0) k (site_in p)) (notes : NotesBelow (note_at (d.world.nodes s)) k)
+      (rests : (units : Units) → rvg_noted k ≡ Some units → RestsNamed units (length (entries_noted k)) (site_in p)) (table : over_table (with_note k (d.world.nodes s)) k ≡ over_table (d.world.nodes s) (note_at (d.world.nodes s))) where
+    clear : k.cut ≡ None
+    clear = notes.cut ∙ none_cut d old new name s before after p stands call
+
     pub below_fell : new.facts.items ≡ slice_set old.facts.items s (down_fact (fact_from (d.world.nodes s) (d.world.links s) d.world.sites)) → LetsGo old new s → Follows d (world_off d s k) old new
-    below_fell facts lets = subst (λ (x : Doubted). Follows d (world_up x s k) old new) (crash_as d s fell.count 0 call.at.seat.below call.up kept_all) (fell_follows facts lets)
+    below_fell =
+        fell_by d old new name s before after p stands (below_as d old new name s before after p call) k noted (notes_still (note_at (d.world.nodes s)) k notes) (same_cut d old new name s before after p stands call k notes.cut)
+        (λ x is. absurd (never_some (sym clear ∙ is))) rests table

@@ -17,6 +17,7 @@ use Rattle.vx_watched.specs.Since.{CalledSince}
 use Rattle.vx_grouped.specs.GroupSites.{UpNoted, site_disks, with_note}
 use Rattle.vx_grouped.specs.declared.group_site.GroupSite.{GroupSite}
 use Rattle.vx_grouped.specs.declared.group_site.GroupSite.TheVariants.{Up as SiteUp, Deported as SiteAway, Down as SiteDown, Marked, Gone as SiteGone}
+use Rattle.vx_diskset.proofs.NotedLikes.{cut_none}
 use Rattle.vx_diskset.proofs.OverLikes.{over_like}
 use Rattle.vx_diskset.proofs.OverNoted.{up_named, up_noted}
 use Rattle.vx_diskset.specs.Aboves.{site_in}
@@ -65,6 +66,15 @@ pub record NotesBelow (note next : GroupNode) : Type 0 where
   pub cut : next.cut ≡ note.cut
   pub inside : next.inside ≡ note.inside
 
+-- the same, whatever write is cut
+pub record NotesStill (note next : GroupNode) : Type 0 where
+  pub keeps : NoteKeepsRvg note next
+  pub tidy : IsNoteTidy next
+  pub inside : next.inside ≡ note.inside
+
+pub notes_still : (note next : GroupNode) → NotesBelow note next → NotesStill note next
+notes_still note next it = record { keeps = it.keeps; tidy = it.tidy; inside = it.inside }
+
 module _ {R : Type 0} {g : Ghosts R} where
   -- the disks behind a call, of which this holds
   pub record OverBehind (P : OverSet R g → Type 0) (e : DiskSet R g) : Type 0 where
@@ -86,6 +96,17 @@ module _ {R : Type 0} {g : Ghosts R} where
   overs_behind P before after o is it = over_behind P o after (subst (λ (x : DiskSet R g). OnOver P x after) is it)
 
   -- a call on the group, and what it left of the yard
+  pub record BelowAs (d : Doubted) (old new : Yard R g) (name : List ℕ) (s : ℕ) (before after : DiskSet R g) (p : OverSet R g) : Type 0 where
+    pub at : BelowAt d old name s before
+    pub up : (d.world.nodes s).state ≡ IsUp
+    pub running : (d.world.nodes s).halted ≡ None
+    pub changed : Changed old new s before after
+    pub failing : SameFailing before after
+    pub since : CalledOn before after
+    pub is : after ≡ Over p
+    pub kept : KeepsOver at.set p
+
+  -- one in which no write is cut
   pub record BelowCalled (d : Doubted) (old new : Yard R g) (name : List ℕ) (s : ℕ) (before after : DiskSet R g) (p : OverSet R g) : Type 0 where
     pub at : BelowAt d old name s before
     pub up : (d.world.nodes s).state ≡ IsUp
@@ -96,6 +117,10 @@ module _ {R : Type 0} {g : Ghosts R} where
     pub is : after ≡ Over p
     pub cut : p.cut ≡ at.set.cut
     pub kept : KeepsOver at.set p
+
+  pub below_as : (d : Doubted) (old new : Yard R g) (name : List ℕ) (s : ℕ) (before after : DiskSet R g) (p : OverSet R g) → BelowCalled d old new name s before after p → BelowAs d old new name s before after p
+  below_as d old new name s before after p it =
+      record { at = it.at; up = it.up; running = it.running; changed = it.changed; failing = it.failing; since = it.since; is = it.is; kept = it.kept }
 
   -- the disks of a group that is up are up
   pub below_runs : (n : Node) (note : GroupNode) (e : GroupSite R g) → UpNoted n note e → IsTrue (site_disks e).down → ⊥
@@ -113,7 +138,7 @@ module _ {R : Type 0} {g : Ghosts R} where
   up_kept beside n m note p (Marked rack) it by = absurd it
   up_kept beside n m note p SiteGone it by = absurd it
 
-  module _ (d : Doubted) (old new : Yard R g) (name : List ℕ) (s : ℕ) (before after : DiskSet R g) (p : OverSet R g) (stands : StandsFor d old) (call : BelowCalled d old new name s before after p) where
+  module _ (d : Doubted) (old new : Yard R g) (name : List ℕ) (s : ℕ) (before after : DiskSet R g) (p : OverSet R g) (stands : StandsFor d old) (call : BelowAs d old new name s before after p) where
     abbrev n : Node
     n = d.world.nodes s
 
@@ -145,7 +170,7 @@ module _ {R : Type 0} {g : Ghosts R} where
     pub same_units : (k : GroupNode) → NoteKeepsRvg (note_at (d.world.nodes s)) k → units_of (with_note k (d.world.nodes s)) ≡ units_of (d.world.nodes s)
     same_units k keeps = noted_units k keeps ∙ sym (ap (λ (x : Option GroupNode). units_by x n.disks) (note_is n call.at.over))
 
-    module _ (k : GroupNode) (noted : UpNoted (below_rvg (with_note k (d.world.nodes s))) k (site_in p)) (notes : NotesBelow (note_at (d.world.nodes s)) k) where
+    module _ (k : GroupNode) (noted : UpNoted (below_rvg (with_note k (d.world.nodes s))) k (site_in p)) (notes : NotesStill (note_at (d.world.nodes s)) k) (cut : cut_value p.cut ≡ k.cut) (clear : k.cut ≡ None) where
       abbrev m : Node
       m = with_note k (d.world.nodes s)
 
@@ -189,18 +214,18 @@ module _ {R : Type 0} {g : Ghosts R} where
       site_now : SiteNoted m k (Over p)
       site_now = (
         up_noted (below_rvg m) k (site_in p) noted,
-        ap (λ c. cut_value c) call.cut ∙ call.at.noted.1 ∙ sym notes.cut,
+        cut,
         λ u here. ap (λ (f : ℕ → Bool). f u) notes.inside ∙ call.at.noted.2 u (subst (λ (us : Units). IsGroupDisk us u) (same_units k notes.keeps) here),
         record { tidy = notes.tidy; named = same_rvg k notes.keeps ∙ call.at.noted.3.named ∙ ap (λ (us : Units). Some us) (sym (same_units k notes.keeps)) },
         up_named (below_rvg m) k (units_of m) (length (entries_noted k)) (site_in p) noted,
       )
 
       noted_now : NotedOver m (Over p)
-      noted_now = ((λ other here. subst (λ (x : GroupNode). SiteNoted m x (Over p)) (some_same here) site_now), named_again n m k refl refl notes.keeps (notes.cut ∙ call.at.named.6) call.at.named)
+      noted_now = ((λ other here. subst (λ (x : GroupNode). SiteNoted m x (Over p)) (some_same here) site_now), named_again n m k refl refl notes.keeps (cut_none m k refl clear) call.at.named)
 
       -- the yard stands for it, and carries it
-      pub below_follows : (f : SiteFacts) → f ≡ fact_from m (d.world.links s) d.world.sites → new.facts.items ≡ slice_set old.facts.items s f → SameLoad old new → Follows d (world_up d s k) old new
-      below_follows f shown facts load = record {
+      pub follows_by : (f : SiteFacts) → f ≡ fact_from m (d.world.links s) d.world.sites → new.facts.items ≡ slice_set old.facts.items s f → SameLoad old new → Follows d (world_up d s k) old new
+      follows_by f shown facts load = record {
         stands = stands_at d (world_up d s k) old new s f before (Over p) stands call.at.seat.below changed_over comes
             (λ _. subst (λ (x : Node). BeginsFirst s x) (sym effect.is.node) (begins_apart s (beside_of d s) m (Over p) stood (rvg_apart m still_over)))
             (λ _. subst (λ (x : Node). NotedOver x (Over p)) (sym effect.is.node) noted_now)
@@ -210,3 +235,17 @@ module _ {R : Type 0} {g : Ghosts R} where
             (feeds_like n ((world_up d s k).world.nodes s) (ap (λ (x : Node). x.state) effect.is.node) (ap (λ (x : Node). x.role) effect.is.node) (ap (λ (x : Node). x.fed_by) effect.is.node))
             (told_by old new s before (Over p) changed_over);
       }
+
+  -- where no write is cut
+  module _ (d : Doubted) (old new : Yard R g) (name : List ℕ) (s : ℕ) (before after : DiskSet R g) (p : OverSet R g) (stands : StandsFor d old) (call : BelowCalled d old new name s before after p) where
+    -- none was
+    pub none_cut : (note_at (d.world.nodes s)).cut ≡ None
+    none_cut = let rests = call.at.named.6 in rests.0 call.up
+
+    pub same_cut : (k : GroupNode) → k.cut ≡ (note_at (d.world.nodes s)).cut → cut_value p.cut ≡ k.cut
+    same_cut k same = ap (λ c. cut_value c) call.cut ∙ call.at.noted.1 ∙ sym same
+
+    pub below_follows : (k : GroupNode) → UpNoted (below_rvg (with_note k (d.world.nodes s))) k (site_in p) → NotesBelow (note_at (d.world.nodes s)) k → (f : SiteFacts) → f ≡ fact_from (with_note k (d.world.nodes s)) (d.world.links s) d.world.sites
+        → new.facts.items ≡ slice_set old.facts.items s f → SameLoad old new → Follows d (world_up d s k) old new
+    below_follows k noted notes =
+        follows_by d old new name s before after p stands (below_as d old new name s before after p call) k noted (notes_still (note_at (d.world.nodes s)) k notes) (same_cut k notes.cut) (notes.cut ∙ none_cut)
