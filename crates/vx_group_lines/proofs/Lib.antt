@@ -26,6 +26,11 @@ pub mod BelowMissed
 pub mod BelowUp
 pub mod BelowOff
 pub mod BelowDone
+pub mod BelowStart
+pub mod PlexPlaces
+pub mod BelowPlex
+pub mod BelowDetach
+pub mod BelowAttach
 pub mod BareSites
 pub mod GroupInit
 pub mod GroupEnding
