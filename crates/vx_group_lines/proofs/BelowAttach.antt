@@ -77,7 +77,7 @@ module _ {R : Type 0} {g : Ghosts R} where
     attach_done : (count : ℕ) → AttBelow (below_rvg (d.world.nodes s)) note v plex was (site_in p) (Ok count) → AttMapped v plex was (site_in p) (Ok count) → (IsTrue (is_plex_on was v plex) → count ≡ 0) → (is_plex_on was v plex ≡ false → RegionsOf was v count)
         → ((no : No) → refuses_att was v plex ≡ Some no → ⊥) → new.facts.items ≡ old.facts.items → SameLoad old new → LeadsBelow d (PlexAttach name volume plex) s (DoneAt count) old new
     attach_done count called maps none all never facts load =
-        below_done d (PlexAttach name volume plex) old new name s before after p stands it {ℕ} true (λ o e. AttDone v plex o e) (λ o e. AttFails v plex o e) (λ o e. AttCuts v plex o e) (AttMaps v plex) (λ which. refuses_att was v plex ≡ Some which) (DoneAt count) count (λ k h. h)
+        below_done d (PlexAttach name volume plex) old new name s before after p stands it {T = ℕ} true (λ o e. AttDone v plex o e) (λ o e. AttFails v plex o e) (λ o e. AttCuts v plex o e) (AttMaps v plex) (λ which. refuses_att was v plex ≡ Some which) (DoneAt count) count (λ k h. h)
         (record {
           ends = λ many fails o e next was now names noted noted_now enough logs change keeps w by. (
             with_goes (Reconfigures (λ c x. PutsOr s fails (λ k. lies_on_disk c v plex k) v plex Active c x) NoteSettles) (MapsAttached s fails v plex) note next was now w noted noted_now

@@ -75,7 +75,7 @@ module _ {R : Type 0} {g : Ghosts R} where
     det_done : DetBelow (below_rvg (d.world.nodes s)) note v plex was (site_in p) (Ok (tt {0})) → UpMaps (DetMapsDone v plex) was (site_in p)
         → ((no : No) → refuses_det was v plex ≡ Some no → (let r : Result (Unit {0}) Stop = Ok (tt {0}) in r) ≡ Err (StopsBy no)) → new.facts.items ≡ old.facts.items → SameLoad old new → LeadsBelow d (PlexDetach name volume plex) s Done old new
     det_done called maps refused facts load =
-        below_done d (PlexDetach name volume plex) old new name s before after p stands it {Unit {0}} false (λ o e. DetDone v plex o e) (λ o e. DetFails o e) (λ o e. DetCuts v plex o e) (DetMapsDone v plex) (λ which. refuses_det was v plex ≡ Some which) Done (tt {0}) (λ k h. h)
+        below_done d (PlexDetach name volume plex) old new name s before after p stands it {T = Unit {0}} false (λ o e. DetDone v plex o e) (λ o e. DetFails o e) (λ o e. DetCuts v plex o e) (DetMapsDone v plex) (λ which. refuses_det was v plex ≡ Some which) Done (tt {0}) (λ k h. h)
         (record {
           ends = λ many fails o e next was now names noted noted_now enough logs change keeps w by. (
             with_goes (Reconfigures (λ c x. PutsOr s fails none_again v plex Stale c x) NoteSettles) (MapsDetached s fails v plex) note next was now w noted noted_now
@@ -166,9 +166,12 @@ module _ {R : Type 0} {g : Ghosts R} where
         let r : Result (Unit {0}) Stop = Ok (tt {0}) in
         let then : OverBehind (DetsBelow place asked r start.at.set) after = then_of r on in
         let so : DetsBelow v plex r start.at.set then.set = det_so place asked v plex r start.at.set then.set named.number whole then.holds in
-        above_is d old new name s before (PlexDetach name volume plex) (Ok Done) start start.number (λ said fails next ends. ends)
-        (Done, refl, det_done e old new name volume plex place s before after then.set start.stands (line_of r then) named start.asks
-        (so.called (below_rvg (e.world.nodes s)) note start.asks) (so.maps (below_rvg (e.world.nodes s)) note start.asks) (λ no is. so.refused (below_rvg (e.world.nodes s)) note no start.asks is) facts load)
+        above_is d old new name s before (PlexDetach name volume plex) (Ok Done) start start.number (λ said fails next ends. ends) (
+          Done,
+          refl,
+          det_done e old new name volume plex place s before after then.set start.stands (line_of r then) named start.asks
+              (so.called (below_rvg (e.world.nodes s)) note start.asks) (so.maps (below_rvg (e.world.nodes s)) note start.asks) (λ no is. so.refused (below_rvg (e.world.nodes s)) note no start.asks is) facts load,
+        )
 
     pub undetached : (mid : Yard R g) (result : Result Said OutOfMemory) → Midway old mid → (stop : Stop) → OnOver (DetsBelow place asked (Err stop)) before after → reply_noted s (linked_fact (missed_in start.missed d s).world s) stop mid new result
         → LeadsAboveIs d (PlexDetach name volume plex) old new result
