@@ -31,6 +31,11 @@ pub mod BelowUnmapped
 pub mod BelowLoosened
 pub mod BelowGone
 pub mod BelowDeport
+pub mod BelowStart
+pub mod PlexPlaces
+pub mod BelowPlex
+pub mod BelowDetach
+pub mod BelowAttach
 pub mod BareSites
 pub mod GroupInit
 pub mod GroupEnding
