@@ -46,6 +46,7 @@ plain_on false false mine is here apart = absurd (let clash : false ≡ true = h
 
 -- a line that may do nothing but work on the group, or that makes it, and reads no volume
 abbrev pub WorksAlone : ScriptLine → Type 0
+WorksAlone (GroupDeport site) = ⊥
 WorksAlone (GroupImport site) = ⊥
 WorksAlone (Recover site) = ⊥
 WorksAlone (Rvg site srl maps volumes) = ⊥
@@ -60,7 +61,7 @@ alone_makes other alone = tt
 -- where it is not open, no replicated volume group is over the group
 alone_off : (w : World) (line : ScriptLine) → WorksAlone line → goes_to_group w line ≡ true → is_open w line ≡ false → is_for_rvg w line ≡ false
 alone_off w (GroupInit site) alone goes closed = refl
-alone_off w (GroupDeport site) alone goes closed = closed
+alone_off w (GroupDeport site) alone goes closed = absurd alone
 alone_off w (GroupImport site) alone goes closed = absurd alone
 alone_off w (Volume site volume blocks mirrors layout log map policy) alone goes closed = closed
 alone_off w (PlexDetach site volume plex) alone goes closed = closed
@@ -155,6 +156,25 @@ module _ {R : Type 0} {g : Ghosts R} (d : Doubted) (y : Yard R g) where
         → (is_for_rvg d.world (Recover name) ≡ true → LeadsAboveIs d (Recover name) y new r) → WorksIs d words y new r
     works_recover words name r is goes beside above =
         subst (λ (x : ScriptLine). WorksIs d x y new r) (sym is) (recover_works name r (subst (λ (x : ScriptLine). goes_to_group d.world x ≡ true) is goes) beside above)
+
+    -- ---- one that works on the group alone, below a replicated volume group or not
+
+    below_works : (line : ScriptLine) (r : Result Said OutOfMemory) → MakesNoRvg line → StandsFor d y → IsYardKept y → IsFree y line → goes_to_group d.world line ≡ true → is_open d.world line ≡ false
+        → (is_for_group d.world line ≡ true → LeadsOverIs d line y new r) → (is_for_rvg d.world line ≡ true → LeadsAboveIs d line y new r) → WorksIs d line y new r
+    below_works line r none stands kept free goes closed leads above = by (is_for_rvg d.world line) refl
+      where
+        by : (b : Bool) → is_for_rvg d.world line ≡ b → WorksIs d line y new r
+        by true over = works_above d line y new none closed over r (above over)
+        by false off =
+            let group : is_for_group d.world line ≡ true = alone_goes line none stands kept free goes off in
+            works_over d line y new none closed off r group (or_stops d line y new r (leads group))
+
+    pub works_below : (words line : ScriptLine) (r : Result Said OutOfMemory) → words ≡ line → MakesNoRvg line → StandsFor d y → IsYardKept y → IsFree y words → goes_to_group d.world words ≡ true → is_open d.world words ≡ false
+        → (is_for_group d.world line ≡ true → LeadsOverIs d line y new r) → (is_for_rvg d.world line ≡ true → LeadsAboveIs d line y new r) → WorksIs d words y new r
+    works_below words line r is none stands kept free goes closed leads above =
+        subst (λ (x : ScriptLine). WorksIs d x y new r) (sym is)
+        (below_works line r none stands kept (subst (λ (x : ScriptLine). IsFree y x) is free) (subst (λ (x : ScriptLine). goes_to_group d.world x ≡ true) is goes)
+        (subst (λ (x : ScriptLine). is_open d.world x ≡ false) is closed) leads above)
 
     -- ---- one that reads a volume
 
