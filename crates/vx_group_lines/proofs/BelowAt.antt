@@ -63,9 +63,8 @@ module _ {R : Type 0} {g : Ghosts R} where
     pub noted : SiteNoted (d.world.nodes s) (note_at (d.world.nodes s)) (Over set)
     pub named : IsNamed (d.world.nodes s)
 
-  pub below_at : (d : Doubted) (y : Yard R g) (name : List ℕ) (s : ℕ) (e : DiskSet R g) → StandsFor d y → seat_of y.facts.items name ≡ Some s → over_rvg_at d.world name ≡ true → slice_get y.disk_sets.items s ≡ Some e → BelowAt d y name s e
-  below_at d y name s e stands seat over there =
-      let here : is_over_rvg (d.world.nodes s) ≡ true = subst (λ (i : ℕ). is_over_rvg (d.world.nodes i) ≡ true) (place_at d y name s stands seat).number over in
+  pub below_here : (d : Doubted) (y : Yard R g) (name : List ℕ) (s : ℕ) (e : DiskSet R g) → StandsFor d y → seat_of y.facts.items name ≡ Some s → is_over_rvg (d.world.nodes s) ≡ true → slice_get y.disk_sets.items s ≡ Some e → BelowAt d y name s e
+  below_here d y name s e stands seat here there =
       let at : SiteAt d y name s = site_at d y name s stands (rvg_apart (d.world.nodes s) here) seat in
       let it : SiteStands (beside_of d s) (d.world.nodes s) e = stands.disk_sets.sites s e at.below there in
       let of : OverIs e = over_set (beside_of d s) (d.world.nodes s) e it here in
@@ -79,6 +78,10 @@ module _ {R : Type 0} {g : Ghosts R} where
         noted = site_noted d y s of.set stands at.below placed here;
         named = site_named d y s of.set stands at.below placed;
       }
+
+  pub below_at : (d : Doubted) (y : Yard R g) (name : List ℕ) (s : ℕ) (e : DiskSet R g) → StandsFor d y → seat_of y.facts.items name ≡ Some s → over_rvg_at d.world name ≡ true → slice_get y.disk_sets.items s ≡ Some e → BelowAt d y name s e
+  below_at d y name s e stands seat over there =
+      below_here d y name s e stands seat (subst (λ (i : ℕ). is_over_rvg (d.world.nodes i) ≡ true) (place_at d y name s stands seat).number over) there
 
   -- a group that is up has the configuration that is noted, and each volume the blocks that are noted
   record SizedUp (note : GroupNode) (e : GroupSite R g) : Type 0 where

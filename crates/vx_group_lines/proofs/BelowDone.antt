@@ -110,7 +110,7 @@ noted_world w s k =
     let first : Node = record (w.nodes s) { group = Some k } in
     ap (λ (n : Node). with_node (noting w s k) s (worked n)) (at_place w.nodes s first) ∙ node_twice w s first (with_note k (w.nodes s))
 
-loosened_world : (b : Bool) (w : World) (s : ℕ) (k : GroupNode) → loosened_at b (worked_on (noting w s k) s) s ≡ worked_on (noting w s (note_loosened b k)) s
+pub loosened_world : (b : Bool) (w : World) (s : ℕ) (k : GroupNode) → loosened_at b (worked_on (noting w s k) s) s ≡ worked_on (noting w s (note_loosened b k)) s
 loosened_world b w s k =
     let m : Node = with_note k (w.nodes s) in
     ap (λ (v : World). loosened_at b v s) (noted_world w s k)
@@ -129,7 +129,7 @@ off_by : (xs : List (List ℕ)) (b : Bool) → xs ≡ [] → (not b && any_begun
 off_by xs true is = refl
 off_by xs false is = ap (λ (ys : List (List ℕ)). any_begun ys) is
 
-tight_then : (note next : GroupNode) → IsNoteTidy note → NoteSettles note next → next.loose ≡ false → next.begun ≡ []
+pub tight_then : (note next : GroupNode) → IsNoteTidy note → NoteSettles note next → next.loose ≡ false → next.begun ≡ []
 tight_then note next tidy settles tight = by settles.begun
   where
     by_old : (b : Bool) → note.loose ≡ b → (note.loose ≡ true → next.loose ≡ true) → next.begun ≡ []

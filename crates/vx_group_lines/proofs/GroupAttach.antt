@@ -72,7 +72,7 @@ maps_by note c v noted = entry_map (slice_get c.volumes v) ∙ ap (λ (o : Optio
 
 module _ {R : Type 0} {g : Ghosts R} where
   -- how many regions are copied
-  att_copies : (n : Node) (note : GroupNode) (e : GroupSite R g) (v plex k : ℕ) → UpNoted n note e → StandMaps note e
+  pub att_copies : (n : Node) (note : GroupNode) (e : GroupSite R g) (v plex k : ℕ) → UpNoted n note e → StandMaps note e
       → ((c : Config) (w : MissedNote) → site_config e ≡ Some c → MapsOf w c e → active c v plex ≡ false → CopiesNoted w c v plex k) → (IsTrue (is_plex_on e v plex) → k ≡ 0) → (is_plex_on e v plex ≡ false → RegionsOf e v k) → AttachCopies note v plex (DoneAt k)
   att_copies n note (SiteUp group) v plex k it had copies none all =
       let noted : NotesConfig note group.core.inner.config = record { is = it.at.lies.config; spells = it.spells } in
@@ -118,7 +118,7 @@ module _ {R : Type 0} {g : Ghosts R} where
       subst (λ (k : ℕ). OnSites (λ (o e : GroupSite R g). AttMapped k q o e r) before after) number (subst (λ (k : ℕ). OnSites (λ (o e : GroupSite R g). AttMapped v k o e r) before after) plex it)
 
   -- nothing is copied to one that takes part
-  zero_by : (site : GroupSite R g) (v p count : ℕ) (o : Option No) → refuses_att site v p ≡ o → ((no : No) → refuses_att site v p ≡ Some no → (let r : Result ℕ Stop = Ok count in r) ≡ Err (StopsBy no))
+  pub zero_by : (site : GroupSite R g) (v p count : ℕ) (o : Option No) → refuses_att site v p ≡ o → ((no : No) → refuses_att site v p ≡ Some no → (let r : Result ℕ Stop = Ok count in r) ≡ Err (StopsBy no))
       → (refuses_att site v p ≡ None → IsTrue (is_plex_on site v p) → (let r : Result ℕ Stop = Ok count in r) ≡ Ok 0) → IsTrue (is_plex_on site v p) → count ≡ 0
   zero_by site v p count None is refused already on = let e = already is on in cc
   zero_by site v p count (Some why) is refused already on = absurd (let e = refused why is in cc)

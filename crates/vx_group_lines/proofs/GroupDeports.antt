@@ -76,13 +76,13 @@ failed_disk (inl moves) = 0
 failed_disk (inr (any, moves)) = any.0
 
 module _ (s many : ℕ) (fails : Fails) (o e : Meaning) (note next : GroupNode) (names : Names s many fails o e) where
-  cleans_to : (was now : Config) → length was.disks ≤ many → (it : CleansPlexes o e was now) → failed_disk it < many → ConfigRests s fails (opened_again (at_serial 0 was)) (opened_again (at_serial 0 now))
+  pub cleans_to : (was now : Config) → length was.disks ≤ many → (it : CleansPlexes o e was now) → failed_disk it < many → ConfigRests s fails (opened_again (at_serial 0 was)) (opened_again (at_serial 0 now))
   cleans_to was now enough (inl moves) below = opened_goes OpensSame (StateRests s fails) fails none_again s many o e was now (λ v p t it. opens_rests s fails v p t it) names enough moves
   cleans_to was now enough (inr (any, moves)) below =
       opened_goes (OpensMost o e) (StateRests s fails) fails none_again s many o e was now
       (λ v p t it. most_rests s many fails o e names (contains_some fails (s, any.0) (names.each any.0 below any.1)) v p t it) names enough moves
 
-  cleans_table : (was now : Config) → NotesConfig note was → NotesConfig next now → CleansPlexes o e was now → noted_table next ≡ noted_table note
+  pub cleans_table : (was now : Config) → NotesConfig note was → NotesConfig next now → CleansPlexes o e was now → noted_table next ≡ noted_table note
   cleans_table was now noted noted_now (inl moves) = notes_table next now noted_now ∙ facts_move none_again OpensSame o e was now moves ∙ sym (notes_table note was noted)
   cleans_table was now noted noted_now (inr (any, moves)) = notes_table next now noted_now ∙ facts_move none_again (OpensMost o e) o e was now moves ∙ sym (notes_table note was noted)
 
@@ -95,7 +95,7 @@ module _ {R : Type 0} {g : Ghosts R} where
   limit_wants note (Marked rack) name why maps lacks = absurd lacks
   limit_wants note SiteGone name why maps lacks = absurd lacks
 
-  site_away : (n : Node) (note : GroupNode) (e : GroupSite R g) → AwayNoted n note e → IsTrue (site_disks e).down → ⊥
+  pub site_away : (n : Node) (note : GroupNode) (e : GroupSite R g) → AwayNoted n note e → IsTrue (site_disks e).down → ⊥
   site_away n note (SiteUp group) it = absurd it
   site_away n note (SiteAway idle) it = it.up
   site_away n note (SiteDown idle) it = absurd it

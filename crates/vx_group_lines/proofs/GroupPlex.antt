@@ -262,7 +262,7 @@ module _ {R : Type 0} {g : Ghosts R} where
   att_wants n note SiteGone name volume p f why it maps at below is = absurd it
 
   -- a detach that is done is not of the last plex that takes part
-  not_last : (n : Node) (note : GroupNode) (e : GroupSite R g) (v p : ℕ) (f : VolumeFacts) → UpNoted n note e → slice_get (noted_table note) v ≡ Some f → p < f.plexes
+  pub not_last : (n : Node) (note : GroupNode) (e : GroupSite R g) (v p : ℕ) (f : VolumeFacts) → UpNoted n note e → slice_get (noted_table note) v ≡ Some f → p < f.plexes
       → ((no : No) → refuses_det e v p ≡ Some no → (let r : Result (Unit {0}) Stop = Ok (tt {0}) in r) ≡ Err (StopsBy no)) → IsLastPlex note v p → ⊥
   not_last n note (SiteUp group) v p f it at below refused last =
       let noted : NotesConfig note group.core.inner.config = record { is = it.at.lies.config; spells = it.spells } in

@@ -26,6 +26,16 @@ pub mod BelowMissed
 pub mod BelowUp
 pub mod BelowOff
 pub mod BelowDone
+pub mod NoMaps
+pub mod BelowUnmapped
+pub mod BelowLoosened
+pub mod BelowGone
+pub mod BelowDeport
+pub mod BelowStart
+pub mod PlexPlaces
+pub mod BelowPlex
+pub mod BelowDetach
+pub mod BelowAttach
 pub mod BareSites
 pub mod GroupInit
 pub mod GroupEnding

@@ -86,6 +86,7 @@ deport_may sites files name e = let p = passes sites files (GroupDeport name) e 
 pub record PlexMay (sites : List SiteFacts) (name volume : List ℕ) (plex : ℕ) : Type 0 where
   pub may : UpMay sites name
   pub found : VolumeFacts
+  pub finds : find (λ (v : VolumeFacts). bytes_eq v.name volume) may.site.facts.volumes ≡ Some found
   pub at : FoundAt (λ (v : VolumeFacts). bytes_eq v.name volume) may.site.facts.volumes found
   pub below : plex < found.plexes
 
@@ -100,10 +101,12 @@ volume_up f volume up = ap (λ (t : SiteState). if is_up t then find (λ (v : Vo
 plex_may : (sites : List SiteFacts) (name volume : List ℕ) (plex : ℕ) → UpMay sites name → plex_unknown (volume_of (site_named sites name) volume) volume plex ≡ None → PlexMay sites name volume plex
 plex_may sites name volume plex may e =
     let found = plex_by (volume_of (Some may.site.facts) volume) volume plex (subst (λ (o : Option SiteFacts). plex_unknown (volume_of o volume) volume plex ≡ None) may.site.found e) in
+    let finds : find (λ (v : VolumeFacts). bytes_eq v.name volume) may.site.facts.volumes ≡ Some found.0 = sym (volume_up may.site.facts volume may.up) ∙ found.1 in
     record {
       may = may;
       found = found.0;
-      at = found_at (λ (v : VolumeFacts). bytes_eq v.name volume) may.site.facts.volumes found.0 (sym (volume_up may.site.facts volume may.up) ∙ found.1);
+      finds = finds;
+      at = found_at (λ (v : VolumeFacts). bytes_eq v.name volume) may.site.facts.volumes found.0 finds;
       below = found.2;
     }
 
