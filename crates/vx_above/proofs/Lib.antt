@@ -7,6 +7,7 @@ pub mod Tables
 pub mod FailsBut
 pub mod Moved
 pub mod OverSeen
+pub mod OverCarries
 pub mod OverComes
 pub mod OverEnds
 pub mod OverLines

@@ -1,5 +1,5 @@
 -- What calls on a replicated volume group over a group answer of its site.
-use Rattle.std.proofs.Common.{◌≡◌, ℕ, subst, sym, List, ap, refl}
+use Rattle.std.proofs.Common.{◌≡◌, ◌≤◌, ℕ, length, subst, sym, List, ap, refl}
 use Rattle.std.specs.Prelude.{Option, Result, Ok, Err, None}
 use Rattle.vx_disk.specs.Counts.{Rose}
 use Rattle.vx_disk.specs.declared.shelf.Shelf.{Ghosts}
@@ -11,8 +11,9 @@ use Rattle.vx_ground.specs.Lifted.{laid_volumes}
 use Rattle.vx_grouped.specs.GroupSites.{laid_disks, site_disks}
 use Rattle.vx_diskset.specs.Aboves.{below_site}
 use Rattle.vx_history.specs.Steps.{half_begun, logged, worked}
-use Rattle.vx_diskset.specs.DiskSets.{LoggedUp, ReadAt, halted_with}
+use Rattle.vx_diskset.specs.DiskSets.{AppliedUp, LoggedUp, ReadAt, halted_at, halted_with, with_first}
 use Rattle.vx_diskset.specs.Holds.{KeptBeside}
+use Rattle.vx_diskset.specs.Rooms.{AppliedAs}
 use Rattle.vx_diskset.specs.Shelves.{LoggedAs, ReadAs}
 use Rattle.vx_diskset.specs.Stands.{IsUpAt, OverStands, SiteStands, IsOverSite}
 use Rattle.vx_diskset.specs.declared.founded.Founded.{Founded}
@@ -22,6 +23,7 @@ use Rattle.vx_diskset.specs.declared.over_set.OverSet.{OverSet}
 use Rattle.vx_diskset.specs.declared.over_set.OverSite.{OverSite}
 use Rattle.vx_diskset.specs.declared.over_set.OverSite.TheVariants.{Origin as OriginSite}
 use Rattle.vx_diskset.proofs.RawSets.{over_on}
+use Rattle.vx_diskset.proofs.StaysUp.{whole_held}
 use Rattle.std.proofs.lemmas.List.{drop_all}
 use Rattle.vx_rvg.specs.Contents.{ShowsContent}
 use Rattle.vx_diskset.specs.Received.{ShowedAt}
@@ -44,6 +46,12 @@ module _ {R : Type 0} {g : Ghosts R} (beside : KeptBeside) (n : Node) (old : Ove
     over_logged x (Err (Limit what most)) l = (l.0, l.1, (over_on beside n (worked n) refl refl refl refl over, l.2))
     over_logged x (Err IsDown) l = (l.0, (over_on beside n (half_begun n x) refl refl refl refl over, l.1), (λ origin calls told exact. absurd (over.0 exact.raw)), l.3)
     over_logged x (Err other) l = l
+
+    pub over_applied : length n.log ≤ n.safe → (to : ℕ) (r : Result ℕ No) → AppliedAs beside n to f'.core (laid_volumes f.laid) (laid_volumes f'.laid) r → AppliedUp beside n to (Over old) (Over new) r
+    over_applied whole to (Ok number) l = (l.0, l.1, (over_on beside n (worked n) refl refl refl refl over, l.2))
+    over_applied whole to (Err (Device disk)) l = ((over_on beside n (halted_at n disk) refl refl refl refl over, l.0), rose_over disk l.1)
+    over_applied whole to (Err IsDown) l = (l.0, (over_on beside n (with_first n n.safe) refl refl refl refl over, whole_held n (laid_volumes f'.laid) whole l.1))
+    over_applied whole to (Err other) l = l
 
     pub over_read : (volume start count : ℕ) (bytes : List ℕ) (r : Result (Unit {0}) No) → ReadAs beside n volume start count bytes f'.core (laid_volumes f.laid) (laid_volumes f'.laid) r → ReadAt beside n volume start count bytes (Over old) (Over new) r
     over_read volume start count bytes (Ok done) l = (l.0, (over, l.1))

@@ -1,5 +1,5 @@
 -- What each call on a replicated volume group makes of it and of the shelf below, whatever shelf that is.
-use Rattle.std.specs.Prelude.{◌≡◌, ℕ, ◌+◌, ◌%◌, ◌<◌, ◌≤◌, List, length, take, Contains, Result, Ok, Err, IfErr, OnOk, IsFalse, IsTrue}
+use Rattle.std.specs.Prelude.{◌≡◌, ℕ, ◌+◌, ◌%◌, ◌<◌, ◌≤◌, List, length, take, Contains, None, Result, Ok, Err, IfErr, IfOk, OnOk, IsFalse, IsTrue}
 use Rattle.vx_disk.specs.Causes.{DeviceCause, refusal_of}
 use Rattle.vx_disk.specs.Moves.{Anything, Blocks, Moves, Run}
 use Rattle.vx_disk.specs.Shelf.{Goes, Meaning}
@@ -29,7 +29,7 @@ use Rattle.vx_diskset.specs.Burning.{OffIf}
 use Rattle.vx_diskset.specs.DiskSets.{CanLog, CanRead}
 use Rattle.vx_diskset.specs.Holds.{KeptBeside}
 use Rattle.vx_diskset.specs.Needs.{HasRoom}
-use Rattle.vx_diskset.specs.Rooms.{IsMore, TakesOne, logged_count}
+use Rattle.vx_diskset.specs.Rooms.{AppliedAs, IsMore, TakesOne, logged_count}
 use Rattle.vx_diskset.specs.Shelves.{LoggedAs, MovesOn, ReadAs}
 use Rattle.vx_diskset.specs.Stands.{IsReceiverAt, IsUpAt}
 
@@ -89,6 +89,14 @@ pub record DoesShow (c : Core) (us : List Update) (volume start count : ℕ) (m 
   pub long : length room ≡ MOST_CALL_BYTES
   pub shown : (beside : KeptBeside) (n : Node) → IsReceiverAt beside n c us m → CanRead n volume start (blocks_in (take count room)) → ShownAs beside n volume start (blocks_in (take count room)) (take count room) c' us' m m' r
   pub down : m'.down ≡ m.down
+
+-- ---- an apply
+
+pub record DoesApply (c : Core) (to : ℕ) (m : Meaning) (c' : Core) (m' : Meaning) (r : Result ℕ No) : Type 0 where
+  pub keeps : KeepsSound c c' m m'
+  pub applied : (beside : KeptBeside) (n : Node) → IsUpAt beside n c m → n.halted ≡ None → AppliedAs beside n to c' m m' r
+  pub reached : IfOk r (λ number. c'.applied ≡ number)
+  pub off : OffIf r m'.down
 
 -- ---- the making and the start
 

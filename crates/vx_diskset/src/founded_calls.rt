@@ -1,5 +1,5 @@
 // Calls on a replicated volume group over a group of disks that is up.
-ghost use Rattle.std.specs.Prelude.{◌<◌, ◌≤◌, ◌%◌, ◌≡◌, IsFalse, length};
+ghost use Rattle.std.specs.Prelude.{◌<◌, ◌≤◌, ◌%◌, ◌≡◌, IfOk, IsFalse, None, length};
 ghost use Rattle.vx_history.specs.World.{Node};
 ghost use Rattle.vx_model.specs.Content.{blocks_in};
 ghost use Rattle.vx_model.specs.declared.limits.TheConstants.{BLOCK, MOST_CALL_BYTES};
@@ -9,12 +9,13 @@ ghost use Rattle.vx_diskset.specs.DiskSets.{CanLog, CanRead};
 ghost use Rattle.vx_diskset.specs.Founded.{FoundedWorks};
 ghost use Rattle.vx_diskset.specs.Holds.{KeptBeside};
 ghost use Rattle.vx_diskset.specs.Needs.{HasRoom};
+ghost use Rattle.vx_diskset.specs.Rooms.{AppliedAs};
 ghost use Rattle.vx_diskset.specs.Shelves.{LoggedAs, ReadAs};
 ghost use Rattle.vx_diskset.specs.Stands.{IsReceiverAt, IsUpAt};
 ghost use Rattle.vx_diskset.specs.Works.{ShownAs};
 
 use crate::founded::{Founded, FoundedReceiver};
-use crate::over_work::{Reads, Shows, Writes};
+use crate::over_work::{Applies, Reads, Shows, Writes};
 use vx_disk::Rack;
 use vx_ground::work_over;
 use vx_model::No;
@@ -45,6 +46,19 @@ impl<R: Rack> Founded<R> {
             hold,
         };
         let (laid, answer) = work_over(laid, work);
+        let (core, answer) = answer;
+        (Founded::together(laid, core), answer)
+    }
+
+    /// Brings logged writes into their volumes.
+    pub(crate) fn apply(self, to: u64) -> (Founded<R>, Result<u64, No>)
+        ensures applied { (beside : KeptBeside) (n : Node) → IsUpAt beside n self.core (laid_volumes self.laid) → n.halted ≡ None → AppliedAs beside n to result.0.core (laid_volumes self.laid) (laid_volumes result.0.laid) result.1 }
+        ensures reached { IfOk result.1 (λ number. result.0.core.applied ≡ number) }
+        ensures off { OffIf result.1 (laid_volumes result.0.laid).down }
+        ensures works { FoundedWorks self.core self.laid result.0.core result.0.laid }
+    {
+        let (laid, core) = self.apart();
+        let (laid, answer) = work_over(laid, Applies { core, to });
         let (core, answer) = answer;
         (Founded::together(laid, core), answer)
     }

@@ -1,5 +1,5 @@
 // Calls on the replicated volume group of a site over a disk group.
-ghost use Rattle.std.specs.Prelude.{◌<◌, ◌≤◌, ◌%◌, ◌≡◌, IsFalse, length, true};
+ghost use Rattle.std.specs.Prelude.{◌<◌, ◌≤◌, ◌%◌, ◌≡◌, IfOk, IsFalse, length, true};
 ghost use Rattle.vx_history.specs.World.{Node};
 ghost use Rattle.vx_model.specs.Content.{blocks_in};
 ghost use Rattle.vx_model.specs.Sites.{is_origin};
@@ -7,12 +7,12 @@ ghost use Rattle.vx_model.specs.declared.limits.TheConstants.{BLOCK, MOST_CALL_B
 ghost use Rattle.vx_grouped.specs.GroupSites.{site_disks};
 ghost use Rattle.vx_diskset.specs.Aboves.{site_in};
 ghost use Rattle.vx_diskset.specs.Burning.{OffIf};
-ghost use Rattle.vx_diskset.specs.DiskSets.{CanLog, CanRead, LoggedUp, ReadAt};
+ghost use Rattle.vx_diskset.specs.DiskSets.{AppliedUp, CanApply, CanLog, CanRead, LoggedUp, ReadAt};
 ghost use Rattle.vx_diskset.specs.Holds.{KeptBeside};
 ghost use Rattle.vx_diskset.specs.Needs.{HasRoom};
 ghost use Rattle.vx_diskset.specs.Noted.{OverCalled};
 ghost use Rattle.vx_diskset.specs.Received.{ShowedAt};
-ghost use Rattle.vx_diskset.specs.Stands.{SiteStands};
+ghost use Rattle.vx_diskset.specs.Stands.{InVolumes, SiteStands};
 ghost use Rattle.vx_diskset.specs.declared.disk_set.DiskSet.TheVariants.{Over as OverSites};
 
 use crate::{OverSet, OverSite};
@@ -69,6 +69,35 @@ impl<R: Rack> OverSet<R> {
         let (over, answer) = mem::replace(self, OverSet::gone()).written(
             volume, start, bytes, hold,
         );
+        *self = over;
+        answer
+    }
+
+    // Brings logged writes into their volumes.
+    fn applied(self, to: u64) -> (OverSet<R>, Result<u64, No>)
+        ensures applied { (beside : KeptBeside) (n : Node) → SiteStands beside n (OverSites self) → CanApply n → AppliedUp beside n to (OverSites self) (OverSites result.0) result.1 }
+        ensures brought { IfOk result.1 (λ number. InVolumes number (OverSites result.0)) }
+        ensures called { OverCalled self result.0 }
+        ensures off { IsFalse (site_disks (site_in self)).down → OffIf result.1 (site_disks (site_in result.0)).down }
+    {
+        let OverSet { site, cut } = self;
+        match site {
+            OverSite::Origin(founded) => {
+                let (founded, answer) = founded.apply(to);
+                let site = OverSite::Origin(founded);
+                (OverSet { site, cut }, answer)
+            }
+            site => (OverSet { site, cut }, Err(No::Role)),
+        }
+    }
+
+    pub(crate) fn apply(&mut self, to: u64) -> Result<u64, No>
+        ensures applied { (beside : KeptBeside) (n : Node) → SiteStands beside n (OverSites self.old) → CanApply n → AppliedUp beside n to (OverSites self.old) (OverSites self.new) result }
+        ensures brought { IfOk result (λ number. InVolumes number (OverSites self.new)) }
+        ensures called { OverCalled self.old self.new }
+        ensures off { IsFalse (site_disks (site_in self.old)).down → OffIf result (site_disks (site_in self.new)).down }
+    {
+        let (over, answer) = mem::replace(self, OverSet::gone()).applied(to);
         *self = over;
         answer
     }

@@ -1,13 +1,13 @@
 // What is done to a replicated volume group over the volumes of a disk group.
 ghost use Rattle.std.specs.Prelude.{◌≡◌, ◌*◌, ◌<◌, ◌≤◌, ℕ, Contains};
 ghost use Rattle.vx_disk.specs.Maps.{maps_of};
-ghost use Rattle.vx_diskset.specs.Works.{AsksRead, AsksShow, AsksWrite, DoesMake, DoesRead, DoesRewrite, DoesShow, DoesStart, DoesWrite};
+ghost use Rattle.vx_diskset.specs.Works.{AsksRead, AsksShow, AsksWrite, DoesApply, DoesMake, DoesRead, DoesRewrite, DoesShow, DoesStart, DoesWrite};
 ghost use Rattle.vx_model.specs.declared.limits.TheConstants.{LEAST_BLOCKS, LINK_PLACES};
 ghost use Rattle.vx_rvg.specs.Starts.{ring_in};
-ghost use Rattle.vx_rvg.specs.Views.{UnitsPlaced};
+ghost use Rattle.vx_rvg.specs.Views.{IsSound, UnitsPlaced};
 ghost use Rattle.vx_srlfmt.specs.Headers.{CanSpellState};
 
-use crate::writing::write_group;
+use crate::writing::{apply_group, write_group};
 use std::alloc::Global;
 use vx_disk::{Shelf, ShelfError};
 use vx_ground::{Work, write_over};
@@ -94,6 +94,28 @@ impl Work for Shows {
         let (rvg, waiting) = site.apart();
         let (shelf, core) = rvg.apart();
         (shelf, (core, waiting, room, answer))
+    }
+}
+
+/// Logged writes that are brought into their volumes.
+#[derive(Drop)]
+pub(crate) struct Applies {
+    pub core: RvgCore,
+    pub to: u64,
+}
+
+impl Work for Applies {
+    type Answer = (RvgCore, Result<u64, No>);
+
+    ghost asks = { λ w m. IsSound w.core m };
+
+    ghost does = { λ w m n r. DoesApply w.core w.to m r.0 n r.1 };
+
+    fn run<S: Shelf>(self, shelf: S) -> (S, (RvgCore, Result<u64, No>)) {
+        let mut rvg = Rvg::together(shelf, self.core);
+        let answer = apply_group(&mut rvg, self.to);
+        let (shelf, core) = rvg.apart();
+        (shelf, (core, answer))
     }
 }
 

@@ -286,11 +286,12 @@ impl<R: Rack> DiskSet<R> {
     /// Brings the logged writes up to a number into their volumes. Answers the number up to which all are there now. A site whose fuse
     /// runs out crashes.
     pub fn apply(&mut self, to: u64) -> Result<u64, No>
-        ensures applied { (beside : KeptBeside) (n : Node) → SiteStands beside n self.old → IsRawSet self.old → CanApply n → is_over_group n ≡ false → AppliedAt beside n to self.old self.new result }
+        ensures applied { (beside : KeptBeside) (n : Node) → SiteStands beside n self.old → CanApply n → is_over_group n ≡ false → AppliedAt beside n to self.old self.new result }
         ensures brought { IfOk result (λ number. InVolumes number self.new) }
-        ensures called { (beside : KeptBeside) (n : Node) → SiteStands beside n self.old → LeavesFuse NoMore (said_by result) self.old self.new }
+        ensures called { (beside : KeptBeside) (n : Node) → SiteStands beside n self.old → IsRawSet self.old → LeavesFuse NoMore (said_by result) self.old self.new }
         ensures role { KeepsRole self.old self.new }
         ensures blames { (beside : KeptBeside) (n : Node) → SiteStands beside n self.old → IfErr result (BlamesSite n) }
+        ensures notes { NotesOn self.old self.new }
         ensures later { Later self.old self.new }
     {
         match self.apply_up(to) {
@@ -307,17 +308,18 @@ impl<R: Rack> DiskSet<R> {
 
     // The same, before it crashes.
     fn apply_up(&mut self, to: u64) -> Result<u64, No>
-        ensures applied { (beside : KeptBeside) (n : Node) → SiteStands beside n self.old → IsRawSet self.old → CanApply n → is_over_group n ≡ false → AppliedUp beside n to self.old self.new result }
+        ensures applied { (beside : KeptBeside) (n : Node) → SiteStands beside n self.old → CanApply n → is_over_group n ≡ false → AppliedUp beside n to self.old self.new result }
         ensures brought { IfOk result (λ number. InVolumes number self.new) }
-        ensures called { (beside : KeptBeside) (n : Node) → SiteStands beside n self.old → LeavesFuse NoMore (said_by result) self.old self.new }
+        ensures called { (beside : KeptBeside) (n : Node) → SiteStands beside n self.old → IsRawSet self.old → LeavesFuse NoMore (said_by result) self.old self.new }
         ensures role { KeepsRole self.old self.new }
         ensures blames { (beside : KeptBeside) (n : Node) → SiteStands beside n self.old → IfErr result (BlamesSite n) }
+        ensures overs { OversCalled self.old self.new result }
         ensures later { Later self.old self.new }
     {
         match self {
             DiskSet::Up(rvg) => apply_group(rvg, to),
             DiskSet::Receives(site) => apply_group(&mut site.rvg, to),
-            DiskSet::Over(_) => Err(No::Role),
+            DiskSet::Over(over) => over.apply(to),
             DiskSet::Bare(_)
             | DiskSet::Spoiled(_)
             | DiskSet::Down(_)

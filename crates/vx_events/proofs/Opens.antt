@@ -23,7 +23,6 @@ open_links w (PlexDetach site volume plex) closed = refl
 open_links w (PlexAttach site volume plex) closed = refl
 open_links w (Write site volume start count fill) closed = refl
 open_links w (Put site volume start bytes) closed = refl
-open_links w (Apply site to) closed = refl
 open_links w other closed = closed
 
 pub open_beside : (w : World) (line : ScriptLine) → is_for_rvg w line ≡ false → links_rvg w line ≡ false → is_open w line ≡ false
@@ -34,7 +33,6 @@ open_beside w (PlexDetach site volume plex) off links = off
 open_beside w (PlexAttach site volume plex) off links = off
 open_beside w (Write site volume start count fill) off links = ap (λ (b : Bool). b && not (is_data (kind_named (w.nodes (site_number w site)) volume))) off
 open_beside w (Put site volume start bytes) off links = ap (λ (b : Bool). b && not (is_data (kind_named (w.nodes (site_number w site)) volume))) off
-open_beside w (Apply site to) off links = off
 open_beside w other off links = links
 
 data_by : (over : Bool) (kind : VolumeKind) → over ≡ true → (over && not (is_data kind)) ≡ false → kind ≡ Data
@@ -97,5 +95,4 @@ module _ (w : World) (none : HasNoRvgs w) where
   open_none (PlexAttach site volume plex) = none (site_number w site)
   open_none (Write site volume start count fill) = volume_none site volume
   open_none (Put site volume start bytes) = volume_none site volume
-  open_none (Apply site to) = none (site_number w site)
   open_none other = links_none other

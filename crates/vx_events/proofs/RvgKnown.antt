@@ -10,7 +10,7 @@ use Rattle.vx_history.specs.World.{NoFuse, Node, World}
 use Rattle.vx_config.specs.declared.config.Config.{Config}
 use Rattle.vx_model.specs.declared.units.Units.{Units}
 use Rattle.vx_script.specs.declared.line.ScriptLine.{ScriptLine}
-use Rattle.vx_script.specs.declared.line.ScriptLine.TheVariants.{Put, Read, Recover, Show, Write}
+use Rattle.vx_script.specs.declared.line.ScriptLine.TheVariants.{Apply, Put, Read, Recover, Show, Write}
 use Rattle.vx_order.specs.Calls.{is_data}
 use Rattle.vx_events.proofs.ReadsLeave.{read_by, read_note}
 use Rattle.vx_events.proofs.KnownLaws.{back_known, finds_none, group_stays, no_rise, same_note}
@@ -119,6 +119,7 @@ module _ (told : Type 0) (tells : told) (d : Doubted) (s : ℕ) (known : (note_a
   line_dark Off (Put site volume start bytes) next x = works_dark Off s fails here next x ∙ known
   line_dark Off (Read site volume start count) next x = works_dark Off s fails here next x ∙ known
   line_dark Off (Show site volume start count) next x = works_dark Off s fails here next x ∙ known
+  line_dark Off (Apply site to) next x = works_dark Off s fails here next x ∙ known
   line_dark Off other next same = same_note here next same known
 
   line_known : (line : ScriptLine) → EndsOver told d line s fails said new → (note_at (new.world.nodes s)).dark ≡ false

@@ -8,7 +8,7 @@ use Rattle.vx_history.specs.Doubts.{Doubted}
 use Rattle.vx_history.specs.Groups.{GroupNode}
 use Rattle.vx_history.specs.World.{Node, World}
 use Rattle.vx_script.specs.declared.line.ScriptLine.{ScriptLine}
-use Rattle.vx_script.specs.declared.line.ScriptLine.TheVariants.{Recover, Write, Put, Read, Show}
+use Rattle.vx_script.specs.declared.line.ScriptLine.TheVariants.{Apply, Recover, Write, Put, Read, Show}
 use Rattle.vx_events.proofs.RvgEnding.{never_found}
 use Rattle.vx_events.proofs.RvgStays.{back_group, but_group}
 use Rattle.vx_events.specs.Fails.{Fails}
@@ -70,6 +70,7 @@ module _ (told : Type 0) (tells : told) (d : Doubted) (s : ℕ) (fails : Fails) 
   line_agrees Off runs (Put site volume start bytes) next x = x.keeps.quiet none runs a
   line_agrees Off runs (Read site volume start count) next x = x.keeps.quiet none runs a
   line_agrees Off runs (Show site volume start count) next x = x.keeps.quiet none runs a
+  line_agrees Off runs (Apply site to) next x = x.keeps.quiet none runs a
   line_agrees Off runs other next same = agrees_note here next same a
 
   line_ends : (line : ScriptLine) → EndsOver told d line s fails said new → NoteAgrees (note_at (new.world.nodes s))

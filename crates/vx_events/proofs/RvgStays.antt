@@ -9,7 +9,7 @@ use Rattle.vx_history.specs.Groups.{GroupNode}
 use Rattle.vx_history.specs.World.{Node, World}
 use Rattle.vx_config.specs.declared.config.Config.{Config}
 use Rattle.vx_script.specs.declared.line.ScriptLine.{ScriptLine}
-use Rattle.vx_script.specs.declared.line.ScriptLine.TheVariants.{Recover, Write, Put, Read, Show}
+use Rattle.vx_script.specs.declared.line.ScriptLine.TheVariants.{Apply, Recover, Write, Put, Read, Show}
 use Rattle.vx_events.proofs.KnownLaws.{group_stays, never}
 use Rattle.vx_events.proofs.Places.{some_same}
 use Rattle.vx_events.proofs.RvgConfigs.{keeps_self, keeps_then, loses_keeps, stayed}
@@ -151,6 +151,7 @@ module _ (told : Type 0) (d : Doubted) (line : ScriptLine) (s : ℕ) (fails : Fa
   line_keeps Off (Put site volume start bytes) next x = loses s fails here next x
   line_keeps Off (Read site volume start count) next x = loses s fails here next x
   line_keeps Off (Show site volume start count) next x = loses s fails here next x
+  line_keeps Off (Apply site to) next x = loses s fails here next x
   line_keeps Off other next same = same_note here next same
 
   line_stays : EndsOver told d line s fails said new → NoteKeepsRvg here (note_at (new.world.nodes s))

@@ -1,10 +1,10 @@
 -- The lines at which a run ends as at one whose kind is not built: one that links a site with a replicated volume group over its group of disks; and at such a site a
--- deport and an import, those on volumes and plexes of the group, writes to a volume that is no data volume, and an apply.
+-- deport and an import, those on volumes and plexes of the group, and writes to a volume that is no data volume.
 use Rattle.std.specs.Prelude.{◌≡◌, ◌&&◌, ℕ, Bool, true, false, List, None, not}
 use Rattle.vx_history.specs.World.{Node, World}
 use Rattle.vx_order.specs.Calls.{is_data}
 use Rattle.vx_script.specs.declared.line.ScriptLine.{ScriptLine}
-use Rattle.vx_script.specs.declared.line.ScriptLine.TheVariants.{Apply, GroupDeport, GroupImport, PlexAttach, PlexDetach, Put, Volume, Write}
+use Rattle.vx_script.specs.declared.line.ScriptLine.TheVariants.{GroupDeport, GroupImport, PlexAttach, PlexDetach, Put, Volume, Write}
 use Rattle.vx_events.specs.Facts.{site_number}
 use Rattle.vx_events.specs.RvgLinks.{links_rvg}
 use Rattle.vx_events.specs.RvgOver.{kind_named}
@@ -23,7 +23,6 @@ is_open w (PlexDetach site volume plex) = is_over_rvg (w.nodes (site_number w si
 is_open w (PlexAttach site volume plex) = is_over_rvg (w.nodes (site_number w site))
 is_open w (Write site volume start count fill) = is_open_volume (w.nodes (site_number w site)) volume
 is_open w (Put site volume start bytes) = is_open_volume (w.nodes (site_number w site)) volume
-is_open w (Apply site to) = is_over_rvg (w.nodes (site_number w site))
 is_open w other = links_rvg w other
 
 -- no line is open there

@@ -12,7 +12,7 @@ use Rattle.vx_order.specs.declared.facts.VolumeFacts.{VolumeFacts}
 use Rattle.vx_order.specs.declared.facts.VolumeKind.{VolumeKind}
 use Rattle.vx_order.specs.declared.facts.VolumeKind.TheVariants.{Data, Srl, Map, Plain}
 use Rattle.vx_script.specs.declared.line.ScriptLine.{ScriptLine}
-use Rattle.vx_script.specs.declared.line.ScriptLine.TheVariants.{Disk, Fuse as FuseLine, Put, Read, Recover, Show, Status, Write}
+use Rattle.vx_script.specs.declared.line.ScriptLine.TheVariants.{Apply, Disk, Fuse as FuseLine, Put, Read, Recover, Show, Status, Write}
 use Rattle.vx_events.specs.Doubts.{IsAs}
 use Rattle.vx_events.specs.Ends.{Ends, place_of as site_of}
 use Rattle.vx_events.specs.Facts.{place_of, site_number}
@@ -51,6 +51,7 @@ NotesLine Off s fails (Write site volume start count fill) note next = NotesWork
 NotesLine Off s fails (Put site volume start bytes) note next = NotesWork Off s fails note next
 NotesLine Off s fails (Read site volume start count) note next = NotesWork Off s fails note next
 NotesLine Off s fails (Show site volume start count) note next = NotesWork Off s fails note next
+NotesLine Off s fails (Apply site to) note next = NotesWork Off s fails note next
 NotesLine Off s fails other note next = next ≡ note
 
 -- ---- replies

@@ -1,5 +1,6 @@
 pub mod AllDurable
 pub mod AnswerFor
+pub mod ApplyAbove
 pub mod Behind
 pub mod Deaf
 pub mod DeliverCalls

@@ -44,6 +44,10 @@ module _ {R : Type 0} {g : Ghosts R} where
       → is_over_rvg (d.world.nodes s) ≡ false
   named_off d y name s stands seat off = subst (λ (k : ℕ). is_over_rvg (d.world.nodes k) ≡ false) (place_at d y name s stands seat).number off
 
+  pub named_over : (d : Doubted) (y : Yard R g) (name : List ℕ) (s : ℕ) → StandsFor d y → seat_of y.facts.items name ≡ Some s → over_rvg_at d.world name ≡ true
+      → is_over_rvg (d.world.nodes s) ≡ true
+  named_over d y name s stands seat over = subst (λ (k : ℕ). is_over_rvg (d.world.nodes k) ≡ true) (place_at d y name s stands seat).number over
+
   pub raw_seat : (d : Doubted) (y : Yard R g) (name : List ℕ) (s : ℕ) (e : DiskSet R g) → StandsFor d y → seat_of y.facts.items name ≡ Some s
       → slice_get y.disk_sets.items s ≡ Some e → over_rvg_at d.world name ≡ false → IsRawSet e
   raw_seat d y name s e stands seat at off = raw_there d y s e stands (place_at d y name s stands seat).below at (named_off d y name s stands seat off)

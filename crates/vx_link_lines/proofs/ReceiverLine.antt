@@ -296,7 +296,7 @@ module _ {R : Type 0} {g : Ghosts R} where
     received_refused why said f f' says blames is calls at noted facts lets = subst (λ (r : Said). Leads d (Apply name count) r old new) (sym says) (by_why why blames is calls noted lets)
       where
         by_why : (why : No) → BlamesSite n why → ReachedAt (beside_of d s) n count before after (Err why) → LeavesFuse NoMore (Refused why) before after → f' ≡ noted_facts why f → LetsGoBy why old new s → Leads d (Apply name count) (Refused why) old new
-        by_why (Device disk) blames is calls noted lets = apply_refused d old new name count s before after stands here changed keeps (Device disk) (Refused (Device disk)) f f' refl blames is calls at noted facts lets
+        by_why (Device disk) blames is calls noted lets = apply_refused d old new name count s before after stands here off changed keeps (Device disk) (Refused (Device disk)) f f' refl blames is calls at noted facts lets
         by_why (Limit what most) blames is calls noted lets = none_left what most f f' is calls at noted facts lets
-        by_why Off blames is calls noted lets = apply_refused d old new name count s before after stands here changed keeps Off (Refused Off) f f' refl blames is calls at noted facts lets
+        by_why Off blames is calls noted lets = apply_refused d old new name count s before after stands here off changed keeps Off (Refused Off) f f' refl blames is calls at noted facts lets
         by_why other blames is calls noted lets = absurd is

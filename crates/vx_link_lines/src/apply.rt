@@ -1,8 +1,9 @@
 // The line that applies what the log of a site holds.
-ghost use Rattle.std.specs.Prelude.{◌≡◌, IfOk, false};
+ghost use Rattle.std.specs.Prelude.{◌≡◌, IfOk, false, true};
 ghost use Rattle.vx_history.specs.Doubts.{Doubted};
 ghost use Rattle.vx_events.specs.RvgSteps.{is_for_rvg};
 ghost use Rattle.vx_script.specs.declared.line.ScriptLine.TheVariants.{Apply};
+ghost use Rattle.vx_yard.specs.AboveLines.{LeadsAboveIs};
 ghost use Rattle.vx_yard.specs.Carries.{Carries};
 ghost use Rattle.vx_yard.specs.OfSites.{AsAsked, HasCalled};
 ghost use Rattle.vx_yard.specs.Standing.{LeadsIs, StandsFor};
@@ -29,6 +30,7 @@ pub fn apply_line<R: Rack>(
     requires kept { IsYardKept yard.old }
     requires free { IsFree yard.old (Apply name.now to) }
     ensures leads { (d : Doubted) → StandsFor d yard.old → is_for_rvg d.world (Apply name.now to) ≡ false → Carries d yard.old → LeadsIs d (Apply name.now to) yard.old yard.new result }
+    ensures above { (d : Doubted) → StandsFor d yard.old → is_for_rvg d.world (Apply name.now to) ≡ true → LeadsAboveIs d (Apply name.now to) yard.old yard.new result }
     ensures asked { (d : Doubted) → StandsFor d yard.old → is_for_rvg d.world (Apply name.now to) ≡ false → AsAsked d.world (Apply name.now to) yard.old yard.new }
     ensures called { (d : Doubted) → StandsFor d yard.old → is_for_rvg d.world (Apply name.now to) ≡ false → IfOk result (λ said. HasCalled d.world (Apply name.now to) said yard.old yard.new) }
     ensures told { IsTold yard.new → IsTold yard.old }

@@ -10,7 +10,7 @@ use Rattle.vx_order.specs.Subject.{first_name, second_name}
 use Rattle.vx_order.specs.declared.facts.SiteFacts.{SiteFacts}
 use Rattle.vx_order.specs.declared.facts.VolumeKind.{VolumeKind}
 use Rattle.vx_script.specs.declared.line.ScriptLine.{ScriptLine}
-use Rattle.vx_script.specs.declared.line.ScriptLine.TheVariants.{Apply, Deliver, GroupDeport, GroupImport, Link, PlexAttach, PlexDetach, Put, Volume, Write}
+use Rattle.vx_script.specs.declared.line.ScriptLine.TheVariants.{Deliver, GroupDeport, GroupImport, Link, PlexAttach, PlexDetach, Put, Volume, Write}
 use Rattle.vx_events.proofs.Places.{some_same}
 use Rattle.vx_events.proofs.Refused.{named, passes}
 use Rattle.vx_events.proofs.RvgEvents.{rvg_apart}
@@ -39,7 +39,6 @@ first_of (PlexDetach name volume plex) site is = is
 first_of (PlexAttach name volume plex) site is = is
 first_of (Write name volume start count fill) site is = is
 first_of (Put name volume start bytes) site is = is
-first_of (Apply name to) site is = is
 first_of (Link p s sync prot) site is = is
 first_of other site is = absurd (cc)
 
@@ -86,7 +85,6 @@ module _ (w : World) where
   open_nowhere (PlexAttach name volume plex) none = absurd (cc)
   open_nowhere (Write name volume start count fill) none = absurd (cc)
   open_nowhere (Put name volume start bytes) none = absurd (cc)
-  open_nowhere (Apply name to) none = absurd (cc)
   open_nowhere (Link p s sync prot) none = absurd (cc)
   open_nowhere other none = refl
 
@@ -105,7 +103,6 @@ module _ (w : World) where
   open_there (PlexAttach name volume plex) site is none over = over_first name site true is over
   open_there (Write name volume start count fill) site is none over = absurd (cc)
   open_there (Put name volume start bytes) site is none over = absurd (cc)
-  open_there (Apply name to) site is none over = over_first name site true is over
   open_there (Link p s sync prot) site is none over = either_first p site s true is over
   open_there other site is none over = absurd (cc)
 
@@ -141,7 +138,6 @@ module _ (w : World) where
   open_not (PlexAttach name volume plex) site is none off = over_first name site false is off
   open_not (Write name volume start count fill) site is none off = volume_off name site volume is off
   open_not (Put name volume start bytes) site is none off = volume_off name site volume is off
-  open_not (Apply name to) site is none off = over_first name site false is off
   open_not (Link p s sync prot) site is none off = absurd (cc)
   open_not other site is none off = absurd (cc)
 

@@ -1,7 +1,7 @@
 -- The names in a line by which it is told whether it is open.
 use Rattle.std.specs.Prelude.{ℕ, List, Option, Some, None}
 use Rattle.vx_script.specs.declared.line.ScriptLine.{ScriptLine}
-use Rattle.vx_script.specs.declared.line.ScriptLine.TheVariants.{Apply, GroupDeport, GroupImport, Link, PlexAttach, PlexDetach, Put, Volume, Write}
+use Rattle.vx_script.specs.declared.line.ScriptLine.TheVariants.{GroupDeport, GroupImport, Link, PlexAttach, PlexDetach, Put, Volume, Write}
 
 -- a site: where a replicated volume group is over its group, the line is open, or writes blocks
 abbrev pub open_site : ScriptLine → Option (List ℕ)
@@ -12,7 +12,6 @@ open_site (PlexDetach site volume plex) = Some site
 open_site (PlexAttach site volume plex) = Some site
 open_site (Write site volume start count fill) = Some site
 open_site (Put site volume start bytes) = Some site
-open_site (Apply site to) = Some site
 open_site (Link p s sync prot) = Some p
 open_site other = None
 

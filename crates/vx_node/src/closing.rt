@@ -27,8 +27,7 @@ fn open_site(line: &ScriptLine) -> Option<Name>
         | ScriptLine::PlexDetach { site, .. }
         | ScriptLine::PlexAttach { site, .. }
         | ScriptLine::Write { site, .. }
-        | ScriptLine::Put { site, .. }
-        | ScriptLine::Apply { site, .. } => Some(*site),
+        | ScriptLine::Put { site, .. } => Some(*site),
         ScriptLine::Link { primary, .. } => Some(*primary),
         _ => None,
     }

@@ -2,6 +2,8 @@
 #![tactic(auto)]
 
 #[cfg(test)]
+mod applies;
+#[cfg(test)]
 mod cut;
 #[cfg(test)]
 mod done;

@@ -12,7 +12,6 @@ fn a_run_ends_at_an_open_line(rt: HostRuntime) -> Result<(), Fail> {
         "vol a w 64 mirrors=1 layout=concat log=none fmr=off rdpol=round\n",
         "plex a v 1 det\n",
         "plex a v 1 att\n",
-        "apply a 1\n",
     ] {
         assert!(rt; ends_at(&rt, rt.alloc(), made, line, 7, wanted)?, "{line}");
     }
@@ -50,6 +49,6 @@ fn a_run_ends_at_a_link(rt: HostRuntime) -> Result<(), Fail> {
 fn lines_before_it_are_done(rt: HostRuntime) -> Result<(), Fail> {
     let made = "rvg a srl=log1 dcm=maps vols=v\nwrite a v 0 1 11\nread a v 0 1\n";
     let wanted = "done\ndone\ndone\ndone\ndone\ndone\ndone 1\n11\nbad 9 1\n";
-    assert!(rt; ends_at(&rt, rt.alloc(), made, "apply a 1\nfoo\n", 9, wanted)?);
+    assert!(rt; ends_at(&rt, rt.alloc(), made, "dg a deport\nfoo\n", 9, wanted)?);
     Ok(())
 }

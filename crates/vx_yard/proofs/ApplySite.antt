@@ -1,11 +1,12 @@
 -- A line that applies the log of a site that may keep links.
-use Rattle.std.proofs.Common.{◌≡◌, ◌∙◌, ◌≤◌, ◌+◌, ℕ, true, false, List, [], ◌∷◌, length, ap, sym, subst, refl, arith}
+use Rattle.std.proofs.Common.{◌≡◌, ◌∙◌, ◌<◌, ◌≤◌, ◌+◌, ℕ, true, false, List, [], ◌∷◌, length, ap, sym, subst, refl, arith}
 use Rattle.std.specs.Prelude.{Bool, not, is_some, Option, Some, None, Ok, Err, slice_get, slice_set}
 use Rattle.vx_history.specs.Doubts.{After, Doubted, happened}
 use Rattle.vx_history.specs.Events.{linked_sites}
 use Rattle.vx_history.specs.Refusals.{Outcome}
 use Rattle.vx_history.specs.Step.{step}
 use Rattle.vx_history.specs.Steps.{burned, crashed, worked, worked_on}
+use Rattle.vx_history.specs.Stops.{IsFused}
 use Rattle.vx_history.specs.World.{Fuse, Gathering, Link, Node, Packet}
 use Rattle.vx_history.specs.declared.event.Event.{Event}
 use Rattle.vx_history.specs.declared.event.Event.TheVariants.{Apply as ApplyAt, Fault}
@@ -73,7 +74,6 @@ use Rattle.vx_yard.proofs.Rows.{fact_from, fact_like, fact_same, over_same, show
 use Rattle.vx_yard.proofs.SiteEvents.{first_choice, keeps_k}
 use Rattle.vx_events.specs.RvgViews.{is_over_rvg}
 use Rattle.vx_yard.proofs.OverGroup.{noted_off}
-use Rattle.vx_events.specs.RvgSteps.{over_rvg_at}
 
 -- ---- a line that notes that the fuse may have let calls pass
 
@@ -97,7 +97,7 @@ worked_effect s d h n row many doubt packets gathered eff =
       gathering = eff.gathering;
     }
 
-halted_fact : (n : Node) (row : ℕ → Link) (sites disk : ℕ) → halted_facts disk (fact_from n row sites) ≡ fact_from (halted_at n disk) row sites
+pub halted_fact : (n : Node) (row : ℕ → Link) (sites disk : ℕ) → halted_facts disk (fact_from n row sites) ≡ fact_from (halted_at n disk) row sites
 halted_fact n row sites disk =
     let ss : List ℕ = linked_sites row sites 0 sites in
     ap (λ (x : SiteFacts). let f : SiteFacts = record x { links = links_by n.state (link_facts n row ss) } in f) (stopped_fact n disk)
@@ -109,6 +109,57 @@ unfolding first_name line_role
 apply_has sites files name to free n =
     let p = passes sites files (Apply name to) free in
     not_false (is_some (rvg_of (Some n.facts))) (when_none (not (is_some (rvg_of (Some n.facts)))) WrongRole (subst (λ (o : Option SiteFacts). apply_role o ≡ None) n.found p.role))
+
+-- ---- how the line ends
+
+module _ (told : Type 0) (d : Doubted) (name : List ℕ) (to s : ℕ) (number_is : site_number d.world name ≡ s) where
+  event_is : (reached : ℕ) → (let es : List Event = ApplyAt (site_number d.world name) to reached ∷ [] in es) ≡ ApplyAt s to reached ∷ []
+  event_is reached = ap (λ (i : ℕ). let es : List Event = ApplyAt i to reached ∷ [] in es) number_is
+
+  -- the log was applied up to this number
+  pub applied_ends : (number : ℕ) → (step d.world (ApplyAt s to number)).said ≡ IsDoneAt number → Ends told d (Apply name to) (site_number d.world name) [] (DoneAt number) (worked_for (happened d (ApplyAt s to number) false) s)
+  applied_ends number said =
+      let e : Doubted = worked_for (happened d (ApplyAt s to number) false) s in
+      let c : Choice = record { kept = 0; reached = number } in
+      subst (λ (i : ℕ). Ends told d (Apply name to) i [] (DoneAt number) e) (sym number_is)
+      (AllDone c false tt
+      (subst (λ (es : List Event). Replies told (Apply name to) s false d es (DoneAt number)) (sym (event_is number))
+      (subst (λ (o : EventSaid). RepeatsSaid (step d.world (ApplyAt s to number)).world s o (DoneAt number)) (sym said) refl))
+      (subst (λ (es : List Event). IsLeft s (Apply name to) false d (run_as false d es) e) (sym (event_is number)) (record { world = refl; after = λ i. refl; strayed = refl })))
+
+  -- a disk failed
+  pub apply_halts : (disk : ℕ) → IsSiteDisk (d.world.nodes s) disk → Ends told d (Apply name to) (site_number d.world name) ((s, disk) ∷ []) (Refused (Device disk)) (worked_for (happened d (Fault s disk) false) s)
+  apply_halts disk names =
+      let e : Doubted = worked_for (happened d (Fault s disk) false) s in
+      subst (λ (i : ℕ). Ends told d (Apply name to) i ((s, disk) ∷ []) (Refused (Device disk)) e) (sym number_is)
+      (DiskFails first_choice false [] (ApplyAt s to 0) [] (Fault s disk ∷ []) disk (event_is 0) refl names refl refl (record { world = refl; after = λ i. refl; strayed = refl }))
+
+  -- the fuse ran out
+  pub apply_off : (count : ℕ) → count ≤ (d.world.nodes s).safe + to → IsFused (d.world.nodes s).fuse → Ends told d (Apply name to) (site_number d.world name) [] (Refused Off) (worked_for (crash_of d s count false) s)
+  apply_off count few fused =
+      let e : Doubted = worked_for (crash_of d s count false) s in
+      subst (λ (i : ℕ). Ends told d (Apply name to) i [] (Refused Off) e) (sym number_is)
+      (FuseRunsOut (keeps_k count) (ApplyAt s to 0) [] (event_is 0) refl few fused refl refl (record { world = refl; after = λ i. refl; strayed = refl }))
+
+-- the site, whose fuse ran out in it
+module _ (d : Doubted) (s count : ℕ) (below : s < d.world.sites) (up : (d.world.nodes s).state ≡ IsUp) (least : (d.world.nodes s).safe ≤ count) (most : count ≤ length (d.world.nodes s).log) where
+  abbrev own : Node
+  own = d.world.nodes s
+
+  abbrev fell : Doubted
+  fell = crash_of d s count false
+
+  abbrev ended : Doubted
+  ended = worked_for fell s
+
+  node_then : fell.world.nodes s ≡ crashed_node own own count
+  node_then = crash_node d s count false own (d.world.links s) refl (λ j. refl) (λ _. refl) below up least most
+
+  pub fell_node : ended.world.nodes s ≡ crashed_node own own count
+  fell_node = (note_effect fell s (worked (fell.world.nodes s))).is.node ∙ ap (λ (q : Node). worked q) node_then
+
+  pub fell_same : fell.world.nodes s ≡ ended.world.nodes s
+  fell_same = node_then ∙ sym fell_node
 
 module _ {R : Type 0} {g : Ghosts R} where
   -- an apply of at most so many that was refused; where its fuse ran out no more of them are kept
@@ -149,20 +200,38 @@ module _ {R : Type 0} {g : Ghosts R} where
   -- what the tests found
   pub record CanApplyAt (d : Doubted) (y : Yard R g) (name : List ℕ) (s : ℕ) : Type 0 where
     pub seat : SiteAt d y name s
-    pub off : is_over_rvg (d.world.nodes s) ≡ false
     pub can : CanApply (d.world.nodes s)
 
-  pub can_apply_at : (d : Doubted) (y : Yard R g) (name : List ℕ) (to s : ℕ) → StandsFor d y → over_rvg_at d.world name ≡ false → IsFree y (Apply name to) → seat_of y.facts.items name ≡ Some s → CanApplyAt d y name s
-  can_apply_at d y name to s stands off free at =
+  pub can_apply_at : (d : Doubted) (y : Yard R g) (name : List ℕ) (to s : ℕ) → StandsFor d y → IsFree y (Apply name to) → seat_of y.facts.items name ≡ Some s → CanApplyAt d y name s
+  can_apply_at d y name to s stands free at =
       let may = apply_may y.facts.items (in_files y) name to free in
       let here = rvg_at d y name s stands at may.site (apply_has y.facts.items (in_files y) name to free may.site) in
       let fact = fact_named d y name s here at may.site in
       let n : Node = d.world.nodes s in
       let up : n.state ≡ IsUp = sym (ap (λ (f : SiteFacts). f.state) fact) ∙ may.up in
-      record { seat = here; off = subst (λ (i : ℕ). is_over_rvg (d.world.nodes i) ≡ false) here.number off; can = record { up = up; running = may.running (group_fact n) (ap (λ (f : SiteFacts). f.rvg) fact ∙ ap (λ (t : SiteState). group_by t n) up) } }
+      record { seat = here; can = record { up = up; running = may.running (group_fact n) (ap (λ (f : SiteFacts). f.rvg) fact ∙ ap (λ (t : SiteState). group_by t n) up) } }
 
-  module _ (d : Doubted) (old new : Yard R g) (name : List ℕ) (to s : ℕ) (before after : DiskSet R g) (stands : StandsFor d old) (here : CanApplyAt d old name s) (changed : Changed old new s before after)
-      (keeps : KeepsRole before after) where
+  -- the site, whose fuse ran out in it
+  module _ (d : Doubted) (s count : ℕ) (below : s < d.world.sites) (up : (d.world.nodes s).state ≡ IsUp) (least : (d.world.nodes s).safe ≤ count) (most : count ≤ length (d.world.nodes s).log) where
+    pub fell_comes : (before after : DiskSet R g) → LinksFit d → FailsAs (d.world.nodes s) before → SameFailing before after → SiteStands (sure_of (itself (beside_of d s) (d.world.nodes s))) (crashed (d.world.nodes s) count) after
+        → Comes d (worked_for (crash_of d s count false) s) s after
+    fell_comes before after fits fails same stood =
+        let fell : Doubted = crash_of d s count false in
+        let ended : Doubted = worked_for fell s in
+        let back : fell.world.nodes s ≡ ended.world.nodes s = fell_same d s count below up least most in
+        let comes = crash_comes d s count false (d.world.nodes s) (d.world.links s) refl (λ j. refl) (λ _. refl) below up least most before after fits fails same stood in
+        record {
+          changes = changes_then s d fell ended comes.changes (note_effect fell s (worked (fell.world.nodes s))).site;
+          links = fit_worked fell s comes.links;
+          stands = subst (λ (q : Node). SiteStands (beside_of fell s) q after) back comes.stands;
+          failing = subst (λ (q : Node). FailsAs q after) back comes.failing;
+          fuse = subst (λ (q : Node). FusedAs q after) back comes.fuse;
+          role = subst (λ (q : Node). RoleIs q after) back comes.role;
+          doubt = λ was a there. subst (λ (q : Node). IsSameSite q a.node) back (comes.doubt was a there);
+        }
+
+  module _ (d : Doubted) (old new : Yard R g) (name : List ℕ) (to s : ℕ) (before after : DiskSet R g) (stands : StandsFor d old) (here : CanApplyAt d old name s)
+      (off : is_over_rvg (d.world.nodes s) ≡ false) (changed : Changed old new s before after) (keeps : KeepsRole before after) where
     abbrev n : Node
     n = d.world.nodes s
 
@@ -175,26 +244,19 @@ module _ {R : Type 0} {g : Ghosts R} where
     -- the log was applied up to this number
     pub applied : (number : ℕ) → is_origin n.role ≡ true → AppliedAt (beside_of d s) n to before after (Ok number) → LeavesFuse NoMore (DoneAt number) before after → new.facts ≡ old.facts → SameLoad old new → Leads d (Apply name to) (DoneAt number) old new
     applied number origin is calls facts load =
-        let k : ℕ = site_number d.world name in
         let fuse : FusedAs (worked n) after =
         fused_on (Burnt NoMore (DoneAt number) (size_in before)) n (worked n) (burned n.fuse) before after refl
         (λ x y burns left. left_passed n.fuse x.fuse y.fuse (done_by NoMore (size_in before) (DoneAt number) number x y refl burns).0.fuse left) calls.told (stands.fuses s before here.seat.below changed.there) in
         let fails : FailsAs (worked n) after = fails_still (worked n) (DoneAt number) refl calls in
-        let c : Choice = record { kept = 0; reached = number } in
         let h : Doubted = happened d (ApplyAt s to number) false in
         let e : Doubted = worked_for h s in
         let eff = worked_effect s d h n (d.world.links s) (d.world.headers s) (d.after s) d.world.packets (d.world.gathering s) (reached_effect d s to number false here.seat.below here.can.up here.can.running origin is.0 is.1) in
-        let ev : (let es : List Event = ApplyAt k to number ∷ [] in es) ≡ ApplyAt s to number ∷ [] = ap (λ (i : ℕ). let es : List Event = ApplyAt i to number ∷ [] in es) here.seat.number in
         let said : (step d.world (ApplyAt s to number)).said ≡ IsDoneAt number = ap (λ (o : Outcome). o.said) (apply_step d.world s to number here.seat.below here.can.up here.can.running origin is.0 is.1) in
         record {
           next = e;
           fails = [];
           done = record {
-            ends = subst (λ (i : ℕ). Ends (IsTold new) d (Apply name to) i [] (DoneAt number) e) (sym here.seat.number)
-                (AllDone c false tt
-                (subst (λ (es : List Event). Replies (IsTold new) (Apply name to) s false d es (DoneAt number)) (sym ev)
-                (subst (λ (o : EventSaid). RepeatsSaid (step d.world (ApplyAt s to number)).world s o (DoneAt number)) (sym said) refl))
-                (subst (λ (es : List Event). IsLeft s (Apply name to) false d (run_as false d es) e) (sym ev) (record { world = refl; after = λ i. refl; strayed = refl })));
+            ends = applied_ends (IsTold new) d name to s here.seat.number number said;
             counts = tt;
             works = tt;
             calls = tt;
@@ -202,7 +264,7 @@ module _ {R : Type 0} {g : Ghosts R} where
           carries = carries_node s d e (worked n) old new load eff.site eff.sent eff.gathering eff.is.node refl refl refl (told_by old new s before after changed);
           stands = still_apart d e old new s before after stands here.seat.below changed
               (comes_effect d e s (worked n) d.world.packets (d.world.gathering s) after eff (fit_worked h s (fit_happened d (ApplyAt s to number) false tt stands.links)) refl refl refl refl refl is.2 fails fuse kind)
-              (λ _. noted_off (beside_of d s) (worked n) (e.world.nodes s) after is.2 here.off) here.seat.apart (ap (λ (q : Node). is_over_group q) eff.is.node ∙ here.seat.apart)
+              (λ _. noted_off (beside_of d s) (worked n) (e.world.nodes s) after is.2 off) here.seat.apart (ap (λ (q : Node). is_over_group q) eff.is.node ∙ here.seat.apart)
               (fact_same (worked n) (e.world.nodes s) (d.world.links s) (e.world.links s) d.world.sites e.world.sites eff.is.node (λ j. eff.is.links j) eff.site.sites
               ∙ fact_like n (worked n) (d.world.links s) d.world.sites (fuse_fact n (burned n.fuse)) (λ j l. refl))
               (ap (λ fs. fs.items) facts);
@@ -213,7 +275,6 @@ module _ {R : Type 0} {g : Ghosts R} where
     halts : (disk : ℕ) (f f' : SiteFacts) → IsSiteDisk n disk → AppliedAt (beside_of d s) n to before after (Err (Device disk)) → LeavesFuse NoMore (Refused (Device disk)) before after → slice_get old.facts.items s ≡ Some f
         → f' ≡ halted_facts disk f → new.facts.items ≡ slice_set old.facts.items s f' → SameLoad old new → Leads d (Apply name to) (Refused (Device disk)) old new
     halts disk f f' names is calls at noted facts load =
-        let k : ℕ = site_number d.world name in
         let m : Node = halted_at n disk in
         let h : Doubted = happened d (Fault s disk) false in
         let e : Doubted = worked_for h s in
@@ -224,13 +285,11 @@ module _ {R : Type 0} {g : Ghosts R} where
         let fuse : FusedAs m after =
         fused_on (Burnt NoMore (Refused (Device disk)) (size_in before)) n m (burned n.fuse) before after refl
         (λ x y burns left. left_passed n.fuse x.fuse y.fuse (device_by NoMore (size_in before) (Refused (Device disk)) disk x y refl burns).fuse left) calls.told (stands.fuses s before here.seat.below changed.there) in
-        let ev : (let es : List Event = ApplyAt k to 0 ∷ [] in es) ≡ ApplyAt s to 0 ∷ [] = ap (λ (i : ℕ). let es : List Event = ApplyAt i to 0 ∷ [] in es) here.seat.number in
         record {
           next = e;
           fails = (s, disk) ∷ [];
           done = record {
-            ends = subst (λ (i : ℕ). Ends (IsTold new) d (Apply name to) i ((s, disk) ∷ []) (Refused (Device disk)) e) (sym here.seat.number)
-                (DiskFails first_choice false [] (ApplyAt s to 0) [] (Fault s disk ∷ []) disk ev refl names refl refl (record { world = refl; after = λ i. refl; strayed = refl }));
+            ends = apply_halts (IsTold new) d name to s here.seat.number disk names;
             counts = tt;
             works = tt;
             calls = tt;
@@ -238,7 +297,7 @@ module _ {R : Type 0} {g : Ghosts R} where
           carries = carries_node s d e m old new load eff.site eff.sent eff.gathering eff.is.node refl refl refl (told_by old new s before after changed);
           stands = stands_apart d e old new s f' before after stands here.seat.below changed
               (comes_effect d e s m d.world.packets (d.world.gathering s) after eff (fit_worked h s (fit_happened d (Fault s disk) false tt stands.links)) refl refl refl refl refl is.0 (fails_still m (Refused (Device disk)) refl calls) fuse kind)
-              (λ _. noted_off (beside_of d s) m (e.world.nodes s) after is.0 here.off)
+              (λ _. noted_off (beside_of d s) m (e.world.nodes s) after is.0 off)
               (ap (λ (q : Node). is_over_group q) eff.is.node ∙ here.seat.apart)
               (noted ∙ ap (halted_facts disk) (some_same (sym at ∙ here.seat.fact)) ∙ halted_fact n (d.world.links s) d.world.sites disk
               ∙ sym (fact_same m (e.world.nodes s) (d.world.links s) (e.world.links s) d.world.sites e.world.sites eff.is.node (λ j. eff.is.links j) eff.site.sites))
@@ -253,43 +312,30 @@ module _ {R : Type 0} {g : Ghosts R} where
       where
         itself_by : (count : ℕ) → count ≤ n.safe + to → n.safe ≤ count → count ≤ length n.log → SiteStands (sure_of (itself (beside_of d s) n)) (crashed n count) after → Leads d (Apply name to) (Refused Off) old new
         itself_by count few least most stood =
-            let k : ℕ = site_number d.world name in
             let h : Doubted = crash_of d s count false in
             let e : Doubted = worked_for h s in
             let m : Node = crashed_node n n count in
-            let before_noted = crash_comes d s count false n (d.world.links s) refl (λ j. refl) (λ _. refl) here.seat.below here.can.up least most before after stands.links (stands.failing s before here.seat.below changed.there)
-            (calls_keep NoMore (Refused Off) before after calls) stood in
-            let note = note_effect h s (worked (h.world.nodes s)) in
-            let node : e.world.nodes s ≡ m = note.is.node ∙ ap (λ (q : Node). worked q) (crash_node d s count false n (d.world.links s) refl (λ j. refl) (λ _. refl) here.seat.below here.can.up least most) in
-            let node_h : h.world.nodes s ≡ m = crash_node d s count false n (d.world.links s) refl (λ j. refl) (λ _. refl) here.seat.below here.can.up least most in
-            let same : h.world.nodes s ≡ e.world.nodes s = node_h ∙ sym node in
-            let ev : (let es : List Event = ApplyAt k to 0 ∷ [] in es) ≡ ApplyAt s to 0 ∷ [] = ap (λ (i : ℕ). let es : List Event = ApplyAt i to 0 ∷ [] in es) here.seat.number in
+            let node : e.world.nodes s ≡ m = fell_node d s count here.seat.below here.can.up least most in
+            let same : h.world.nodes s ≡ e.world.nodes s = fell_same d s count here.seat.below here.can.up least most in
+            let crashes : Comes d e s after =
+            fell_comes d s count here.seat.below here.can.up least most before after stands.links (stands.failing s before here.seat.below changed.there) (calls_keep NoMore (Refused Off) before after calls) stood in
             record {
               next = e;
               fails = [];
               done = record {
-                ends = subst (λ (i : ℕ). Ends (IsTold new) d (Apply name to) i [] (Refused Off) e) (sym here.seat.number)
-                    (FuseRunsOut (keeps_k count) (ApplyAt s to 0) [] ev refl few is.0 refl refl (record { world = refl; after = λ i. refl; strayed = refl }));
+                ends = apply_off (IsTold new) d name to s here.seat.number count few is.0;
                 counts = tt;
                 works = tt;
                 calls = tt;
               };
-              carries = carries_let s d e old new lets (omega (arith, here.seat.below, stands.disk_sets.few)) (changes_then s d h e before_noted.changes note.site)
+              carries = carries_let s d e old new lets (omega (arith, here.seat.below, stands.disk_sets.few)) crashes.changes
                   (crash_sent d s count false n (d.world.links s) refl (λ j. refl) (λ _. refl) here.seat.below here.can.up least most)
                   (crash_gathering d s count false n (d.world.links s) refl (λ j. refl) (λ _. refl) here.seat.below here.can.up least most)
                   (λ is_up. down_up (sym (ap (λ (q : Node). q.state) node) ∙ is_up)) (told_by old new s before after changed);
               stands = stands_at d e old new s f' before after stands here.seat.below changed
-                  (record {
-                    changes = changes_then s d h e before_noted.changes note.site;
-                    links = fit_worked h s before_noted.links;
-                    stands = subst (λ (q : Node). SiteStands (beside_of h s) q after) same before_noted.stands;
-                    failing = subst (λ (q : Node). FailsAs q after) same before_noted.failing;
-                    fuse = subst (λ (q : Node). FusedAs q after) same before_noted.fuse;
-                    role = subst (λ (q : Node). RoleIs q after) same before_noted.role;
-                    doubt = λ was a there. subst (λ (q : Node). IsSameSite q a.node) same (before_noted.doubt was a there);
-                  })
+                  crashes
                   (λ first. subst (λ (q : Node). BeginsFirst s q) (sym node) (begins_fell s n n count here.can.up first))
-                  (λ _. noted_off (sure_of (itself (beside_of d s) n)) (crashed n count) (e.world.nodes s) after stood here.off)
+                  (λ _. noted_off (sure_of (itself (beside_of d s) n)) (crashed n count) (e.world.nodes s) after stood off)
                   (noted ∙ ap down_fact (some_same (sym at ∙ fact_of d old s stands here.seat.below)) ∙ crash_fact d s count false n (d.world.links s) refl (λ j. refl) (λ _. refl) here.seat.below here.can.up least most refl refl refl refl
                   ∙ over_same (e.world.nodes s) (h.world.nodes s) (h.world.links s) (h.world.links s) h.world.sites h.world.sites same (λ j. refl) refl)
                   facts;

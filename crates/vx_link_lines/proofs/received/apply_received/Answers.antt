@@ -39,7 +39,7 @@ returns-in-Ok-clause-leads g c = λ d s stands off carries seat receives.
     let there = get_at es t before c.site_of-site.ensures.disk_set c.index_mut.ensures.value in
     let at_site = some_same (sym seat ∙ c.site_of-site.ensures.seat) in
     let other = subst (λ (i : ℕ). is_origin (d.world.nodes i).role ≡ false) at_site receives in
-    let here = can_apply_at d old c.args.name.now c.args.count t stands off c.requires.free c.site_of-site.ensures.seat in
+    let here = can_apply_at d old c.args.name.now c.args.count t stands c.requires.free c.site_of-site.ensures.seat in
     let stood = stands.disk_sets.sites t before here.seat.below there in
     let raw = raw_seat d old c.args.name.now t before stands c.site_of-site.ensures.seat there off in
     let can = can_receive d t stands.links other here.can.up here.can.running in
@@ -77,7 +77,7 @@ returns-in-Err-clause-leads g c = λ d s stands off carries seat receives.
     let there = get_at es t before c.site_of-site.ensures.disk_set c.index_mut.ensures.value in
     let at_site = some_same (sym seat ∙ c.site_of-site.ensures.seat) in
     let other = subst (λ (i : ℕ). is_origin (d.world.nodes i).role ≡ false) at_site receives in
-    let here = can_apply_at d old c.args.name.now c.args.count t stands off c.requires.free c.site_of-site.ensures.seat in
+    let here = can_apply_at d old c.args.name.now c.args.count t stands c.requires.free c.site_of-site.ensures.seat in
     let stood = stands.disk_sets.sites t before here.seat.below there in
     let raw = raw_seat d old c.args.name.now t before stands c.site_of-site.ensures.seat there off in
     let can = can_receive d t stands.links other here.can.up here.can.running in
@@ -95,7 +95,7 @@ returns-in-Ok-clause-called g c = λ d stands off.
     let y = c.args.yard.now in
     let s = c.site_of-site.result in
     let at = get_at y.disk_sets.items s c.index_mut.result.now c.site_of-site.ensures.disk_set c.index_mut.ensures.value in
-    let here = can_apply_at d y c.args.name.now c.args.count s stands off c.requires.free c.site_of-site.ensures.seat in
+    let here = can_apply_at d y c.args.name.now c.args.count s stands c.requires.free c.site_of-site.ensures.seat in
     asks_at (LeavesFuse NoMore (DoneAt c.in-Ok.reached.number)) d y _ c.args.name.now s c.index_mut.result.now c.apply_waiting.new.self stands c.site_of-site.ensures.seat at refl
     (c.in-Ok.ensures.called (beside_of d s) (d.world.nodes s) (stands.disk_sets.sites s c.index_mut.result.now here.seat.below at))
 
@@ -104,7 +104,7 @@ returns-in-Ok-clause-asked g c = λ d stands off.
     let y = c.args.yard.now in
     let s = c.site_of-site.result in
     let at = get_at y.disk_sets.items s c.index_mut.result.now c.site_of-site.ensures.disk_set c.index_mut.ensures.value in
-    let here = can_apply_at d y c.args.name.now c.args.count s stands off c.requires.free c.site_of-site.ensures.seat in
+    let here = can_apply_at d y c.args.name.now c.args.count s stands c.requires.free c.site_of-site.ensures.seat in
     asks_at SameFailing d y _ c.args.name.now s c.index_mut.result.now c.apply_waiting.new.self stands c.site_of-site.ensures.seat at refl
     (calls_keep NoMore (DoneAt c.in-Ok.reached.number) c.index_mut.result.now c.apply_waiting.new.self
     (c.in-Ok.ensures.called (beside_of d s) (d.world.nodes s) (stands.disk_sets.sites s c.index_mut.result.now here.seat.below at)))
@@ -114,7 +114,7 @@ returns-in-Err-clause-called g c = λ d stands off.
     let y = c.args.yard.now in
     let s = c.site_of-site.result in
     let at = get_at y.disk_sets.items s c.index_mut.result.now c.site_of-site.ensures.disk_set c.index_mut.ensures.value in
-    let here = can_apply_at d y c.args.name.now c.args.count s stands off c.requires.free c.site_of-site.ensures.seat in
+    let here = can_apply_at d y c.args.name.now c.args.count s stands c.requires.free c.site_of-site.ensures.seat in
     asks_at (LeavesFuse NoMore c.refused.result) d y _ c.args.name.now s c.index_mut.result.now c.apply_waiting.new.self stands c.site_of-site.ensures.seat at refl
     (subst (λ (r : Said). LeavesFuse NoMore r c.index_mut.result.now c.apply_waiting.new.self) (sym c.refused.ensures.said)
     (c.in-Err.ensures.called (beside_of d s) (d.world.nodes s) (stands.disk_sets.sites s c.index_mut.result.now here.seat.below at)))
@@ -124,7 +124,7 @@ returns-in-Err-clause-asked g c = λ d stands off.
     let y = c.args.yard.now in
     let s = c.site_of-site.result in
     let at = get_at y.disk_sets.items s c.index_mut.result.now c.site_of-site.ensures.disk_set c.index_mut.ensures.value in
-    let here = can_apply_at d y c.args.name.now c.args.count s stands off c.requires.free c.site_of-site.ensures.seat in
+    let here = can_apply_at d y c.args.name.now c.args.count s stands c.requires.free c.site_of-site.ensures.seat in
     asks_at SameFailing d y _ c.args.name.now s c.index_mut.result.now c.apply_waiting.new.self stands c.site_of-site.ensures.seat at refl
     (calls_keep NoMore c.refused.result c.index_mut.result.now c.apply_waiting.new.self
     (subst (λ (r : Said). LeavesFuse NoMore r c.index_mut.result.now c.apply_waiting.new.self) (sym c.refused.ensures.said)

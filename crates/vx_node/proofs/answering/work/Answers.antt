@@ -141,7 +141,8 @@ pub returns-in-Apply-clause-leads : goal.returns-in-Apply-clause-leads
 returns-in-Apply-clause-leads g c = λ d stands goes closed carries good.
     let shut = subst (λ line. is_open d.world line ≡ false) c.in-Apply.is closed in
     subst (λ line. WorksIs d line c.args.yard.now c.apply_line.new.yard c.apply_line.result) (sym c.in-Apply.is)
-    (works_whole d _ c.args.yard.now c.apply_line.new.yard tt shut shut c.apply_line.result refl (c.apply_line.ensures.leads d stands shut carries))
+    (works_either d _ c.args.yard.now c.apply_line.new.yard tt shut c.apply_line.result refl
+    (λ off. leads_whole d _ c.args.yard.now c.apply_line.new.yard c.apply_line.result (c.apply_line.ensures.leads d stands off carries)) (λ over. c.apply_line.ensures.above d stands over))
 
 pub returns-in-Apply-clause-asked : goal.returns-in-Apply-clause-asked
 returns-in-Apply-clause-asked g c = λ d stands goes off links. subst (λ line. AsAsked d.world line c.args.yard.now c.apply_line.new.yard) (sym c.in-Apply.is) (c.apply_line.ensures.asked d stands (subst (λ line. is_for_rvg d.world line ≡ false) c.in-Apply.is off))
