@@ -15,3 +15,8 @@ pub mod SiteCalls
 pub mod FuseGoing
 pub mod Quiet
 pub mod Works
+pub mod RiseWorlds
+pub mod SeenSites
+pub mod Smalls
+pub mod StatusAbove
+pub mod StatusLinks

@@ -1,0 +1,3 @@
+pub mod OwnDisks
+pub mod Seen
+pub mod Views

@@ -37,7 +37,7 @@ use Rattle.vx_group_lines.proofs.GroupAt.{GroupAt, group_at, up_noted}
 use Rattle.vx_group_lines.proofs.GroupLeads.{leads_by}
 use Rattle.vx_group_lines.proofs.GroupMarks.{group_noted_at, noting_same}
 use Rattle.vx_above.proofs.GroupStatus.{config_is}
-use Rattle.vx_site_lines.proofs.StatusAbove.{none_shown}
+use Rattle.vx_above.proofs.StatusAbove.{none_shown}
 
 -- ---- the view
 

@@ -24,7 +24,7 @@ use Rattle.vx_events.specs.GroupViews.{config_of, volumes_of}
 use Rattle.vx_events.specs.LinkedFacts.{link_facts, linked_fact, links_by, links_of_site, seen_fact}
 use Rattle.vx_events.specs.RvgViews.{is_over_rvg, data_facts, data_seen, data_units, kinds_by, others_by, others_of, over_table, table_at}
 use Rattle.vx_events.specs.StepsOver.{fact_of_group, fact_over}
-use Rattle.vx_site_lines.proofs.RiseSite.{group_seen}
+use Rattle.vx_above.proofs.SeenSites.{group_seen}
 use Rattle.vx_yard.specs.Changes.{up_group}
 use Rattle.vx_group_lines.specs.Noting.{made_facts}
 use Rattle.vx_model.specs.declared.units.Units.{Units}

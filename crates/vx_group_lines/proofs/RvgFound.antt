@@ -54,8 +54,8 @@ use Rattle.vx_events.specs.StepsOver.{fact_of_group, fact_over}
 use Rattle.vx_events.specs.Strays.{gone_astray}
 use Rattle.vx_events.specs.declared.said.Said.{Said}
 use Rattle.vx_events.specs.declared.said.Said.TheVariants.{Resumed}
-use Rattle.vx_site_lines.proofs.RiseWorlds.{behind_disks, found_effect, own_gathering, own_headers, own_is, own_links, own_node, own_packets, own_sites, own_view, view_noted}
-use Rattle.vx_site_lines.specs.Rises.{own_disks}
+use Rattle.vx_above.proofs.RiseWorlds.{behind_disks, found_effect, own_gathering, own_headers, own_is, own_links, own_node, own_packets, own_sites, own_view, view_noted}
+use Rattle.vx_above.specs.OwnDisks.{own_disks}
 use Rattle.vx_yard.proofs.Carrying.{SameLoad, carries_at, feeds_none}
 use Rattle.vx_yard.proofs.CrashSite.{beside_sure}
 use Rattle.vx_yard.proofs.FailsStay.{fails_then}

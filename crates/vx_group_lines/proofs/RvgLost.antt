@@ -50,7 +50,7 @@ use Rattle.vx_yard.specs.declared.yard.Yard.{Yard}
 use Rattle.vx_above.proofs.Changing.{notes_table}
 use Rattle.vx_above.proofs.Losing.{fact_moves, facts_move, same_map}
 use Rattle.vx_above.proofs.Tables.{table_like}
-use Rattle.vx_site_lines.proofs.RiseWorlds.{own_headers, own_is, own_node}
+use Rattle.vx_above.proofs.RiseWorlds.{own_headers, own_is, own_node}
 use Rattle.vx_group_lines.specs.RvgRises.{RaisesFor, RaisesShort, RestsSo, rests_as, rests_world}
 use Rattle.vx_group_lines.proofs.Arriving.{Arrives}
 use Rattle.vx_group_lines.proofs.RvgComing.{DownCall, rest_named, rest_noted}

@@ -75,8 +75,8 @@ use Rattle.vx_yard.specs.Standing.{BeginsFirst}
 use Rattle.vx_yard.specs.Yards.{IsTold}
 use Rattle.vx_yard.specs.declared.yard.Yard.{Yard}
 use Rattle.vx_above.proofs.GroupStatus.{table_is}
-use Rattle.vx_site_lines.proofs.RiseWorlds.{behind_disks, found_effect, own_gathering, own_is, own_node, own_packets, own_sites}
-use Rattle.vx_site_lines.specs.Rises.{own_disks}
+use Rattle.vx_above.proofs.RiseWorlds.{behind_disks, found_effect, own_gathering, own_is, own_node, own_packets, own_sites}
+use Rattle.vx_above.specs.OwnDisks.{own_disks}
 use Rattle.vx_group_lines.specs.Rises.{StandsSo, StoodUp, kept_shown}
 use Rattle.vx_group_lines.specs.RvgRises.{RaisesIs, rests_as, rests_world}
 use Rattle.vx_group_lines.specs.Views.{view_with}

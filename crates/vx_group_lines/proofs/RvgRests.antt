@@ -38,7 +38,7 @@ use Rattle.vx_yard.specs.Standing.{StandsFor}
 use Rattle.vx_yard.specs.declared.yard.Yard.{Yard}
 use Rattle.vx_above.proofs.OverSeen.{table_by}
 use Rattle.vx_above.proofs.OverSites.{over_again}
-use Rattle.vx_site_lines.specs.Rises.{own_disks}
+use Rattle.vx_above.specs.OwnDisks.{own_disks}
 use Rattle.vx_group_lines.specs.RvgRises.{RestsSo, rests_as, rests_world}
 use Rattle.vx_group_lines.proofs.Arriving.{Arrives, arrives_as, arrives_none, arrives_unfused}
 use Rattle.vx_group_lines.proofs.RvgComing.{DownCall, carries_so, stands_so}

@@ -48,8 +48,8 @@ use Rattle.vx_yard.specs.Yards.{IsTold}
 use Rattle.vx_yard.specs.declared.yard.Yard.{Yard}
 use Rattle.vx_above.proofs.Changing.{notes_config}
 use Rattle.vx_above.proofs.OverSites.{over_again}
-use Rattle.vx_site_lines.proofs.RiseWorlds.{own_sites, own_view, view_noted}
-use Rattle.vx_site_lines.specs.Rises.{own_disks}
+use Rattle.vx_above.proofs.RiseWorlds.{own_sites, own_view, view_noted}
+use Rattle.vx_above.specs.OwnDisks.{own_disks}
 use Rattle.vx_group_lines.specs.Noting.{made_facts}
 use Rattle.vx_group_lines.specs.RvgRises.{RaisesFor, RestsSo, rests_as, rests_world}
 use Rattle.vx_group_lines.proofs.Arriving.{Arrives, arrives_noted, noted_at}

@@ -23,8 +23,8 @@ use Rattle.vx_events.specs.Doubts.{run_as}
 use Rattle.vx_events.specs.Effects.{EffectAt}
 use Rattle.vx_events.specs.LinksFit.{LinksFit}
 use Rattle.vx_events.specs.RvgBack.{fall_first}
-use Rattle.vx_site_lines.proofs.RiseWorlds.{behind_disks, come_quiet, own_gathering, own_headers, own_is, own_links, own_node, own_packets, own_recovered, own_session, own_sites}
-use Rattle.vx_site_lines.specs.Rises.{own_disks}
+use Rattle.vx_above.proofs.RiseWorlds.{behind_disks, come_quiet, own_gathering, own_headers, own_is, own_links, own_node, own_packets, own_recovered, own_session, own_sites}
+use Rattle.vx_above.specs.OwnDisks.{own_disks}
 use Rattle.vx_yard.proofs.CrashSite.{beside_sure}
 use Rattle.vx_yard.proofs.Rows.{row_links_same}
 use Rattle.vx_group_lines.specs.RvgRises.{rests_as, rests_world}

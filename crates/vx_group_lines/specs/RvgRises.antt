@@ -11,7 +11,7 @@ use Rattle.vx_events.specs.RvgBack.{RvgBack, RvgFinds, fall_first}
 use Rattle.vx_events.specs.RvgParts.{RvgShort}
 use Rattle.vx_events.specs.RvgViews.{is_over_rvg}
 use Rattle.vx_events.specs.declared.said.Said.{Said}
-use Rattle.vx_site_lines.specs.Rises.{own_disks}
+use Rattle.vx_above.specs.OwnDisks.{own_disks}
 use Rattle.vx_yard.specs.Carries.{Carries}
 use Rattle.vx_yard.specs.Standing.{StandsFor}
 use Rattle.vx_yard.specs.Stands.{RoseAll}

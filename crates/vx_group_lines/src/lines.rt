@@ -124,8 +124,8 @@ pub fn is_of_group<R: Rack>(yard: &Yard<R>, words: &ScriptLine) -> bool
     match words {
         ScriptLine::Recover { site } => is_grouped(yard, site),
         ScriptLine::Status { site } => is_group(yard, site),
-        ScriptLine::Write { site, .. } => is_group(yard, site),
-        ScriptLine::Put { site, .. } => is_group(yard, site),
+        ScriptLine::Write { site, volume, .. } => is_plain(yard, site, volume),
+        ScriptLine::Put { site, volume, .. } => is_plain(yard, site, volume),
         ScriptLine::Read { site, volume, .. } => is_plain(yard, site, volume),
         ScriptLine::Show { site, volume, .. } => is_plain(yard, site, volume),
         ScriptLine::Disk { site, .. } => is_group(yard, site),

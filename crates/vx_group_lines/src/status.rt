@@ -9,10 +9,10 @@ ghost use Rattle.vx_yard.specs.Yards.{IsYardKept};
 
 use crate::views::view_at;
 use std::alloc::Global;
+use vx_above::ViewRoom;
 use vx_disk::Rack;
 use vx_events::Said;
 use vx_model::{Name, OutOfMemory};
-use vx_site_lines::ViewRoom;
 use vx_yard::Yard;
 
 /// The status of a site whose disks are a group.

@@ -11,9 +11,9 @@ ghost use Rattle.vx_group_lines.specs.Noting.{HasConfig, HasNoConfig};
 ghost use Rattle.vx_group_lines.specs.Views.{view_with};
 
 use std::alloc::Global;
+use vx_above::{ViewRoom, full_at};
 use vx_disk::Rack;
 use vx_report::{LinkViews, SiteView};
-use vx_site_lines::{ViewRoom, full_at};
 use vx_yard::Yard;
 
 /// How a site whose disks are a group stands. Only one that is up shows disks and volumes.

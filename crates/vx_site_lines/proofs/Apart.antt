@@ -1,5 +1,5 @@
 -- A site of which a line knows that it is over no group of disks.
-use Rattle.std.proofs.Common.{◌≡◌, ◌∙◌, ◌<◌, ℕ, List, length, ap, sym, subst, refl, arith, Bool, false, true}
+use Rattle.std.proofs.Common.{◌≡◌, ◌∙◌, ◌<◌, ℕ, List, length, ap, sym, subst, arith, Bool, false, true}
 use Rattle.std.specs.Prelude.{Option, Some, None, ◌&&◌, eqb, is_some, map, if◌then◌else◌}
 use Rattle.vx_model.specs.declared.site.SiteState.TheVariants.{Bare as IsBare, Up as IsUp, Down as IsDown}
 use Rattle.vx_model.proofs.Lists.{get_there}
@@ -13,8 +13,7 @@ use Rattle.vx_diskset.specs.declared.disk_set.DiskSet.{DiskSet}
 use Rattle.vx_diskset.specs.declared.disk_set.DiskSet.TheVariants.{Bare, Spoiled, Up, Receives, Down, OfGroup, Over, Gone}
 use Rattle.vx_diskset.specs.declared.group_set.GroupSet.{GroupSet}
 use Rattle.vx_diskset.proofs.GroupStands.{over_group}
-use Rattle.vx_events.proofs.OverSeats.{fact_apart, over_reads}
-use Rattle.vx_events.proofs.Refused.{Named}
+use Rattle.vx_events.proofs.OverSeats.{fact_apart}
 use Rattle.vx_events.specs.Facts.{seat_of, site_fact, volume_fact}
 use Rattle.vx_events.specs.GroupLines.{is_over_group}
 use Rattle.vx_events.specs.GroupNotes.{note_at}
@@ -27,7 +26,7 @@ use Rattle.vx_events.specs.declared.said.Said.{Said}
 use Rattle.vx_yard.specs.OfSites.{OfSite, ReadsBy, WritesBy}
 use Rattle.vx_yard.specs.Standing.{StandsFor}
 use Rattle.vx_yard.specs.declared.yard.Yard.{Yard}
-use Rattle.vx_yard.proofs.NamedSite.{SiteAt, fact_placed, place_at, site_at}
+use Rattle.vx_yard.proofs.NamedSite.{SiteAt, place_at, site_at}
 use Rattle.vx_diskset.proofs.GroupFinding.{over_made}
 use Rattle.vx_yard.proofs.OverGroup.{none_rvg}
 
@@ -84,12 +83,6 @@ module _ {R : Type 0} {g : Ghosts R} where
   bare_over d y s stands below bare =
       let e = get_there y.disk_sets.items s (omega (arith, below, stands.disk_sets.eight, stands.disk_sets.few)) in
       bare_apart (beside_of d s) (d.world.nodes s) e.0 (stands.disk_sets.sites s e.0 below e.1) bare
-
-  -- the state of the site that a line names
-  pub state_placed : (d : Doubted) (y : Yard R g) (name : List ℕ) (s : ℕ) → StandsFor d y → seat_of y.facts.items name ≡ Some s → (n : Named y.facts.items name) → (d.world.nodes s).state ≡ n.facts.state
-  state_placed d y name s stands seat n =
-      sym (over_reads d.world s (λ (f : SiteFacts). f.state) (d.world.nodes s).state refl refl)
-      ∙ ap (λ (f : SiteFacts). f.state) (sym (fact_placed d y name s (place_at d y name s stands seat) seat n))
 
   pub bare_seat : (d : Doubted) (y : Yard R g) (name : List ℕ) (s : ℕ) → StandsFor d y → seat_of y.facts.items name ≡ Some s → (d.world.nodes s).state ≡ IsBare → SiteAt d y name s
   bare_seat d y name s stands seat bare = site_at d y name s stands (bare_over d y s stands (place_at d y name s stands seat).below bare) seat

@@ -34,7 +34,8 @@ use Rattle.vx_yard.proofs.NoteSite.{changes_one, comes_one, none_left, with_one}
 use Rattle.vx_yard.proofs.OneSite.{Changed, role_kept, stands_still, told_by}
 use Rattle.vx_yard.proofs.Rows.{fact_like, fact_same}
 use Rattle.vx_yard.proofs.Carrying.{SameLoad, carries_node}
-use Rattle.vx_site_lines.proofs.Apart.{fact_stays, over_is, state_placed}
+use Rattle.vx_above.proofs.SeenSites.{state_placed}
+use Rattle.vx_site_lines.proofs.Apart.{fact_stays, over_is}
 use Rattle.vx_yard.proofs.FirstSites.{begins_like}
 use Rattle.vx_diskset.proofs.NotedLikes.{noted_fused}
 use Rattle.vx_diskset.specs.Noted.{NotedOver, OversFused}

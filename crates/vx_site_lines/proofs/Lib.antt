@@ -9,7 +9,6 @@ pub mod RawSite
 pub mod ReadAbove
 pub mod ReadLine
 pub mod StatusLine
-pub mod StatusLinks
 pub mod WriteSite
 pub mod ShownLine
 pub mod WriteEnds
@@ -17,7 +16,6 @@ pub mod WriteAbove
 pub mod WriteCalls
 pub mod WriteLinks
 pub mod WriteTests
-pub mod RiseWorlds
 pub mod RiseSite
 pub mod RiseEnds
 pub mod RiseLine
@@ -28,5 +26,3 @@ pub mod RecoverSite
 pub mod RiseNeeds
 pub mod SiteLine
 pub mod SiteMore
-pub mod Smalls
-pub mod StatusAbove

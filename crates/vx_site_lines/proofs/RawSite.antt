@@ -62,7 +62,8 @@ use Rattle.vx_yard.proofs.NamedSite.{SiteAt, fact_named}
 use Rattle.vx_yard.proofs.NoteSite.{comes_same, one_left, only_left}
 use Rattle.vx_yard.proofs.OneSite.{Changed, Comes, role_off, rose_at, stands_at, stands_still, told_by}
 use Rattle.vx_yard.proofs.Carrying.{Feeds, SameLoad, carries_at, carries_same, feeds_none}
-use Rattle.vx_site_lines.proofs.Apart.{bare_seat, fact_at, over_is, state_placed}
+use Rattle.vx_above.proofs.SeenSites.{state_placed}
+use Rattle.vx_site_lines.proofs.Apart.{bare_seat, fact_at, over_is}
 use Rattle.vx_site_lines.proofs.RawLine.{raw_fact_of}
 use Rattle.vx_yard.proofs.Rows.{fact_from, fact_same}
 use Rattle.vx_yard.proofs.SiteEvents.{first_choice}

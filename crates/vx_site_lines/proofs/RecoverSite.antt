@@ -22,13 +22,14 @@ use Rattle.vx_order.specs.Subject.{first_name}
 use Rattle.vx_order.specs.Tests.{when}
 use Rattle.vx_order.specs.declared.facts.SiteFacts.{SiteFacts}
 use Rattle.vx_script.specs.declared.line.ScriptLine.TheVariants.{Recover}
-use Rattle.vx_site_lines.specs.Rises.{LeadsFrom, RisesFrom, WasDown, WasUp, own_disks}
+use Rattle.vx_above.specs.OwnDisks.{own_disks}
+use Rattle.vx_site_lines.specs.Rises.{LeadsFrom, RisesFrom, WasDown, WasUp}
 use Rattle.vx_yard.specs.Standing.{Falls, Leads, LeadsIs, StandsFor}
 use Rattle.vx_yard.specs.Yards.{count_of}
 use Rattle.vx_yard.specs.declared.yard.Yard.{Yard}
 use Rattle.vx_yard.proofs.NamedSite.{place_at, site_at}
 use Rattle.vx_yard.proofs.RecoverLine.{rose_then}
-use Rattle.vx_site_lines.proofs.RiseWorlds.{own_sites}
+use Rattle.vx_above.proofs.RiseWorlds.{own_sites}
 use Rattle.vx_yard.proofs.SiteEvents.{first_choice, keeps_k}
 use Rattle.vx_diskset.proofs.GroupStands.{none_apart}
 

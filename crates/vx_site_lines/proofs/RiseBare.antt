@@ -70,8 +70,9 @@ use Rattle.vx_site_lines.proofs.RiseLeads.{Replaced, never_told}
 use Rattle.vx_yard.proofs.RawSites.{bare_set, raw_site}
 use Rattle.vx_yard.proofs.RecoverLine.{bare_events, recover_done}
 use Rattle.vx_site_lines.proofs.RiseLine.{effect_as, plain_of, quiet_is, row_starts, shape_at}
-use Rattle.vx_site_lines.proofs.RiseSite.{ComesUp, IsWhole, SeesDisks, up_carries, up_stands}
-use Rattle.vx_site_lines.proofs.RiseWorlds.{found_effect}
+use Rattle.vx_above.proofs.SeenSites.{IsWhole}
+use Rattle.vx_site_lines.proofs.RiseSite.{ComesUp, SeesDisks, up_carries, up_stands}
+use Rattle.vx_above.proofs.RiseWorlds.{found_effect}
 use Rattle.vx_yard.proofs.SiteEvents.{first_choice}
 use Rattle.vx_diskset.proofs.GroupStands.{none_apart}
 

@@ -37,7 +37,8 @@ use Rattle.vx_order.specs.declared.facts.SiteFacts.{SiteFacts}
 use Rattle.vx_order.specs.declared.facts.VolumeFacts.{VolumeFacts}
 use Rattle.vx_script.specs.declared.line.ScriptLine.TheVariants.{Recover}
 use Rattle.vx_yard.specs.Changes.{raw_facts}
-use Rattle.vx_site_lines.specs.Rises.{IsRisen, LeadsFrom, RisesFrom, RisesTo, can_rise, own_disks}
+use Rattle.vx_above.specs.OwnDisks.{own_disks}
+use Rattle.vx_site_lines.specs.Rises.{IsRisen, LeadsFrom, RisesFrom, RisesTo, can_rise}
 use Rattle.vx_yard.specs.Standing.{Leads, StandsFor}
 use Rattle.vx_yard.specs.declared.yard.Yard.{Yard}
 use Rattle.vx_yard.proofs.Kept.{many_sites}
@@ -49,7 +50,7 @@ use Rattle.vx_site_lines.proofs.RawSite.{bare_at}
 use Rattle.vx_site_lines.proofs.RiseBare.{none_leads, stands_up_bare, stays_bare, untold_none}
 use Rattle.vx_site_lines.proofs.RiseLeads.{Replaced, stays_down, stood_up, withdrawn}
 use Rattle.vx_site_lines.proofs.RiseLine.{shape_at, sure, told_may, told_origin}
-use Rattle.vx_site_lines.proofs.RiseWorlds.{own_sites}
+use Rattle.vx_above.proofs.RiseWorlds.{own_sites}
 use Rattle.vx_diskset.proofs.GroupCalling.{rack_tells}
 use Rattle.vx_diskset.proofs.GroupFinding.{over_made}
 use Rattle.vx_diskset.proofs.GroupStands.{none_apart}

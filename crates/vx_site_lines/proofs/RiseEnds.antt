@@ -29,7 +29,8 @@ use Rattle.vx_events.specs.Sayings.{RepeatsSaid, Replies}
 use Rattle.vx_events.specs.Stamps.{most_stamp_at}
 use Rattle.vx_events.specs.declared.said.Said.{Said}
 use Rattle.vx_events.specs.declared.said.Said.TheVariants.{Recovered, Refused}
-use Rattle.vx_site_lines.specs.Rises.{RisesFrom, WasDown, WasUp, own_disks}
+use Rattle.vx_above.specs.OwnDisks.{own_disks}
+use Rattle.vx_site_lines.specs.Rises.{RisesFrom, WasDown, WasUp}
 
 -- the events before the recovery, by which the world came to where it begins
 record Opening (d h : Doubted) (s : ℕ) (c : Choice) (taken : Bool) (name : List ℕ) : Type 1 where

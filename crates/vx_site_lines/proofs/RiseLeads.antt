@@ -44,7 +44,8 @@ use Rattle.vx_order.specs.declared.facts.SiteFacts.{SiteFacts}
 use Rattle.vx_report.specs.declared.view.SiteView.{SiteView}
 use Rattle.vx_script.specs.declared.line.ScriptLine.TheVariants.{Recover}
 use Rattle.vx_yard.specs.Carries.{Carries}
-use Rattle.vx_site_lines.specs.Rises.{AreNeeds, IsRisen, LeadsFrom, RisesFrom, RisesTo, can_rise, hello_by, own_disks, risen_facts}
+use Rattle.vx_above.specs.OwnDisks.{own_disks}
+use Rattle.vx_site_lines.specs.Rises.{AreNeeds, IsRisen, LeadsFrom, RisesFrom, RisesTo, can_rise, hello_by, risen_facts}
 use Rattle.vx_yard.specs.Standing.{StandsFor}
 use Rattle.vx_yard.specs.Stands.{AreTold, RoseAll}
 use Rattle.vx_yard.specs.Yards.{IsTold, count_of}
@@ -63,7 +64,7 @@ use Rattle.vx_site_lines.proofs.Apart.{fact_stays, over_is, seen_alone}
 use Rattle.vx_site_lines.proofs.RiseEnds.{begun_ends, found_ends, none_ends, refused_ends, rose_ends, unread_ends}
 use Rattle.vx_site_lines.proofs.RiseLine.{down_h, effect_as, fit_h, found_as, free_h, own_at, own_safe, sure, told_comes, told_kept, told_last, unfused_down, untold_comes, untold_kept}
 use Rattle.vx_site_lines.proofs.RiseSite.{ComesUp, SeesDisks, up_carries, up_stands}
-use Rattle.vx_site_lines.proofs.RiseWorlds.{behind_disks, own_gathering, own_headers, own_is, own_links, own_node, own_packets, own_session, own_sites, own_view}
+use Rattle.vx_above.proofs.RiseWorlds.{behind_disks, own_gathering, own_headers, own_is, own_links, own_node, own_packets, own_session, own_sites, own_view}
 use Rattle.vx_yard.proofs.Rows.{fact_like, fact_same}
 use Rattle.vx_diskset.proofs.GroupStands.{none_apart}
 use Rattle.vx_yard.proofs.OverGroup.{begins_apart, noted_none}

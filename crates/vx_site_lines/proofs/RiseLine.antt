@@ -43,15 +43,17 @@ use Rattle.vx_events.specs.GroupLines.{is_over_group}
 use Rattle.vx_events.specs.Lists.{Choice, crash_count}
 use Rattle.vx_events.specs.LinksFit.{LinksFit, is_plain_mode}
 use Rattle.vx_diskset.proofs.Roles.{role_like}
-use Rattle.vx_site_lines.specs.Rises.{RisesFrom, WasDown, WasUp, can_rise, is_none, is_quiet, own_disks}
+use Rattle.vx_above.specs.OwnDisks.{own_disks}
+use Rattle.vx_site_lines.specs.Rises.{RisesFrom, WasDown, WasUp, can_rise, is_none, is_quiet}
 use Rattle.vx_yard.specs.Standing.{StandsFor}
 use Rattle.vx_yard.specs.declared.yard.Yard.{Yard}
 use Rattle.vx_yard.proofs.CrashSite.{beside_sure}
 use Rattle.vx_yard.proofs.FailsStay.{fails_then}
 use Rattle.vx_yard.proofs.FuseStays.{fused_none}
 use Rattle.vx_site_lines.proofs.Apart.{never_apart, never_down}
-use Rattle.vx_site_lines.proofs.RiseSite.{AllPlain, ComesUp, IsWhole}
-use Rattle.vx_site_lines.proofs.RiseWorlds.{behind_disks, come_quiet, found_effect, own_gathering, own_greeting, own_headers, own_is, own_links, own_node, own_packets, own_recovered, own_sites}
+use Rattle.vx_above.proofs.SeenSites.{IsWhole}
+use Rattle.vx_site_lines.proofs.RiseSite.{AllPlain, ComesUp}
+use Rattle.vx_above.proofs.RiseWorlds.{behind_disks, come_quiet, found_effect, own_gathering, own_greeting, own_headers, own_is, own_links, own_node, own_packets, own_recovered, own_sites}
 use Rattle.vx_yard.proofs.Rows.{row_links_same}
 use Rattle.vx_diskset.proofs.GroupStands.{none_apart}
 use Rattle.vx_diskset.proofs.Laying.{raw_in}

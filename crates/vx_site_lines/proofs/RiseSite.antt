@@ -27,7 +27,7 @@ use Rattle.vx_effects.specs.Restarts.{IsAgain, fact_again, facts_again, needs_of
 use Rattle.vx_events.proofs.LinkTesting.{AllLinked, all_linked}
 use Rattle.vx_events.proofs.Places.{never_some, some_same}
 use Rattle.vx_events.specs.Effects.{EffectAt}
-use Rattle.vx_events.specs.Facts.{group_by, group_fact, head_of, volume_fact}
+use Rattle.vx_events.specs.Facts.{group_by, group_fact, volume_fact}
 use Rattle.vx_events.specs.LinkedFacts.{link_facts, links_by, needed_by}
 use Rattle.vx_events.specs.LinksFit.{LinksFit, is_plain_mode}
 use Rattle.vx_order.specs.declared.facts.LinkFacts.{LinkFacts}
@@ -44,6 +44,7 @@ use Rattle.vx_yard.proofs.CrashSite.{beside_sure}
 use Rattle.vx_yard.proofs.Lists.{get-set_other, get-set_same, length-set}
 use Rattle.vx_yard.proofs.OneSite.{Changed, Comes, stands_at, told_by}
 use Rattle.vx_yard.proofs.Rows.{fact_from, fact_same, row_links_same}
+use Rattle.vx_above.proofs.SeenSites.{IsWhole, group_seen}
 use Rattle.vx_site_lines.proofs.Apart.{fact_at, over_is, seen_alone}
 use Rattle.vx_diskset.proofs.GroupStands.{none_apart}
 use Rattle.vx_yard.proofs.OverGroup.{begins_apart, noted_none}
@@ -97,31 +98,8 @@ pub record SeesDisks (n : Node) (f : SiteFacts) : Type 0 where
   pub grouped : f.grouped ≡ false
   pub volumes : f.volumes ≡ map volume_fact n.volumes
 
--- a site that came up, all writes of whose log are durable
-pub record IsWhole (k : Node) (room : ℕ) : Type 0 where
-  pub up : k.state ≡ Up
-  pub running : k.halted ≡ None
-  pub whole : length k.log ≡ k.safe
-  pub low : k.low ≡ 1
-  pub ring : room ≡ k.ring
-
 abbrev facts_with : (name : List ℕ) (disks blocks : ℕ) → (grouped : Bool) → List VolumeFacts → SiteState → Option RvgFacts → List LinkFacts → SiteFacts
 facts_with name disks blocks grouped volumes state rvg links = record { name = name; state = state; disks = disks; blocks = blocks; grouped = grouped; volumes = volumes; rvg = rvg; links = links }
-
-head_whole : (k : Node) → length k.log ≡ k.safe → head_of k ≡ k.safe
-head_whole k whole = by_role (is_origin k.role)
-  where
-    by_role : (b : Bool) → (if b then k.safe else length k.log) ≡ k.safe
-    by_role true = refl
-    by_role false = whole
-
-abbrev group_with : Node → (last low ring : ℕ) → Option ℕ → RvgFacts
-group_with k last low ring halted = record { role = k.role; line = k.line; parent = k.parent; mark = k.mark; low = low; last = last; ring = ring; halted = halted }
-
-pub group_seen : (k : Node) (ring : ℕ) (ls : List KeptLink) → IsWhole k ring → up_group (state_with k ls) k.safe ring ≡ group_fact k
-group_seen k ring ls w =
-    ap (λ (last : ℕ). group_with k last 1 ring None) (sym (head_whole k w.whole)) ∙ ap (λ (low : ℕ). group_with k (head_of k) low ring None) (sym w.low)
-    ∙ ap (λ (r : ℕ). group_with k (head_of k) k.low r None) w.ring ∙ ap (λ (h : Option ℕ). group_with k (head_of k) k.low k.ring h) (sym w.running)
 
 pub risen_fact_is : (k : Node) (row : ℕ → Link) (sites ring : ℕ) (used : List ℕ) (f : SiteFacts) → k.group ≡ None → IsWhole k ring → SeesDisks k f → AllPlain row → IsAgain row
     → AreNeeds k (row_links row sites) used → risen_facts (state_with k (row_links row sites)) k.safe ring used f ≡ fact_from k row sites

@@ -1,6 +1,4 @@
 pub mod Fetching
 pub mod Raised
 pub mod Rises
-pub mod Seen
 pub mod Shown
-pub mod Views

@@ -17,11 +17,11 @@ use Rattle.vx_diskset.specs.declared.disk_set.DiskSet.{DiskSet}
 use Rattle.vx_disk.specs.declared.shelf.Shelf.{Ghosts}
 use Rattle.vx_history.specs.Doubts.{Doubted}
 use Rattle.vx_history.specs.Sends.{packets_of}
-use Rattle.vx_history.specs.World.{Hello, Node, Packet, World}
+use Rattle.vx_history.specs.World.{Hello, Node, Packet}
 use Rattle.vx_history.specs.declared.event.Event.TheVariants.{Crash as CrashAt}
 use Rattle.vx_history.specs.Events.{logged_blocks}
 use Rattle.vx_effects.specs.Restarts.{are_fine, facts_again}
-use Rattle.vx_events.specs.Doubts.{run_as, with_disks}
+use Rattle.vx_events.specs.Doubts.{run_as}
 use Rattle.vx_events.specs.Fails.{Fails}
 use Rattle.vx_events.specs.GroupLines.{is_over_group}
 use Rattle.vx_events.specs.Lines.{IsDone as IsDoneLine}
@@ -82,10 +82,6 @@ risen_facts state last ring used f = record (up_facts state last ring f) { links
 -- one that receives greets the one that it followed
 abbrev pub hello_by : (s : ℕ) → State → (session last : ℕ) → List Packet
 hello_by s state session last = if is_origin state.role then [] else packets_of s state.other state.line (Hello session last last)
-
--- the same with the disks of a site that are made to fail, where it turned out to be what it was in doubt of
-abbrev pub own_disks : (taken : Bool) → (s : ℕ) → World → Doubted → Doubted
-own_disks taken s w h = record h { world = with_disks taken s w h.world }
 
 -- the world from which a site is recovered, but for the disks that are made to fail: one that is up crashes first
 pub data RisesFrom (d : Doubted) (s : ℕ) (c : Choice) (taken : Bool) (h : Doubted) : Type 0 where

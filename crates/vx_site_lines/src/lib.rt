@@ -14,7 +14,6 @@ mod recover;
 mod rooms;
 mod shown;
 mod status;
-mod views;
 mod write;
 
 pub use crash::crash_line;
@@ -23,6 +22,5 @@ pub use fuse::fuse_line;
 pub use make::{make_raw, make_site};
 pub use read::{read_line, show_line};
 pub use recover::recover_line;
-pub use status::{full_at, status_line};
-pub use views::ViewRoom;
+pub use status::status_line;
 pub use write::{put_line, write_line};

@@ -19,15 +19,16 @@ ghost use Rattle.vx_events.specs.LinksFit.{LinksFit};
 ghost use Rattle.vx_events.specs.Lists.{Choice};
 ghost use Rattle.vx_yard.specs.OfSites.{AsAsked, OfSite};
 ghost use Rattle.vx_site_lines.specs.Raised.{MayBeRaw};
-ghost use Rattle.vx_site_lines.specs.Rises.{IsEmptyRiseRoom, IsEmptyShowRoom, LastAt, LeadsFrom, RisesFrom, RisesTo, SessionAt, hello_by, own_disks, risen_facts};
+ghost use Rattle.vx_above.specs.OwnDisks.{own_disks};
+ghost use Rattle.vx_site_lines.specs.Rises.{IsEmptyRiseRoom, IsEmptyShowRoom, LastAt, LeadsFrom, RisesFrom, RisesTo, SessionAt, hello_by, risen_facts};
 ghost use Rattle.vx_yard.specs.Standing.{Leads, LeadsIs, StandsFor};
 ghost use Rattle.vx_yard.specs.Working.{IsFree};
 ghost use Rattle.vx_yard.specs.Yards.{IsYardKept, IsTold, in_files};
 
 use crate::raised::{SetRose, find_disks, raise_disks};
 use crate::rooms::{RiseRoom, Risen, ShowRoom, greet, link_views};
-use crate::status::view_at;
 use std::alloc::Global;
+use vx_above::view_at;
 use vx_disk::Rack;
 use vx_diskset::can_be_raw;
 use vx_events::Said;

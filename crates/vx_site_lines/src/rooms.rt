@@ -11,7 +11,7 @@ ghost use Rattle.vx_diskset.specs.Holds.{KeptBeside, state_with};
 ghost use Rattle.vx_diskset.specs.Stands.{IsToldAt, SiteStands};
 ghost use Rattle.vx_events.specs.GroupLines.{is_over_group};
 ghost use Rattle.vx_site_lines.specs.Rises.{AreNeeds, IsEmptyRiseRoom, IsEmptyShowRoom, IsNeed, IsRisen, can_rise, hello_by, is_by_log, is_none as is_none_is, is_quiet as is_quiet_is};
-ghost use Rattle.vx_site_lines.specs.Seen.{links_seen};
+ghost use Rattle.vx_above.specs.Seen.{links_seen};
 
 use crate::status::link_view;
 use std::alloc::Global;

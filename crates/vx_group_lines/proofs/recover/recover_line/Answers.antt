@@ -21,7 +21,7 @@ use Rattle.vx_group_lines.proofs.Recovering.{from_down, from_up, off_down, unbeg
 use Rattle.vx_group_lines.proofs.RvgRecovers.{above_down, above_up, made_over, unbegun_above}
 use Rattle.vx_group_lines.proofs.Tests.{rise_may}
 use Rattle.vx_events.specs.RvgViews.{is_over_rvg}
-use Rattle.vx_site_lines.proofs.Apart.{state_placed}
+use Rattle.vx_above.proofs.SeenSites.{state_placed}
 use Rattle.vx_group_lines.proofs.recover.recover_line.Goals as goal
 
 pub site_of-site-requires-clause-named : goal.site_of-site-requires-clause-named

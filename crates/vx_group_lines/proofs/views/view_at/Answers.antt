@@ -3,7 +3,7 @@ use Rattle.std.proofs.Common.{◌∙◌, List, ap, sym}
 use Rattle.std.specs.Prelude.{Option, Some, None}
 use Rattle.vx_config.specs.declared.config.Config.{Config}
 use Rattle.vx_order.specs.declared.facts.LinkFacts.{LinkFacts}
-use Rattle.vx_site_lines.specs.Seen.{links_seen}
+use Rattle.vx_above.specs.Seen.{links_seen}
 use Rattle.vx_group_lines.specs.Views.{view_with}
 use Rattle.vx_group_lines.proofs.GroupShown.{config_at}
 use Rattle.vx_group_lines.proofs.views.view_at.Goals as goal

@@ -1,6 +1,6 @@
 -- The loop of `link_views` over `link`: what stays true.
 use Rattle.std.proofs.Common.{◌≡◌, take}
-use Rattle.vx_site_lines.specs.Seen.{links_seen}
+use Rattle.vx_above.specs.Seen.{links_seen}
 use Rattle.vx_site_lines.proofs.rooms.link_views.Given as goal
 
 abbrev pub invariant-loop-link : goal.invariant-loop-link

@@ -8,10 +8,9 @@ use Rattle.vx_events.proofs.Refused.{status_may}
 use Rattle.vx_yard.specs.Yards.{in_files}
 use Rattle.vx_yard.proofs.Lists.{get_at}
 use Rattle.vx_yard.proofs.Seats.{named_some}
-use Rattle.vx_site_lines.specs.Seen.{links_seen}
+use Rattle.vx_above.specs.Seen.{links_seen}
 use Rattle.vx_site_lines.proofs.AboveEnds.{unbegun_above}
-use Rattle.vx_site_lines.proofs.StatusAbove.{status_above}
-use Rattle.vx_site_lines.proofs.StatusLinks.{status_leads}
+use Rattle.vx_site_lines.proofs.StatusLine.{status_above, status_leads}
 use Rattle.vx_site_lines.proofs.status.status_line.Goals as goal
 
 pub site_of-site-requires-clause-named : goal.site_of-site-requires-clause-named

@@ -5,11 +5,11 @@ use Rattle.vx_diskset.proofs.FoundedWork.{founded_works}
 use Rattle.vx_diskset.proofs.OverWorks.{carried_core}
 use Rattle.vx_diskset.proofs.founded.Founded.apply.Goals as goal
 
-pub work_over-laid-requires : goal.work_over-laid-requires
-work_over-laid-requires g c = c.apart-laid.ensures.sound
+pub work_over-laid-requires-after_bounds : goal.work_over-laid-requires-after_bounds
+work_over-laid-requires-after_bounds g c = λ κs lives. c.apart-laid.ensures.sound
 
-pub together-requires : goal.together-requires
-together-requires g c = c.work_over-laid.ensures.does.keeps.sound
+pub together-requires-after_bounds : goal.together-requires-after_bounds
+together-requires-after_bounds g c = λ κs lives. c.work_over-laid.ensures.does.keeps.sound
 
 pub returns-clause-applied : goal.returns-clause-applied
 returns-clause-applied g c =

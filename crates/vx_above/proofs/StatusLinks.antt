@@ -1,6 +1,6 @@
 -- What the status of a site shows of its links.
-use Rattle.std.proofs.Common.{◌≡◌, ◌∙◌, ◌+◌, ◌<◌, ◌≤◌, ℕ, List, [], ◌∷◌, Bool, true, false, ap, sym, subst, refl, arith}
-use Rattle.std.specs.Prelude.{Option, Some, if◌then◌else◌, nat_lt, slice_get}
+use Rattle.std.proofs.Common.{◌≡◌, ◌∙◌, ◌+◌, ◌<◌, ◌≤◌, ℕ, zero, suc, List, [], ◌∷◌, Bool, true, false, ap, sym, refl, arith}
+use Rattle.std.specs.Prelude.{Option, Some, None, if◌then◌else◌, nat_lt, slice_get}
 use Rattle.std.proofs.lemmas.Bool.Decides.{nat_tests}
 use Rattle.vx_history.specs.Doubts.{Doubted}
 use Rattle.vx_history.specs.Events.{linked_sites}
@@ -18,7 +18,6 @@ use Rattle.vx_order.specs.Links.{named_at as name_in, site_name}
 use Rattle.vx_report.specs.declared.view.LinkView.{LinkView}
 use Rattle.vx_report.specs.declared.view.RvgView.{RvgView}
 use Rattle.vx_report.specs.declared.view.SiteView.{SiteView}
-use Rattle.vx_script.specs.declared.line.ScriptLine.TheVariants.{Status}
 use Rattle.vx_diskset.specs.Holds.{KeptBeside, beside_of}
 use Rattle.vx_diskset.specs.Stands.{SiteStands}
 use Rattle.vx_diskset.specs.declared.disk_set.DiskSet.{DiskSet}
@@ -27,25 +26,23 @@ use Rattle.vx_events.proofs.LinkTesting.{AllLinked, all_linked}
 use Rattle.vx_events.proofs.OverSeats.{fact_apart, name_over}
 use Rattle.vx_events.proofs.Places.{some_same}
 use Rattle.vx_events.proofs.Values.{slice_get-values_from}
-use Rattle.vx_events.specs.Ends.{AllDone}
-use Rattle.vx_events.specs.Facts.{group_by, group_fact, head_of, seat_of}
+use Rattle.vx_events.specs.Facts.{group_by, group_fact, head_of, values_from}
 use Rattle.vx_events.specs.GroupLines.{is_over_group}
 use Rattle.vx_events.specs.LinkViews.{link_view, link_views, linked_view, marked_from, views_by}
 use Rattle.vx_events.specs.LinkedFacts.{link_fact, link_facts, links_by, linked_fact}
-use Rattle.vx_events.specs.RvgSteps.{over_rvg_at}
-use Rattle.vx_events.specs.RvgViews.{is_over_rvg}
-use Rattle.vx_events.specs.StepsOver.{fact_over, facts_over, over_group_at}
+use Rattle.vx_events.specs.StepsOver.{fact_over, facts_over}
 use Rattle.vx_events.specs.LinksFit.{LinksFit}
 use Rattle.vx_events.specs.Views.{group_shown, group_view, name_of}
-use Rattle.vx_events.specs.declared.said.Said.TheVariants.{Shown}
-use Rattle.vx_site_lines.specs.Seen.{group_at, group_seen, link_seen, links_seen, site_seen}
-use Rattle.vx_yard.specs.Standing.{Leads, StandsFor}
-use Rattle.vx_yard.specs.Yards.{count_of}
+use Rattle.vx_above.specs.Seen.{group_at, group_seen, link_seen, links_seen, site_seen}
+use Rattle.vx_yard.specs.Standing.{StandsFor}
 use Rattle.vx_yard.specs.declared.yard.Yard.{Yard}
-use Rattle.vx_yard.proofs.ChangeSite.{rose_none}
-use Rattle.vx_yard.proofs.NamedSite.{apart_at, fact_of, named_at}
-use Rattle.vx_yard.proofs.SiteEvents.{first_choice}
-use Rattle.vx_site_lines.proofs.StatusLine.{past_values}
+use Rattle.vx_yard.proofs.NamedSite.{fact_of}
+
+-- behind the last value stands none
+past_values : {A : Type 0} (f : ℕ → A) (k n i : ℕ) → n ≤ i → slice_get (values_from f k n) i ≡ None
+past_values f k zero i h = refl
+past_values f k (suc n) zero h = absurd (omega arith)
+past_values f k (suc n) (suc i) h = past_values f (k + 1) n i (omega arith)
 
 -- the name that stands in the facts is that of the world
 name_by : (w : World) (i : ℕ) (b : Bool) → nat_lt i w.sites ≡ b → site_name (facts_over w) i ≡ (if b then Known (w.nodes i).name else Number i)
@@ -139,21 +136,3 @@ module _ {R : Type 0} {g : Ghosts R} where
       ∙ ap (λ (x : SiteFacts). site_seen y.facts.items session x (links_seen y.facts.items (linked_fact d.world s).links)) same
       ∙ ap (λ (fs : List SiteFacts). site_seen fs session (linked_fact d.world s) (links_seen fs (linked_fact d.world s).links)) stands.facts
       ∙ seen_is d s session stands.links (λ up. session_is (beside_of d s) (d.world.nodes s) (stands.disk_sets.sites s disk_set below disk_set_at) up apart)
-
-  pub status_leads : (d : Doubted) (y : Yard R g) (name : List ℕ) (s : ℕ) (view : SiteView) → StandsFor d y → over_group_at d.world name ≡ false → over_rvg_at d.world name ≡ false → seat_of y.facts.items name ≡ Some s
-      → ((s < d.world.sites) → is_over_group (d.world.nodes s) ≡ false → is_over_rvg (d.world.nodes s) ≡ false → view ≡ linked_view d.world s) → Leads d (Status name) (Shown view) y y
-  status_leads d y name s view stands apart off at is =
-      let seat = named_at d y name s stands apart at in
-      record {
-        next = d;
-        fails = [];
-        done = record {
-          ends = AllDone first_choice false tt (ap (λ (v : SiteView). Shown v) (is seat.below (apart_at d y name s stands apart at) (subst (λ (i : ℕ). is_over_rvg (d.world.nodes i) ≡ false) seat.number off) ∙ ap (λ (i : ℕ). linked_view d.world i) (sym seat.number))) (record { world = refl; after = λ i. refl; strayed = refl });
-          counts = tt;
-          works = tt;
-          calls = tt;
-        };
-        carries = λ was. was;
-        stands = stands;
-        rose = rose_none (count_of y) (count_of y) (λ i u. omega arith);
-      }

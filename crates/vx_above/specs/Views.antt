@@ -12,7 +12,7 @@ use Rattle.vx_report.specs.declared.view.LinkView.{LinkView}
 use Rattle.vx_report.specs.declared.view.SiteView.{SiteView}
 use Rattle.vx_report.specs.declared.view.VolumeView.{VolumeView}
 use Rattle.vx_yard.specs.declared.yard.Yard.{Yard}
-use Rattle.vx_site_lines.specs.Seen.{group_at}
+use Rattle.vx_above.specs.Seen.{group_at}
 
 -- no more plexes of a volume than a group may have
 pub record FitsViews (c : Config) : Type 0 where

@@ -19,7 +19,7 @@ use Rattle.vx_diskset.specs.GroupCalls.{config_in}
 use Rattle.vx_diskset.specs.declared.disk_set.DiskSet.{DiskSet}
 use Rattle.vx_diskset.specs.declared.disk_set.DiskSet.TheVariants.{Bare, Spoiled, Up as RaisedSet, Receives, Down as DownSet, OfGroup, Over, Gone as GoneSet}
 use Rattle.vx_events.proofs.Places.{some_same}
-use Rattle.vx_site_lines.specs.Views.{FitsViews, IsSmall}
+use Rattle.vx_above.specs.Views.{FitsViews, IsSmall}
 
 fits_views : (core : GroupCore) (m : Meaning) → GroupStands core m → FitsViews core.inner.config
 fits_views core m it = record { plexes = λ v entry at. omega (arith, count_few core.inner.config (narrow_sound core m it) v, ap (λ (o : Option VolumeEntry). plexes_or o) at) }

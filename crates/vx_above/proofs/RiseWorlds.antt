@@ -25,7 +25,7 @@ use Rattle.vx_events.specs.Views.{group_shown, name_of}
 use Rattle.vx_report.specs.declared.view.LinkView.{LinkView}
 use Rattle.vx_report.specs.declared.view.RvgView.{RvgView}
 use Rattle.vx_report.specs.declared.view.SiteView.{SiteView}
-use Rattle.vx_site_lines.specs.Rises.{own_disks}
+use Rattle.vx_above.specs.OwnDisks.{own_disks}
 use Rattle.vx_yard.proofs.Alike.{apart_place}
 
 -- ---- a site outside a replay comes back as it was

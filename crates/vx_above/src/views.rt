@@ -1,7 +1,7 @@
 // What a status shows of a disk group.
 ghost use Rattle.std.specs.Prelude.{◌≡◌, [], IfOk, map, option_copied};
 ghost use Rattle.vx_events.specs.GroupViews.{config_disks, volume_view, volumes_of};
-ghost use Rattle.vx_site_lines.specs.Views.{IsSmall};
+ghost use Rattle.vx_above.specs.Views.{IsSmall};
 
 use std::alloc::Global;
 use vx_config::Config;

@@ -1,5 +1,5 @@
 -- What the status of a site shows of the group below its replicated volume group.
-use Rattle.std.proofs.Common.{◌≡◌, ◌∙◌, ◌<◌, ℕ, Bool, true, false, List, [], map, ap, sym, subst, refl, arith}
+use Rattle.std.proofs.Common.{◌≡◌, ◌∙◌, ◌<◌, ℕ, Bool, true, false, List, [], map, ap, sym, refl}
 use Rattle.std.specs.Prelude.{Option, Some, None, slice_get}
 use Rattle.vx_model.specs.declared.site.SiteState.{SiteState}
 use Rattle.vx_model.specs.declared.site.SiteState.TheVariants.{Bare as IsBare, Up as IsUp, Deported as IsDeported, Down as IsDown}
@@ -24,33 +24,21 @@ use Rattle.vx_report.specs.declared.view.LinkView.{LinkView}
 use Rattle.vx_report.specs.declared.view.RvgView.{RvgView}
 use Rattle.vx_report.specs.declared.view.SiteView.{SiteView}
 use Rattle.vx_report.specs.declared.view.VolumeView.{VolumeView}
-use Rattle.vx_script.specs.declared.line.ScriptLine.TheVariants.{Status}
 use Rattle.vx_events.proofs.Places.{some_same}
-use Rattle.vx_events.specs.Ends.{AllDone}
-use Rattle.vx_events.specs.Facts.{seat_of}
 use Rattle.vx_events.specs.GroupLines.{is_over_group}
 use Rattle.vx_events.specs.GroupNotes.{note_at}
 use Rattle.vx_events.specs.GroupViews.{config_disks, noted_disks, noted_volumes, shown_up, volume_view, volumes_of}
 use Rattle.vx_events.specs.LinkViews.{linked_view}
-use Rattle.vx_events.specs.RvgOver.{EndsOver}
-use Rattle.vx_events.specs.RvgSteps.{over_rvg_at}
 use Rattle.vx_events.specs.RvgViews.{is_over_rvg, over_disks}
-use Rattle.vx_events.specs.declared.said.Said.TheVariants.{Shown}
-use Rattle.vx_yard.specs.AboveLines.{LeadsAbove}
 use Rattle.vx_yard.specs.Standing.{StandsFor}
-use Rattle.vx_yard.specs.Yards.{IsTold, count_of}
 use Rattle.vx_yard.specs.declared.yard.Yard.{Yard}
-use Rattle.vx_yard.proofs.ChangeSite.{rose_none}
-use Rattle.vx_yard.proofs.NamedSite.{place_at}
 use Rattle.vx_yard.proofs.OverGroup.{apart_bare, both_ways, over_rvg}
-use Rattle.vx_yard.proofs.SiteEvents.{first_choice}
 use Rattle.vx_above.proofs.GroupStatus.{config_is}
 use Rattle.vx_above.proofs.OverSites.{OverIs, over_set, site_noted}
-use Rattle.vx_site_lines.specs.Seen.{group_at, group_in, links_seen, site_seen}
-use Rattle.vx_site_lines.specs.Views.{ShowsPlain, full_seen}
+use Rattle.vx_above.specs.Seen.{group_at, group_in, links_seen, site_seen}
+use Rattle.vx_above.specs.Views.{ShowsPlain, full_seen}
 use Rattle.vx_events.proofs.RvgEvents.{rvg_apart}
-use Rattle.vx_site_lines.proofs.AboveEnds.{stays_over}
-use Rattle.vx_site_lines.proofs.StatusLinks.{linked_view_is}
+use Rattle.vx_above.proofs.StatusLinks.{linked_view_is}
 
 -- a site that is not up shows neither disks nor volumes
 pub none_shown : {A : Type 0} (t : SiteState) (xs : List A) → (t ≡ IsUp → ⊥) → [] ≡ shown_up t xs
@@ -158,24 +146,3 @@ module _ {R : Type 0} {g : Ghosts R} where
       ∙ ap (λ (vs : List VolumeView). full_seen fs session site (shown_up n.state (noted_disks note)) vs links) (volumes_is ∙ ap (λ (e : DiskSet R g). map volume_view (volumes_of (config_in e))) o.is ∙ shown.1)
       ∙ ap (λ (v : SiteView). with_shown v (shown_up n.state (noted_disks note)) (shown_up n.state (noted_volumes note)))
       (linked_view_is d y s session site f links disk_set (site_seen fs session site links) stands below (rvg_apart n over) site_at f_at disk_set_at session_is refl links_is)
-
-  -- ---- the line
-
-  pub status_above : (d : Doubted) (y : Yard R g) (name : List ℕ) (s : ℕ) (view : SiteView) → StandsFor d y → over_rvg_at d.world name ≡ true → seat_of y.facts.items name ≡ Some s
-      → ((s < d.world.sites) → is_over_rvg (d.world.nodes s) ≡ true → view ≡ over_disks (d.world.nodes s) (note_at (d.world.nodes s)) (linked_view d.world s)) → LeadsAbove d (Status name) (Shown view) y y
-  status_above d y name s view stands rvg at is =
-      let n : Node = d.world.nodes s in
-      let seat = place_at d y name s stands at in
-      let over : is_over_rvg n ≡ true = subst (λ (i : ℕ). is_over_rvg (d.world.nodes i) ≡ true) seat.number rvg in
-      let inner : SiteView = linked_view d.world s in
-      record {
-        next = d;
-        fails = [];
-        works = subst (λ (i : ℕ). EndsOver (IsTold y) d (Status name) i [] (Shown view) d) (sym seat.number)
-            (stays_over (IsTold y) d (Status name) s (Shown inner) (Shown view) d
-            (AllDone first_choice false tt (ap (λ (i : ℕ). Shown (linked_view d.world i)) (sym seat.number)) (record { world = refl; after = λ i. refl; strayed = refl }))
-            refl (ap (λ (v : SiteView). Shown v) (is seat.below over)) over refl refl);
-        carries = λ was. was;
-        stands = stands;
-        rose = rose_none (count_of y) (count_of y) (λ i u. omega arith);
-      }

@@ -5,10 +5,10 @@ use Rattle.vx_config.specs.declared.config.Config.{Config}
 use Rattle.vx_order.specs.declared.facts.SiteFacts.{SiteFacts}
 use Rattle.vx_events.specs.GroupViews.{config_disks, volume_view, volumes_of}
 use Rattle.vx_yard.proofs.Lists.{get_at}
-use Rattle.vx_site_lines.specs.Views.{full_seen}
-use Rattle.vx_site_lines.proofs.Smalls.{small_as}
-use Rattle.vx_site_lines.proofs.StatusAbove.{full_above, full_apart, full_plain}
-use Rattle.vx_site_lines.proofs.status.full_at.Goals as goal
+use Rattle.vx_above.specs.Views.{full_seen}
+use Rattle.vx_above.proofs.Smalls.{small_as}
+use Rattle.vx_above.proofs.StatusAbove.{full_above, full_apart, full_plain}
+use Rattle.vx_above.proofs.site_view.full_at.Goals as goal
 
 pub views_of-shown-requires-clause-few : goal.views_of-shown-requires-clause-few
 views_of-shown-requires-clause-few g c = small_as c.index-disk_set.result.now _ (sym c.config.ensures)

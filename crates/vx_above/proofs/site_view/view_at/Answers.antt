@@ -1,10 +1,10 @@
 -- `view_at`: its result.
 use Rattle.std.proofs.Common.{◌∙◌, ap, List}
 use Rattle.vx_order.specs.declared.facts.SiteFacts.{SiteFacts}
-use Rattle.vx_site_lines.specs.Seen.{site_seen}
+use Rattle.vx_above.specs.Seen.{site_seen}
 use Rattle.vx_yard.proofs.Lists.{get_at}
-use Rattle.vx_site_lines.proofs.StatusLinks.{linked_view_is}
-use Rattle.vx_site_lines.proofs.status.view_at.Goals as goal
+use Rattle.vx_above.proofs.StatusLinks.{linked_view_is}
+use Rattle.vx_above.proofs.site_view.view_at.Goals as goal
 
 pub returns : goal.returns
 returns g c = record {
