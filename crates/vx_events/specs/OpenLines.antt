@@ -3,13 +3,14 @@
 use Rattle.std.specs.Prelude.{◌≡◌, Bool, true, false, None}
 use Rattle.vx_history.specs.World.{World}
 use Rattle.vx_script.specs.declared.line.ScriptLine.{ScriptLine}
-use Rattle.vx_script.specs.declared.line.ScriptLine.TheVariants.{PlexAttach, PlexDetach, Volume}
+use Rattle.vx_script.specs.declared.line.ScriptLine.TheVariants.{GroupImport, PlexAttach, PlexDetach, Volume}
 use Rattle.vx_events.specs.Facts.{site_number}
 use Rattle.vx_events.specs.RvgLinks.{links_rvg}
 use Rattle.vx_events.specs.RvgViews.{is_over_rvg}
 use Rattle.vx_events.specs.StepsOver.{refused_over}
 
 abbrev pub is_open : World → ScriptLine → Bool
+is_open w (GroupImport site) = is_over_rvg (w.nodes (site_number w site))
 is_open w (Volume site volume blocks mirrors layout log map policy) = is_over_rvg (w.nodes (site_number w site))
 is_open w (PlexDetach site volume plex) = is_over_rvg (w.nodes (site_number w site))
 is_open w (PlexAttach site volume plex) = is_over_rvg (w.nodes (site_number w site))

@@ -7,7 +7,7 @@ use Rattle.vx_order.specs.Order.{line_refusal}
 use Rattle.vx_order.specs.Sites.{named_facts, unknown_one}
 use Rattle.vx_order.specs.Subject.{first_name, second_name}
 use Rattle.vx_script.specs.declared.line.ScriptLine.{ScriptLine}
-use Rattle.vx_script.specs.declared.line.ScriptLine.TheVariants.{Deliver, Link, PlexAttach, PlexDetach, Volume}
+use Rattle.vx_script.specs.declared.line.ScriptLine.TheVariants.{Deliver, GroupImport, Link, PlexAttach, PlexDetach, Volume}
 use Rattle.vx_events.proofs.Places.{some_same}
 use Rattle.vx_events.proofs.Refused.{named, passes}
 use Rattle.vx_events.specs.Facts.{seat_of}
@@ -24,6 +24,7 @@ use Rattle.vx_node.specs.OpenSites.{open_second, open_site}
 
 first_of : (line : ScriptLine) (site : List ℕ) → open_site line ≡ Some site → first_name line ≡ Some site
 unfolding first_name
+first_of (GroupImport name) site is = is
 first_of (Volume name volume blocks mirrors layout log map policy) site is = is
 first_of (PlexDetach name volume plex) site is = is
 first_of (PlexAttach name volume plex) site is = is
@@ -57,6 +58,7 @@ module _ {R : Type 0} {g : Ghosts R} where
 
 module _ (w : World) where
   pub open_nowhere : (line : ScriptLine) → open_site line ≡ None → is_open w line ≡ false
+  open_nowhere (GroupImport name) none = absurd (cc)
   open_nowhere (Volume name volume blocks mirrors layout log map policy) none = absurd (cc)
   open_nowhere (PlexDetach name volume plex) none = absurd (cc)
   open_nowhere (PlexAttach name volume plex) none = absurd (cc)
@@ -71,6 +73,7 @@ module _ (w : World) where
   either_first name site second b is over = ap (λ (x : Bool). x || over_rvg_at w second) (over_first name site b is over)
 
   pub open_there : (line : ScriptLine) (site : List ℕ) → open_site line ≡ Some site → over_rvg_at w site ≡ true → is_open w line ≡ true
+  open_there (GroupImport name) site is over = over_first name site true is over
   open_there (Volume name volume blocks mirrors layout log map policy) site is over = over_first name site true is over
   open_there (PlexDetach name volume plex) site is over = over_first name site true is over
   open_there (PlexAttach name volume plex) site is over = over_first name site true is over
@@ -79,6 +82,7 @@ module _ (w : World) where
 
   -- where the first site has none
   pub open_not : (line : ScriptLine) (site : List ℕ) → open_site line ≡ Some site → open_second line ≡ None → over_rvg_at w site ≡ false → is_open w line ≡ false
+  open_not (GroupImport name) site is none off = over_first name site false is off
   open_not (Volume name volume blocks mirrors layout log map policy) site is none off = over_first name site false is off
   open_not (PlexDetach name volume plex) site is none off = over_first name site false is off
   open_not (PlexAttach name volume plex) site is none off = over_first name site false is off

@@ -21,7 +21,8 @@ fn open_site(line: &ScriptLine) -> Option<Name>
     ensures { result ≡ open_site line.now }
 {
     match line {
-        ScriptLine::Volume { site, .. }
+        ScriptLine::GroupImport { site }
+        | ScriptLine::Volume { site, .. }
         | ScriptLine::PlexDetach { site, .. }
         | ScriptLine::PlexAttach { site, .. } => Some(*site),
         ScriptLine::Link { primary, .. } => Some(*primary),
