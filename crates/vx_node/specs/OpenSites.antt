@@ -7,10 +7,14 @@ use Rattle.vx_script.specs.declared.line.ScriptLine.TheVariants.{GroupImport, Li
 abbrev pub open_site : ScriptLine → Option (List ℕ)
 open_site (GroupImport site) = Some site
 open_site (Volume site volume blocks mirrors layout log map policy) = Some site
-open_site (PlexDetach site volume plex) = Some site
-open_site (PlexAttach site volume plex) = Some site
 open_site (Link p s sync prot) = Some p
 open_site other = None
+
+-- a site: where a replicated volume group that is halted is over its group, the line is open
+abbrev pub halted_site : ScriptLine → Option (List ℕ)
+halted_site (PlexDetach site volume plex) = Some site
+halted_site (PlexAttach site volume plex) = Some site
+halted_site other = None
 
 -- another one at which it is
 abbrev pub open_second : ScriptLine → Option (List ℕ)
