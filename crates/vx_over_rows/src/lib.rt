@@ -6,6 +6,8 @@ mod applies;
 #[cfg(test)]
 mod cut;
 #[cfg(test)]
+mod deports;
+#[cfg(test)]
 mod done;
 #[cfg(test)]
 mod failing;

@@ -8,7 +8,6 @@ fn a_run_ends_at_an_open_line(rt: HostRuntime) -> Result<(), Fail> {
     let made = "rvg a srl=log1 dcm=maps vols=v\n";
     let wanted = "done\ndone\ndone\ndone\ndone\ndone\nbad 7 1\n";
     for line in [
-        "dg a deport\n",
         "vol a w 64 mirrors=1 layout=concat log=none fmr=off rdpol=round\n",
         "plex a v 1 det\n",
         "plex a v 1 att\n",
@@ -49,6 +48,15 @@ fn a_run_ends_at_a_link(rt: HostRuntime) -> Result<(), Fail> {
 fn lines_before_it_are_done(rt: HostRuntime) -> Result<(), Fail> {
     let made = "rvg a srl=log1 dcm=maps vols=v\nwrite a v 0 1 11\nread a v 0 1\n";
     let wanted = "done\ndone\ndone\ndone\ndone\ndone\ndone 1\n11\nbad 9 1\n";
-    assert!(rt; ends_at(&rt, rt.alloc(), made, "dg a deport\nfoo\n", 9, wanted)?);
+    assert!(rt;
+        ends_at(
+            &rt,
+            rt.alloc(),
+            made,
+            "vol a w 64 mirrors=1 layout=concat log=none fmr=off rdpol=round\nfoo\n",
+            9,
+            wanted
+        )?
+    );
     Ok(())
 }
