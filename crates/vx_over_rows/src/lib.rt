@@ -19,3 +19,5 @@ mod lines;
 mod open;
 #[cfg(test)]
 mod over_groups;
+#[cfg(test)]
+mod plexes;
