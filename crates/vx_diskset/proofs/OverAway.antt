@@ -110,7 +110,7 @@ module _ {R : Type 0} {g : Ghosts R} (beside : KeptBeside) (n : Node) (l : Laid 
   at = at_serial it.config.serial it.behind.config
 
   under : IsUnder r m'
-  under = ready_under idle.agreed idle.rack
+  under = ready_under g idle.agreed idle.rack
 
   acts : PlexActs NoValue c at m m'
   acts = at_acts l.core m m' group it
