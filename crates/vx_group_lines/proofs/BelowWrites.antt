@@ -454,10 +454,10 @@ module _ {R : Type 0} {g : Ghosts R} where
           leads_above no_maps d line s said old new (missed_carries no_maps d old name s before stands at there) (write_seat d line name volume start bytes is ∙ (place_at d old name s stands seat).number)
           (write_turns (IsTold new) d line name volume start bytes s said is plain_here) it
 
-      pub write_above : OnOver (WritesBelow place start bytes (Ok tt)) before after → new.facts ≡ old.facts → SameLoad old new → LeadsAbove d line Done old new
-      write_above wrote facts load =
-          let to : OverBehind (WritesBelow place start bytes (Ok tt) bare_call.at.set) after = overs_behind (writes (Ok tt)) before after bare_call.at.set bare_call.at.is_set wrote in
-          above Done (wrote_done (missed_in no_maps d s) old new line name volume start bytes s place before after to.set bare_stands is (call_of (Ok tt) to)
+      pub write_above : (done : Unit {0}) → OnOver (WritesBelow place start bytes (Ok done)) before after → new.facts ≡ old.facts → SameLoad old new → LeadsAbove d line Done old new
+      write_above done wrote facts load =
+          let to : OverBehind (WritesBelow place start bytes (Ok done) bare_call.at.set) after = overs_behind (writes (Ok done)) before after bare_call.at.set bare_call.at.is_set wrote in
+          above Done (wrote_done (missed_in no_maps d s) old new line name volume start bytes s place before after to.set bare_stands is (call_of (Ok done) to)
           (to.holds.wrote (below_rvg ((missed_in no_maps d s).world.nodes s)) (note_at ((missed_in no_maps d s).world.nodes s)) bare_call.asks fits) to.holds.cut (ap (λ fs. fs.items) facts) load)
 
       pub stop_above : (no : No) → OnOver (WritesBelow place start bytes (Err no)) before after → new.facts.items ≡ slice_set old.facts.items s (below_facts no (linked_fact (missed_in no_maps d s).world s)) → LetsGoBy no old new s

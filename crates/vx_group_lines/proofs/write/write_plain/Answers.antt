@@ -128,7 +128,7 @@ returns-in-Ok-clause-above g c = λ d line stands is free over plain.
     let may = may_write y line c.args.name.now c.args.volume.now c.args.start c.args.bytes.now is free in
     write_above d y c.args.name.now c.args.volume.now c.args.start (blocks_in c.args.bytes.now) s c.number_of-place.result e stands seat over plain may.call at c.number_of-place.ensures _ line c.args.bytes.now c.write_plain.new.self is free
     (block_count line c.args.name.now c.args.volume.now c.args.start c.args.bytes.now is) (record { there = at; later = c.in-Ok.ensures.later; disk_sets = refl; racks = refl }) c.in-Ok.ensures.failing c.in-Ok.ensures.since
-    c.in-Ok.ensures.over refl (record { flight = refl; assemblies = refl; feeders = refl })
+    _ c.in-Ok.ensures.over refl (record { flight = refl; assemblies = refl; feeders = refl })
 
 pub returns-in-Err-clause-above : goal.returns-in-Err-clause-above
 returns-in-Err-clause-above g c = λ d line stands is free over plain.
