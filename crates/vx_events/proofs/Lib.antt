@@ -17,6 +17,7 @@ pub mod RvgFull
 pub mod RvgGains
 pub mod RvgKnown
 pub mod RvgConfigs
+pub mod PlexKeeps
 pub mod RvgStays
 pub mod RvgAgain
 pub mod RvgRows

@@ -1,7 +1,7 @@
 -- What is left of a line that is not open: it links no site with a replicated volume group over its group of disks. Where there is no such site no line is open.
 -- A volume at such a site that is no other volume of the group is a data volume.
-use Rattle.std.proofs.Common.{◌≡◌, ◌∙◌, ℕ, Bool, true, false, List, refl, ap}
-use Rattle.std.specs.Prelude.{◌&&◌, ◌||◌, not}
+use Rattle.std.proofs.Common.{◌≡◌, ◌∙◌, ℕ, Bool, true, false, List, refl, ap, sym}
+use Rattle.std.specs.Prelude.{◌&&◌, ◌||◌, Option, Some, None, is_some, not}
 use Rattle.vx_history.specs.World.{Node, World}
 use Rattle.vx_order.specs.Calls.{is_data}
 use Rattle.vx_order.specs.declared.facts.VolumeKind.{VolumeKind}
@@ -9,11 +9,22 @@ use Rattle.vx_order.specs.declared.facts.VolumeKind.TheVariants.{Data, Map, Plai
 use Rattle.vx_script.specs.declared.line.ScriptLine.{ScriptLine}
 use Rattle.vx_script.specs.declared.line.ScriptLine.TheVariants.{Apply, Crash, Disk, Fuse, GroupDeport, GroupImport, Link, PlexAttach, PlexDetach, Put, Read, Recover, Show, Status, Volume, Write}
 use Rattle.vx_events.specs.Facts.{site_number}
-use Rattle.vx_events.specs.OpenLines.{HasNoOpen, is_open}
+use Rattle.vx_events.specs.OpenLines.{HasNoOpen, is_halted_over, is_open}
 use Rattle.vx_events.specs.RvgLinks.{links_rvg}
 use Rattle.vx_events.specs.RvgOver.{is_plain_kind, kind_named}
 use Rattle.vx_events.specs.RvgSteps.{HasNoRvgs, is_for_rvg}
 use Rattle.vx_events.specs.RvgViews.{is_over_rvg}
+
+halted_off : (n : Node) → is_over_rvg n ≡ false → is_halted_over n ≡ false
+halted_off n off = ap (λ (b : Bool). b && is_some n.halted) off
+
+none_halted : (o : Option ℕ) → is_some o ≡ false → o ≡ None
+none_halted None off = refl
+none_halted (Some disk) off = absurd (let clash : true ≡ false = off in cc)
+
+-- such a site that is not halted runs
+pub closed_runs : (n : Node) → is_over_rvg n ≡ true → is_halted_over n ≡ false → n.halted ≡ None
+closed_runs n over closed = none_halted n.halted (sym (ap (λ (b : Bool). b && is_some n.halted) over) ∙ closed)
 
 pub open_links : (w : World) (line : ScriptLine) → is_open w line ≡ false → links_rvg w line ≡ false
 open_links w (Volume site volume blocks mirrors layout log map policy) closed = refl
@@ -23,8 +34,8 @@ open_links w other closed = closed
 
 pub open_beside : (w : World) (line : ScriptLine) → is_for_rvg w line ≡ false → links_rvg w line ≡ false → is_open w line ≡ false
 open_beside w (Volume site volume blocks mirrors layout log map policy) off links = off
-open_beside w (PlexDetach site volume plex) off links = off
-open_beside w (PlexAttach site volume plex) off links = off
+open_beside w (PlexDetach site volume plex) off links = halted_off (w.nodes (site_number w site)) off
+open_beside w (PlexAttach site volume plex) off links = halted_off (w.nodes (site_number w site)) off
 open_beside w other off links = links
 
 data_by : (over : Bool) (kind : VolumeKind) → over ≡ true → (over && not (is_data kind)) ≡ false → kind ≡ Data
@@ -78,6 +89,6 @@ module _ (w : World) (none : HasNoRvgs w) where
 
   pub open_none : HasNoOpen w
   open_none (Volume site volume blocks mirrors layout log map policy) = none (site_number w site)
-  open_none (PlexDetach site volume plex) = none (site_number w site)
-  open_none (PlexAttach site volume plex) = none (site_number w site)
+  open_none (PlexDetach site volume plex) = halted_off (w.nodes (site_number w site)) (none (site_number w site))
+  open_none (PlexAttach site volume plex) = halted_off (w.nodes (site_number w site)) (none (site_number w site))
   open_none other = links_none other

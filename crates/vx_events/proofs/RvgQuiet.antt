@@ -10,7 +10,7 @@ use Rattle.vx_history.specs.World.{Node, World}
 use Rattle.vx_model.specs.Content.{Write as BlockWrite}
 use Rattle.vx_config.specs.declared.config.Config.{Config}
 use Rattle.vx_script.specs.declared.line.ScriptLine.{ScriptLine}
-use Rattle.vx_script.specs.declared.line.ScriptLine.TheVariants.{Apply, GroupDeport, Recover, Write, Put, Read, Show, GroupImport}
+use Rattle.vx_script.specs.declared.line.ScriptLine.TheVariants.{Apply, GroupDeport, GroupImport, PlexAttach, PlexDetach, Put, Read, Recover, Show, Write}
 use Rattle.vx_events.proofs.KnownLaws.{left_note}
 use Rattle.vx_events.proofs.RvgEnding.{never_found}
 use Rattle.vx_events.proofs.RvgMissed.{loosened_group, missed_agrees, missed_node}
@@ -147,6 +147,8 @@ module _ (told : Type 0) (tells : told) (d : Doubted) (s : ℕ) (fails : Fails) 
 
   pub over_agrees : (line : ScriptLine) → OverRvg told d line s fails said new → NoteAgrees (note_at (new.world.nodes s))
   over_agrees (GroupDeport site) ends = below_agrees (GroupDeport site) (λ brings. brings) (λ n note next done. settled_maps note next done.0) ends
+  over_agrees (PlexDetach site volume plex) ends = below_agrees (PlexDetach site volume plex) (λ brings. brings) (λ n note next done. settled_maps note next done.0) ends
+  over_agrees (PlexAttach site volume plex) ends = below_agrees (PlexAttach site volume plex) (λ brings. brings) (λ n note next done. settled_maps note next done.0) ends
   over_agrees (GroupImport site) ends = takes_or (GroupImport site) ends
   over_agrees (Recover site) ends = back_or (Recover site) ends
   over_agrees (Write site volume start count fill) ends =

@@ -9,21 +9,23 @@ use Rattle.vx_history.specs.Groups.{GroupNode, MissedNote}
 use Rattle.vx_history.specs.World.{Node, World}
 use Rattle.vx_model.specs.Content.{Write as BlockWrite}
 use Rattle.vx_config.specs.declared.config.Config.{Config}
+use Rattle.vx_model.specs.declared.site.PlexState.TheVariants.{Active, Stale}
 use Rattle.vx_script.specs.declared.line.ScriptLine.{ScriptLine}
-use Rattle.vx_script.specs.declared.line.ScriptLine.TheVariants.{Apply, GroupDeport, Recover, Write, Put, Read, Show, GroupImport}
+use Rattle.vx_script.specs.declared.line.ScriptLine.TheVariants.{Apply, GroupDeport, GroupImport, PlexAttach, PlexDetach, Put, Read, Recover, Show, Write}
 use Rattle.vx_events.proofs.KnownLaws.{group_stays, left_note, never}
 use Rattle.vx_events.proofs.Places.{some_same}
+use Rattle.vx_events.proofs.PlexKeeps.{puts_or}
 use Rattle.vx_events.proofs.RvgConfigs.{again_keeps, closed_keeps, keeps_self, keeps_then, loses_keeps, stayed}
 use Rattle.vx_events.proofs.RvgKnown.{back_dark, lost_group, noted_here, noted_over_here}
 use Rattle.vx_events.proofs.RvgMissed.{loosened_note, missed_keeps}
 use Rattle.vx_events.specs.Doubts.{with_disks}
 use Rattle.vx_events.specs.Fails.{Fails}
-use Rattle.vx_events.specs.GroupConfigs.{ConfigLoses, opened_again}
+use Rattle.vx_events.specs.GroupConfigs.{ConfigLoses, lies_on_disk, opened_again}
 use Rattle.vx_order.specs.Calls.{is_data}
 use Rattle.vx_events.proofs.ReadsLeave.{read_by, read_note}
 use Rattle.vx_events.proofs.WritesBelow.{write_by}
 use Rattle.vx_events.specs.GroupEnds.{BringsUp, FindsGroup, FindsNoGroup, GroupCut, GroupCuts, GroupDoes, GroupDone, GroupEnds, GroupFails, GroupLacks, GroupNotFound, GroupSpoils, ImportFails, InitFails, KeptUnread, NotFoundLeaves}
-use Rattle.vx_events.specs.GroupLines.{group_noted, noting}
+use Rattle.vx_events.specs.GroupLines.{group_noted, noting, plain_number}
 use Rattle.vx_events.specs.GroupMaps.{WithMaps}
 use Rattle.vx_events.specs.GroupNotes.{IsKnown, NotesBack, NotesCut, NotesDoubt, NotesRefused, NotesUnfound, NotesWrite, Reconfigures, no_note, note_at}
 use Rattle.vx_events.specs.GroupViews.{config_of}
@@ -257,6 +259,16 @@ module _ (told : Type 0) (d : Doubted) (s : ℕ) (fails : Fails) (said : Said) (
   -- the line left it noted so, or found something on disks of which nothing is known
   pub stays_or_finds : (line : ScriptLine) → OverRvg told d line s fails said new → Stays ⊎ RvgFinds told d line s fails said new
   stays_or_finds (GroupDeport site) ends = inl (below_stays told d site s fails said new ends)
+  stays_or_finds (PlexDetach site volume plex) ends =
+      inl (below_keeps told d (PlexDetach site volume plex) s fails said new (λ brings. brings)
+      (λ n note next does. mapped_by note next (λ c e x. puts_or (λ _. false) s fails (plain_number note volume) plex Stale c e (inr x)) does.0)
+      (λ note next spoils. mapped_by note next (λ c e x. loses_keeps (λ _. false) s fails c e x) spoils)
+      (λ note next cuts. mapped_by note next (λ c e x. puts_or (λ _. false) s fails (plain_number note volume) plex Stale c e x) cuts) ends)
+  stays_or_finds (PlexAttach site volume plex) ends =
+      inl (below_keeps told d (PlexAttach site volume plex) s fails said new (λ brings. brings)
+      (λ n note next does. mapped_by note next (λ c e x. puts_or (lies_on_disk c (plain_number note volume) plex) s fails (plain_number note volume) plex Active c e (inr x)) does.0)
+      (λ note next spoils. mapped_by note next (λ c e x. loses_keeps (lies_on_disk c (plain_number note volume) plex) s fails c e x) spoils)
+      (λ note next cuts. mapped_by note next (λ c e x. puts_or (lies_on_disk c (plain_number note volume) plex) s fails (plain_number note volume) plex Active c e x) cuts) ends)
   stays_or_finds (GroupImport site) ends = takes_or (GroupImport site) ends
   stays_or_finds (Recover site) ends = back_or (Recover site) ends
   stays_or_finds (Write site volume start count fill) ends =

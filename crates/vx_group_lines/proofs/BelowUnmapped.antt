@@ -1,16 +1,18 @@
 -- Where a line on the group below a replicated volume group begins that asks nothing of the regions which plexes of the group missed: none are noted.
 use Rattle.std.proofs.Common.{◌≡◌, ◌∙◌, ℕ, List, true, ap, refl, subst, sym}
-use Rattle.std.specs.Prelude.{None, Some, slice_get}
+use Rattle.std.specs.Prelude.{None, Ok, Result, Some, slice_get}
 use Rattle.vx_disk.specs.declared.shelf.Shelf.{Ghosts}
 use Rattle.vx_grouped.specs.GroupSites.{UpNoted}
 use Rattle.vx_history.specs.Doubts.{Doubted}
 use Rattle.vx_history.specs.Groups.{GroupNode, MissedNote}
 use Rattle.vx_history.specs.Missing.{with_maps}
 use Rattle.vx_history.specs.World.{Node}
+use Rattle.vx_model.specs.declared.errors.OutOfMemory.{OutOfMemory}
 use Rattle.vx_model.specs.declared.site.SiteState.{SiteState}
 use Rattle.vx_model.specs.declared.site.SiteState.TheVariants.{Up as IsUp}
 use Rattle.vx_order.specs.declared.facts.RvgFacts.{RvgFacts}
 use Rattle.vx_order.specs.declared.facts.SiteFacts.{SiteFacts}
+use Rattle.vx_script.specs.declared.line.ScriptLine.{ScriptLine}
 use Rattle.vx_diskset.proofs.OverNoted.{noted_up}
 use Rattle.vx_diskset.specs.Aboves.{site_in}
 use Rattle.vx_diskset.specs.Holds.{beside_of}
@@ -18,17 +20,22 @@ use Rattle.vx_diskset.specs.Noted.{below_rvg}
 use Rattle.vx_diskset.specs.declared.disk_set.DiskSet.{DiskSet}
 use Rattle.vx_events.proofs.RvgMissed.{missed_node, missed_note}
 use Rattle.vx_events.specs.Facts.{group_by, group_fact, seat_of}
+use Rattle.vx_events.specs.Fails.{Fails}
 use Rattle.vx_events.specs.GroupNotes.{note_at}
 use Rattle.vx_events.specs.LinkedFacts.{linked_fact}
-use Rattle.vx_events.specs.RvgOver.{missed_in}
-use Rattle.vx_events.specs.RvgSteps.{over_rvg_at}
+use Rattle.vx_events.specs.RvgOver.{BelowEnds, OverRvg, missed_in}
+use Rattle.vx_events.specs.RvgSteps.{over_rvg_at, rvg_place}
 use Rattle.vx_events.specs.RvgViews.{is_over_rvg}
+use Rattle.vx_events.specs.declared.said.Said.{Said}
 use Rattle.vx_yard.proofs.NamedSite.{fact_named, place_at}
+use Rattle.vx_yard.specs.AboveLines.{LeadsAboveIs}
 use Rattle.vx_yard.specs.Carries.{Carries}
 use Rattle.vx_yard.specs.Standing.{StandsFor}
+use Rattle.vx_yard.specs.Yards.{IsTold}
 use Rattle.vx_yard.specs.declared.yard.Yard.{Yard}
 use Rattle.vx_above.proofs.OverSites.{over_again}
 use Rattle.vx_group_lines.proofs.BelowAt.{BelowAt, below_at}
+use Rattle.vx_group_lines.proofs.BelowDone.{LeadsBelow, leads_above}
 use Rattle.vx_group_lines.proofs.BelowMissed.{missed_carries, missed_site, missed_stands}
 use Rattle.vx_group_lines.proofs.NoMaps.{none_noted}
 use Rattle.vx_group_lines.proofs.Tests.{UpMay}
@@ -77,3 +84,10 @@ module _ {R : Type 0} {g : Ghosts R} where
       let running : (d.world.nodes s).halted ≡ None
       = runs (group_fact (d.world.nodes s)) (ap (λ (k : SiteFacts). k.rvg) fact ∙ ap (λ (t : SiteState). group_by t (d.world.nodes s)) up) in
       unmapped d y name s e stands seat at there up running
+
+  -- what the line is led to where none are noted, it is led to whatever is noted
+  pub above_unmapped : (d : Doubted) (y new : Yard R g) (s : ℕ) (line : ScriptLine) (result : Result Said OutOfMemory) → (Carries d y → Carries (missed_in none_noted d s) y) → rvg_place d.world line ≡ s
+      → ((said : Said) (fails : Fails) (next : Doubted) → BelowEnds (IsTold new) d line s fails said next → OverRvg (IsTold new) d line s fails said next)
+      → (said : Said) × (result ≡ Ok said) × LeadsBelow (missed_in none_noted d s) line s said y new → LeadsAboveIs d line y new result
+  above_unmapped d y new s line result carries place turn it =
+      subst (λ (r : Result Said OutOfMemory). LeadsAboveIs d line y new r) (sym it.1) (leads_above none_noted d line s it.0 y new carries place (turn it.0) it.2)

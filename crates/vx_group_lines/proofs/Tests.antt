@@ -20,12 +20,13 @@ use Rattle.vx_order.specs.Grouping.{group_role, group_size, import_role, is_depo
 use Rattle.vx_order.specs.Order.{line_refusal}
 use Rattle.vx_order.specs.Replicating.{are_distinct, blocks_named, fits_group, maps_named}
 use Rattle.vx_order.specs.Shapes.{line_role, line_unknown, over_limit, raw_role, taken, wrong_size}
-use Rattle.vx_order.specs.Sites.{site_named, volume_of}
-use Rattle.vx_order.specs.Subject.{first_name}
+use Rattle.vx_order.specs.Sites.{halted_one, site_named, volume_of}
+use Rattle.vx_order.specs.Subject.{first_name, halt_of}
 use Rattle.vx_order.specs.Volumes.{is_volume_shape, plex_unknown, preferred_unknown, volume_count, volume_limit, volume_taken}
+use Rattle.vx_order.specs.declared.facts.RvgFacts.{RvgFacts}
 use Rattle.vx_order.specs.declared.facts.SiteFacts.{SiteFacts}
 use Rattle.vx_order.specs.declared.facts.VolumeFacts.{VolumeFacts}
-use Rattle.vx_events.proofs.Refused.{FoundAt, Named, found_at, lt_false, named, not_false, passes, when_none}
+use Rattle.vx_events.proofs.Refused.{FoundAt, Named, found_at, lt_false, named, not_false, passes, running_by, when_none}
 
 away_by : (state : SiteState) → is_deported state ≡ true → state ≡ Deported
 away_by Deported e = refl
@@ -81,6 +82,13 @@ up_may sites name site e =
 pub deport_may : (sites : List SiteFacts) (files : Bool) (name : List ℕ) → line_refusal sites files (GroupDeport name) ≡ None → UpMay sites name
 unfolding first_name line_role
 deport_may sites files name e = let p = passes sites files (GroupDeport name) e in up_may sites name (named sites name p.known) p.role
+
+-- its replicated volume group, if it has one, is not halted
+pub deport_runs : (sites : List SiteFacts) (files : Bool) (name : List ℕ) → line_refusal sites files (GroupDeport name) ≡ None → (may : UpMay sites name) → (rvg : RvgFacts) → may.site.facts.rvg ≡ Some rvg → rvg.halted ≡ None
+unfolding first_name line_role halt_of
+deport_runs sites files name e may rvg is =
+    let p = passes sites files (GroupDeport name) e in
+    running_by may.site.facts rvg (subst (λ (o : Option SiteFacts). halted_one o ≡ None) may.site.found p.running) (ap (λ (state : SiteState). if is_up state then may.site.facts.rvg else None) may.up) is
 
 -- a plex that is there
 pub record PlexMay (sites : List SiteFacts) (name volume : List ℕ) (plex : ℕ) : Type 0 where

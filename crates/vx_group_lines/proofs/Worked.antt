@@ -46,7 +46,10 @@ plain_on false false mine is here apart = absurd (let clash : false ≡ true = h
 
 -- a line that may do nothing but work on the group, or that makes it, and neither writes nor reads a volume
 abbrev pub WorksAlone : ScriptLine → Type 0
+WorksAlone (GroupDeport site) = ⊥
 WorksAlone (GroupImport site) = ⊥
+WorksAlone (PlexDetach site volume plex) = ⊥
+WorksAlone (PlexAttach site volume plex) = ⊥
 WorksAlone (Recover site) = ⊥
 WorksAlone (Rvg site srl maps volumes) = ⊥
 WorksAlone (Write site volume start count fill) = ⊥
@@ -62,11 +65,11 @@ alone_makes other alone = tt
 -- where it is not open, no replicated volume group is over the group
 alone_off : (w : World) (line : ScriptLine) → WorksAlone line → goes_to_group w line ≡ true → is_open w line ≡ false → is_for_rvg w line ≡ false
 alone_off w (GroupInit site) alone goes closed = refl
-alone_off w (GroupDeport site) alone goes closed = closed
+alone_off w (GroupDeport site) alone goes closed = absurd alone
 alone_off w (GroupImport site) alone goes closed = absurd alone
 alone_off w (Volume site volume blocks mirrors layout log map policy) alone goes closed = closed
-alone_off w (PlexDetach site volume plex) alone goes closed = closed
-alone_off w (PlexAttach site volume plex) alone goes closed = closed
+alone_off w (PlexDetach site volume plex) alone goes closed = absurd alone
+alone_off w (PlexAttach site volume plex) alone goes closed = absurd alone
 alone_off w (Rvg site srl maps volumes) alone goes closed = absurd alone
 alone_off w (Disk site disk state) alone goes closed = group_alone (w.nodes (site_number w site)) goes
 alone_off w (Crash site pick) alone goes closed = group_alone (w.nodes (site_number w site)) goes
@@ -132,6 +135,25 @@ module _ {R : Type 0} {g : Ghosts R} (d : Doubted) (y : Yard R g) where
         subst (λ (x : ScriptLine). WorksIs d x y new r) (sym is)
         (alone_works line r alone stands kept (subst (λ (x : ScriptLine). IsFree y x) is free) (subst (λ (x : ScriptLine). goes_to_group d.world x ≡ true) is goes)
         (subst (λ (x : ScriptLine). is_open d.world x ≡ false) is closed) leads)
+
+    -- ---- one that works on the group, whether one is over it or not
+
+    both_works : (line : ScriptLine) (name : List ℕ) (r : Result Said OutOfMemory) → MakesNoRvg line → is_for_rvg d.world line ≡ over_rvg_at d.world name → StandsFor d y → IsYardKept y → IsFree y line → goes_to_group d.world line ≡ true → is_open d.world line ≡ false
+        → (is_for_group d.world line ≡ true → LeadsOverIs d line y new r) → (over_rvg_at d.world name ≡ true → is_open d.world line ≡ false → LeadsAboveIs d line y new r) → WorksIs d line y new r
+    both_works line name r none there stands kept free goes closed beside above = by (over_rvg_at d.world name) refl
+      where
+        by : (b : Bool) → over_rvg_at d.world name ≡ b → WorksIs d line y new r
+        by true over = works_above d line y new none closed (there ∙ over) r (above over closed)
+        by false off =
+            let group : is_for_group d.world line ≡ true = alone_goes line none stands kept free goes (there ∙ off) in
+            works_over d line y new none closed (there ∙ off) r group (or_stops d line y new r (beside group))
+
+    pub works_both : (words line : ScriptLine) (name : List ℕ) (r : Result Said OutOfMemory) → words ≡ line → MakesNoRvg line → is_for_rvg d.world line ≡ over_rvg_at d.world name → StandsFor d y → IsYardKept y → IsFree y words → goes_to_group d.world words ≡ true
+        → is_open d.world words ≡ false → (is_for_group d.world line ≡ true → LeadsOverIs d line y new r) → (over_rvg_at d.world name ≡ true → is_open d.world line ≡ false → LeadsAboveIs d line y new r) → WorksIs d words y new r
+    works_both words line name r is none there stands kept free goes closed beside above =
+        subst (λ (x : ScriptLine). WorksIs d x y new r) (sym is)
+        (both_works line name r none there stands kept (subst (λ (x : ScriptLine). IsFree y x) is free) (subst (λ (x : ScriptLine). goes_to_group d.world x ≡ true) is goes)
+        (subst (λ (x : ScriptLine). is_open d.world x ≡ false) is closed) beside above)
 
     -- ---- one that brings the group up, and may find one
 

@@ -2,7 +2,9 @@
 ghost use Rattle.std.specs.Prelude.{◌≡◌, IfOk, true};
 ghost use Rattle.vx_history.specs.Doubts.{Doubted};
 ghost use Rattle.vx_script.specs.declared.line.ScriptLine.TheVariants.{GroupDeport};
+ghost use Rattle.vx_events.specs.RvgSteps.{is_for_rvg};
 ghost use Rattle.vx_events.specs.StepsOver.{is_for_group};
+ghost use Rattle.vx_yard.specs.AboveLines.{LeadsAboveIs};
 ghost use Rattle.vx_yard.specs.OfSites.{AsAsked, HasCalled};
 ghost use Rattle.vx_yard.specs.Standing.{LeadsOverIs, StandsFor};
 ghost use Rattle.vx_yard.specs.Working.{IsFree};
@@ -26,6 +28,7 @@ pub fn deport_line<R: Rack>(
     requires kept { IsYardKept yard.old }
     requires free { IsFree yard.old (GroupDeport name.now) }
     ensures leads { (d : Doubted) → StandsFor d yard.old → is_for_group d.world (GroupDeport name.now) ≡ true → LeadsOverIs d (GroupDeport name.now) yard.old yard.new result }
+    ensures above { (d : Doubted) → StandsFor d yard.old → is_for_rvg d.world (GroupDeport name.now) ≡ true → LeadsAboveIs d (GroupDeport name.now) yard.old yard.new result }
     ensures asked { (d : Doubted) → StandsFor d yard.old → is_for_group d.world (GroupDeport name.now) ≡ true → AsAsked d.world (GroupDeport name.now) yard.old yard.new }
     ensures called { (d : Doubted) → StandsFor d yard.old → is_for_group d.world (GroupDeport name.now) ≡ true → IfOk result (λ said. HasCalled d.world (GroupDeport name.now) said yard.old yard.new) }
     ensures told { IsTold yard.new → IsTold yard.old }

@@ -6,6 +6,8 @@ mod applies;
 #[cfg(test)]
 mod cut;
 #[cfg(test)]
+mod deports;
+#[cfg(test)]
 mod done;
 #[cfg(test)]
 mod failing;
@@ -17,3 +19,5 @@ mod lines;
 mod open;
 #[cfg(test)]
 mod over_groups;
+#[cfg(test)]
+mod plexes;

@@ -8,17 +8,27 @@ fn a_run_ends_at_an_open_line(rt: HostRuntime) -> Result<(), Fail> {
     let made = "rvg a srl=log1 dcm=maps vols=v\n";
     let wanted = "done\ndone\ndone\ndone\ndone\ndone\nbad 7 1\n";
     for line in [
-        "dg a deport\n",
         "vol a w 64 mirrors=1 layout=concat log=none fmr=off rdpol=round\n",
-        "plex a v 1 det\n",
-        "plex a v 1 att\n",
     ] {
         assert!(rt; ends_at(&rt, rt.alloc(), made, line, 7, wanted)?, "{line}");
     }
     Ok(())
 }
 
-// So it does at a write to a volume that the replicated volume group does not have.
+// A line on a plex is one where the site is halted.
+#[test]
+fn a_run_ends_at_a_plex_of_a_halted_site(rt: HostRuntime) -> Result<(), Fail> {
+    let made =
+        "vol a w 64 mirrors=1 layout=concat log=none fmr=off rdpol=round\nrvg a srl=log1 dcm=maps vols=w\nwrite a w 0 1 11\ndisk a 0 fail\napply a 1\n";
+    let wanted =
+        "done\ndone\ndone\ndone\ndone\ndone\ndone\ndone 1\ndone\nno 7 device 0\nbad 11 1\n";
+    for line in ["plex a v 1 det\n", "plex a v 1 att\n", "plex a w 0 att\n"] {
+        assert!(rt; ends_at(&rt, rt.alloc(), made, line, 11, wanted)?, "{line}");
+    }
+    Ok(())
+}
+
+// A run ends at a write to a volume that the replicated volume group does not have.
 #[test]
 fn a_run_ends_at_a_write_to_another_volume(rt: HostRuntime) -> Result<(), Fail> {
     let made =
@@ -49,6 +59,15 @@ fn a_run_ends_at_a_link(rt: HostRuntime) -> Result<(), Fail> {
 fn lines_before_it_are_done(rt: HostRuntime) -> Result<(), Fail> {
     let made = "rvg a srl=log1 dcm=maps vols=v\nwrite a v 0 1 11\nread a v 0 1\n";
     let wanted = "done\ndone\ndone\ndone\ndone\ndone\ndone 1\n11\nbad 9 1\n";
-    assert!(rt; ends_at(&rt, rt.alloc(), made, "dg a deport\nfoo\n", 9, wanted)?);
+    assert!(rt;
+        ends_at(
+            &rt,
+            rt.alloc(),
+            made,
+            "vol a w 64 mirrors=1 layout=concat log=none fmr=off rdpol=round\nfoo\n",
+            9,
+            wanted
+        )?
+    );
     Ok(())
 }

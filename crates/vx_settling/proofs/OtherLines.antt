@@ -356,6 +356,8 @@ module _ (i : ℕ) (o : Option GroupNode) where
 
       place_or : (line : ScriptLine) (s : ℕ) → may_note d.world line i ≡ false → eqb i s ≡ false → OverRvg told d line s fails said new → HasNote i o new
       place_or (GroupDeport site) s off apart below = below_notes (GroupDeport site) s apart below
+      place_or (PlexDetach site volume plex) s off apart below = below_notes (PlexDetach site volume plex) s apart below
+      place_or (PlexAttach site volume plex) s off apart below = below_notes (PlexAttach site volume plex) s apart below
       place_or (GroupImport site) s off apart (inl takes) = takes_notes (GroupImport site) s apart takes
       place_or (GroupImport site) s off apart (inr finds) = finds_notes (GroupImport site) s apart finds
       place_or (Recover site) s off apart (inl back) = rises_notes (Recover site) s apart back

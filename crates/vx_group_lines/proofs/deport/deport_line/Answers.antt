@@ -1,13 +1,17 @@
 -- Each case of a line that deports a group.
 use Rattle.std.proofs.Common.{◌∙◌, ap, sym, subst, refl}
-use Rattle.std.specs.Prelude.{slice_set}
+use Rattle.std.specs.Prelude.{Err, Ok, slice_set}
 use Rattle.vx_model.proofs.Lists.{get_there}
 use Rattle.vx_events.proofs.Places.{some_same}
 use Rattle.vx_yard.specs.GroupFacts.{deported_facts}
 use Rattle.vx_script.specs.declared.line.ScriptLine.TheVariants.{GroupDeport}
 use Rattle.vx_diskset.specs.Asked.{FuseGoesOn, SameFailing}
+use Rattle.vx_diskset.specs.OverAways.{DeportsBelow}
 use Rattle.vx_events.specs.GroupNotes.{note_at}
+use Rattle.vx_events.specs.LinkedFacts.{linked_fact}
+use Rattle.vx_events.specs.RvgOver.{missed_in}
 use Rattle.vx_events.specs.StepsOver.{fact_of_group}
+use Rattle.vx_events.specs.declared.said.Said.TheVariants.{Done}
 use Rattle.vx_yard.proofs.ChangeSite.{told_before}
 use Rattle.vx_yard.proofs.Lists.{get_at}
 use Rattle.vx_yard.proofs.NamedSite.{asks_at, place_at}
@@ -15,9 +19,14 @@ use Rattle.vx_yard.proofs.Seats.{named_some}
 use Rattle.vx_yard.specs.OfSites.{HasCalled}
 use Rattle.vx_yard.specs.Yards.{in_files}
 use Rattle.vx_yard.specs.Stands.{AreTold}
+use Rattle.vx_group_lines.proofs.BelowDeport.{deport_below, deport_below_stopped}
+use Rattle.vx_group_lines.proofs.BelowDone.{leads_above}
+use Rattle.vx_group_lines.proofs.BelowUnmapped.{above_unmapped, unmapped_named}
+use Rattle.vx_group_lines.proofs.BelowUp.{overs_behind}
 use Rattle.vx_group_lines.proofs.GroupNamed.{if_ok, reply_same, up_named}
 use Rattle.vx_group_lines.proofs.GroupDeports.{deport_done, deport_stopped}
-use Rattle.vx_group_lines.proofs.Tests.{deport_may}
+use Rattle.vx_group_lines.proofs.NoMaps.{none_noted}
+use Rattle.vx_group_lines.proofs.Tests.{deport_may, deport_runs}
 use Rattle.vx_group_lines.proofs.deport.deport_line.Goals as goal
 
 pub site_of-site-requires-clause-named : goal.site_of-site-requires-clause-named
@@ -86,6 +95,59 @@ returns-in-Err-clause-leads g c = λ d stands over.
     _ c.group_stopped.result (record { facts = refl; load = record { flight = refl; assemblies = refl; feeders = refl } }) c.in-Err.stop
     (c.in-Err.ensures.deported n note up.noted) (c.in-Err.ensures.maps n note up.noted)
     reply
+
+pub returns-in-Ok-clause-above : goal.returns-in-Ok-clause-above
+returns-in-Ok-clause-above g c = λ d stands over.
+    let y = c.args.yard.now in
+    let s = c.site_of-site.result in
+    let seat = c.site_of-site.ensures.seat in
+    let at = get_at y.disk_sets.items s c.index_mut.result.now c.site_of-site.ensures.disk_set c.index_mut.ensures.value in
+    let may = deport_may y.facts.items (in_files y) c.args.name.now c.requires.free in
+    let start = unmapped_named d y c.args.name.now s c.index_mut.result.now stands seat over at may (deport_runs y.facts.items (in_files y) c.args.name.now c.requires.free may) in
+    let then = overs_behind (DeportsBelow (Ok tt)) c.index_mut.result.now c.deport_group.new.self start.at.set start.at.is_set c.in-Ok.ensures.over in
+    leads_above none_noted d (GroupDeport c.args.name.now) s Done y _ start.carries (place_at d y c.args.name.now s stands seat).number (λ fails next it. it)
+    (deport_below (missed_in none_noted d s) y _ c.args.name.now s c.index_mut.result.now c.deport_group.new.self then.set start.stands
+    (record {
+      at = start.at;
+      up = start.up;
+      running = start.running;
+      changed = record { there = at; later = c.in-Ok.ensures.later; disk_sets = refl; racks = refl };
+      failing = c.in-Ok.ensures.failing;
+      since = c.in-Ok.ensures.since;
+      is = then.is;
+      cut = then.holds.cut;
+      kept = then.holds.kept;
+    })
+    start.none start.asks then.holds
+    (ap (λ f. slice_set y.facts.items s f) (c.deport.ensures ∙ ap (λ f. deported_facts f) (some_same (sym (get_at y.facts.items s c.index_mut-in-Ok.result.now c.site_of-site.ensures.fact c.index_mut-in-Ok.ensures.value) ∙ start.at.seat.fact))))
+    (record { flight = refl; assemblies = c.let_go.ensures; feeders = refl }))
+
+pub returns-in-Err-clause-above : goal.returns-in-Err-clause-above
+returns-in-Err-clause-above g c = λ d stands over.
+    let y = c.args.yard.now in
+    let s = c.site_of-site.result in
+    let seat = c.site_of-site.ensures.seat in
+    let at = get_at y.disk_sets.items s c.index_mut.result.now c.site_of-site.ensures.disk_set c.index_mut.ensures.value in
+    let may = deport_may y.facts.items (in_files y) c.args.name.now c.requires.free in
+    let start = unmapped_named d y c.args.name.now s c.index_mut.result.now stands seat over at may (deport_runs y.facts.items (in_files y) c.args.name.now c.requires.free may) in
+    let then = overs_behind (DeportsBelow (Err c.in-Err.stop)) c.index_mut.result.now c.deport_group.new.self start.at.set start.at.is_set c.in-Err.ensures.over in
+    let f = linked_fact (missed_in none_noted d s).world s in
+    let reply = c.group_stopped.ensures f start.at.seat.fact in
+    let same = reply_same s f c.in-Err.stop _ c.group_stopped.new.yard c.group_stopped.result reply in
+    above_unmapped d y c.group_stopped.new.yard s (GroupDeport c.args.name.now) c.group_stopped.result start.carries (place_at d y c.args.name.now s stands seat).number (λ said fails next it. it)
+    (deport_below_stopped (missed_in none_noted d s) y c.group_stopped.new.yard c.args.name.now s c.index_mut.result.now c.deport_group.new.self then.set start.stands
+    (record {
+      at = start.at;
+      up = start.up;
+      running = start.running;
+      changed = record { there = at; later = c.in-Err.ensures.later; disk_sets = ap (λ es. es.items) same.disk_sets; racks = same.racks };
+      failing = c.in-Err.ensures.failing;
+      since = c.in-Err.ensures.since;
+      is = then.is;
+      cut = then.holds.cut;
+      kept = then.holds.kept;
+    })
+    start.none start.asks _ (record { facts = refl; load = record { flight = refl; assemblies = refl; feeders = refl } }) c.group_stopped.result c.in-Err.stop then.holds reply)
 
 pub returns-in-Ok-clause-asked : goal.returns-in-Ok-clause-asked
 returns-in-Ok-clause-asked g c = λ d stands over.

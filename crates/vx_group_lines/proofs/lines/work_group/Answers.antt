@@ -7,7 +7,7 @@ use Rattle.vx_yard.specs.Working.{IsFree}
 use Rattle.vx_yard.specs.Yards.{in_files}
 use Rattle.vx_group_lines.proofs.Tests.{volume_may}
 use Rattle.vx_group_lines.proofs.WorkLines.{memory_short, ok_any, prefers_below, prefers_few, rest_blocks, shape_layout}
-use Rattle.vx_group_lines.proofs.Worked.{goes_alone, works_closed, works_import, works_made, works_recover}
+use Rattle.vx_group_lines.proofs.Worked.{goes_alone, works_both, works_closed, works_import, works_made, works_recover}
 use Rattle.vx_group_lines.proofs.lines.work_group.Goals as goal
 
 pub init_line-requires-clause-free : goal.init_line-requires-clause-free
@@ -31,7 +31,8 @@ deport_line-requires-clause-free g c = λ κs lives. subst (λ line. IsFree c.ar
 
 pub returns-in-GroupDeport-clause-leads : goal.returns-in-GroupDeport-clause-leads
 returns-in-GroupDeport-clause-leads g c = λ d stands goes closed.
-    works_closed d c.args.yard.now c.deport_line.new.yard c.args.words.now _ c.deport_line.result c.in-GroupDeport.is tt stands c.requires.kept c.requires.free goes closed (λ group. c.deport_line.ensures.leads d stands group)
+    works_both d c.args.yard.now c.deport_line.new.yard c.args.words.now _ _ c.deport_line.result c.in-GroupDeport.is tt refl stands c.requires.kept c.requires.free goes closed (λ group. c.deport_line.ensures.leads d stands group)
+    (λ over runs. c.deport_line.ensures.above d stands over)
 
 pub returns-in-GroupDeport-clause-asked : goal.returns-in-GroupDeport-clause-asked
 returns-in-GroupDeport-clause-asked g c = λ d stands goes off. subst (λ line. AsAsked d.world line c.args.yard.now c.deport_line.new.yard) (sym c.in-GroupDeport.is) (c.deport_line.ensures.asked d stands (goes_alone d c.args.yard.now c.args.words.now _ c.in-GroupDeport.is tt stands c.requires.kept c.requires.free goes off))
@@ -65,7 +66,8 @@ detach_line-requires-clause-free g c = λ κs lives. subst (λ line. IsFree c.ar
 
 pub returns-in-PlexDetach-clause-leads : goal.returns-in-PlexDetach-clause-leads
 returns-in-PlexDetach-clause-leads g c = λ d stands goes closed.
-    works_closed d c.args.yard.now c.detach_line.new.yard c.args.words.now _ c.detach_line.result c.in-PlexDetach.is tt stands c.requires.kept c.requires.free goes closed (λ group. c.detach_line.ensures.leads d stands group)
+    works_both d c.args.yard.now c.detach_line.new.yard c.args.words.now _ _ c.detach_line.result c.in-PlexDetach.is tt refl stands c.requires.kept c.requires.free goes closed (λ group. c.detach_line.ensures.leads d stands group)
+    (λ over runs. c.detach_line.ensures.above d stands over runs)
 
 pub returns-in-PlexDetach-clause-asked : goal.returns-in-PlexDetach-clause-asked
 returns-in-PlexDetach-clause-asked g c = λ d stands goes off. subst (λ line. AsAsked d.world line c.args.yard.now c.detach_line.new.yard) (sym c.in-PlexDetach.is) (c.detach_line.ensures.asked d stands (goes_alone d c.args.yard.now c.args.words.now _ c.in-PlexDetach.is tt stands c.requires.kept c.requires.free goes off))
@@ -82,7 +84,8 @@ attach_line-requires-clause-free g c = λ κs lives. subst (λ line. IsFree c.ar
 
 pub returns-in-PlexAttach-clause-leads : goal.returns-in-PlexAttach-clause-leads
 returns-in-PlexAttach-clause-leads g c = λ d stands goes closed.
-    works_closed d c.args.yard.now c.attach_line.new.yard c.args.words.now _ c.attach_line.result c.in-PlexAttach.is tt stands c.requires.kept c.requires.free goes closed (λ group. c.attach_line.ensures.leads d stands group)
+    works_both d c.args.yard.now c.attach_line.new.yard c.args.words.now _ _ c.attach_line.result c.in-PlexAttach.is tt refl stands c.requires.kept c.requires.free goes closed (λ group. c.attach_line.ensures.leads d stands group)
+    (λ over runs. c.attach_line.ensures.above d stands over runs)
 
 pub returns-in-PlexAttach-clause-asked : goal.returns-in-PlexAttach-clause-asked
 returns-in-PlexAttach-clause-asked g c = λ d stands goes off. subst (λ line. AsAsked d.world line c.args.yard.now c.attach_line.new.yard) (sym c.in-PlexAttach.is) (c.attach_line.ensures.asked d stands (goes_alone d c.args.yard.now c.args.words.now _ c.in-PlexAttach.is tt stands c.requires.kept c.requires.free goes off))

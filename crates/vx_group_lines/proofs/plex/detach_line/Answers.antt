@@ -4,7 +4,11 @@ use Rattle.std.specs.Prelude.{Ok, Err}
 use Rattle.vx_model.proofs.Lists.{get_there}
 use Rattle.vx_script.specs.declared.line.ScriptLine.TheVariants.{PlexDetach}
 use Rattle.vx_diskset.specs.Asked.{FuseGoesOn, SameFailing}
+use Rattle.vx_events.proofs.Opens.{closed_runs}
+use Rattle.vx_events.specs.Facts.{site_number}
 use Rattle.vx_events.specs.GroupNotes.{note_at}
+use Rattle.vx_events.specs.LinkedFacts.{linked_fact}
+use Rattle.vx_events.specs.RvgOver.{missed_in}
 use Rattle.vx_events.specs.StepsOver.{fact_of_group}
 use Rattle.vx_yard.proofs.ChangeSite.{told_before}
 use Rattle.vx_yard.proofs.Lists.{get_at}
@@ -13,8 +17,12 @@ use Rattle.vx_yard.proofs.Seats.{named_some}
 use Rattle.vx_yard.specs.OfSites.{HasCalled}
 use Rattle.vx_yard.specs.Yards.{in_files}
 use Rattle.vx_yard.specs.Stands.{AreTold}
+use Rattle.vx_group_lines.proofs.BelowDetach.{detached, undetached}
+use Rattle.vx_group_lines.proofs.BelowPlex.{below_plex}
+use Rattle.vx_group_lines.proofs.BelowStart.{below_start}
 use Rattle.vx_group_lines.proofs.GroupNamed.{if_ok, plain_is, plain_there, plex_fits, plex_named, reply_same, up_named}
 use Rattle.vx_group_lines.proofs.GroupPlex.{det_at, det_done, det_refuses, det_stopped, det_maps_at}
+use Rattle.vx_group_lines.proofs.Numbered.{placed_at}
 use Rattle.vx_group_lines.proofs.Tests.{detach_may}
 use Rattle.vx_group_lines.proofs.plex.detach_line.Goals as goal
 
@@ -22,11 +30,6 @@ pub site_of-site-requires-clause-named : goal.site_of-site-requires-clause-named
 site_of-site-requires-clause-named g c κs within =
     let may = detach_may c.args.yard.now.facts.items (in_files c.args.yard.now) c.args.name.now c.args.volume.now c.args.plex c.requires.free in
     named_some c.args.yard.now c.args.name.now may.may.site
-
-pub volume_of-place-requires-clause-named : goal.volume_of-place-requires-clause-named
-volume_of-place-requires-clause-named g c κs within = λ f at.
-    plain_there c.args.yard.now c.args.name.now c.args.volume.now c.args.plex c.site_of-site.result f c.site_of-site.ensures.seat at
-    (detach_may c.args.yard.now.facts.items (in_files c.args.yard.now) c.args.name.now c.args.volume.now c.args.plex c.requires.free)
 
 pub returns-in-Ok-clause-leads : goal.returns-in-Ok-clause-leads
 returns-in-Ok-clause-leads g c = λ d stands over.
@@ -54,13 +57,13 @@ returns-in-Ok-clause-leads g c = λ d stands over.
       since = c.in-Ok.ensures.since;
     })
     plex.there plex.below up.is_up
-    (det_at n note (plain_is d y c.args.name.now c.args.volume.now s c.volume_of-place.result c.index_mut.result.now up.at c.volume_of-place.ensures.place)
+    (det_at n note (plain_is d y c.args.name.now c.args.volume.now s c.number_of-place.result c.index_mut.result.now up.at (placed_at y s c.index_mut.result.now c.args.volume.now c.number_of-place.result n note up.at.set up.at.is_set up.is_up up.at.fact at c.number_of-place.ensures (λ f there. plain_there y c.args.name.now c.args.volume.now c.args.plex s f seat there may)))
     (c.min.ensures ∙ plex_fits n note up.at.set.site c.args.volume.now c.args.plex up.is_up plex) (Ok (tt {0})) c.index_mut.result.now c.detach_plex.new.self
     (c.in-Ok.ensures.called n note up.noted))
-    (det_maps_at (plain_is d y c.args.name.now c.args.volume.now s c.volume_of-place.result c.index_mut.result.now up.at c.volume_of-place.ensures.place)
+    (det_maps_at (plain_is d y c.args.name.now c.args.volume.now s c.number_of-place.result c.index_mut.result.now up.at (placed_at y s c.index_mut.result.now c.args.volume.now c.number_of-place.result n note up.at.set up.at.is_set up.is_up up.at.fact at c.number_of-place.ensures (λ f there. plain_there y c.args.name.now c.args.volume.now c.args.plex s f seat there may)))
     (c.min.ensures ∙ plex_fits n note up.at.set.site c.args.volume.now c.args.plex up.is_up plex) (Ok (tt {0})) c.index_mut.result.now c.detach_plex.new.self
     (c.in-Ok.ensures.maps n note up.noted))
-    (det_refuses c.index_mut.result.now up.at.set up.at.is_set (plain_is d y c.args.name.now c.args.volume.now s c.volume_of-place.result c.index_mut.result.now up.at c.volume_of-place.ensures.place)
+    (det_refuses c.index_mut.result.now up.at.set up.at.is_set (plain_is d y c.args.name.now c.args.volume.now s c.number_of-place.result c.index_mut.result.now up.at (placed_at y s c.index_mut.result.now c.args.volume.now c.number_of-place.result n note up.at.set up.at.is_set up.is_up up.at.fact at c.number_of-place.ensures (λ f there. plain_there y c.args.name.now c.args.volume.now c.args.plex s f seat there may)))
     (c.min.ensures ∙ plex_fits n note up.at.set.site c.args.volume.now c.args.plex up.is_up plex) (λ no refuses. c.in-Ok.ensures.refused n note no up.noted refuses))
     refl (record { flight = refl; assemblies = refl; feeders = refl })
 
@@ -96,10 +99,10 @@ returns-in-Err-clause-leads g c = λ d stands over.
       since = c.in-Err.ensures.since;
     })
     plex.there plex.below up.is_up _ c.group_stopped.result (record { facts = refl; load = record { flight = refl; assemblies = refl; feeders = refl } }) c.in-Err.stop
-    (det_at n note (plain_is d y c.args.name.now c.args.volume.now s c.volume_of-place.result c.index_mut.result.now up.at c.volume_of-place.ensures.place)
+    (det_at n note (plain_is d y c.args.name.now c.args.volume.now s c.number_of-place.result c.index_mut.result.now up.at (placed_at y s c.index_mut.result.now c.args.volume.now c.number_of-place.result n note up.at.set up.at.is_set up.is_up up.at.fact at c.number_of-place.ensures (λ f there. plain_there y c.args.name.now c.args.volume.now c.args.plex s f seat there may)))
     (c.min.ensures ∙ plex_fits n note up.at.set.site c.args.volume.now c.args.plex up.is_up plex) (Err c.in-Err.stop) c.index_mut.result.now c.detach_plex.new.self
     (c.in-Err.ensures.called n note up.noted))
-    (det_maps_at (plain_is d y c.args.name.now c.args.volume.now s c.volume_of-place.result c.index_mut.result.now up.at c.volume_of-place.ensures.place)
+    (det_maps_at (plain_is d y c.args.name.now c.args.volume.now s c.number_of-place.result c.index_mut.result.now up.at (placed_at y s c.index_mut.result.now c.args.volume.now c.number_of-place.result n note up.at.set up.at.is_set up.is_up up.at.fact at c.number_of-place.ensures (λ f there. plain_there y c.args.name.now c.args.volume.now c.args.plex s f seat there may)))
     (c.min.ensures ∙ plex_fits n note up.at.set.site c.args.volume.now c.args.plex up.is_up plex) (Err c.in-Err.stop) c.index_mut.result.now c.detach_plex.new.self
     (c.in-Err.ensures.maps n note up.noted))
     reply
@@ -161,3 +164,33 @@ returns-in-Err-clause-files g c =
     let s = c.site_of-site.result in
     let f = get_there y.facts.items s c.site_of-site.ensures.fact in
     (reply_same s f.0 c.in-Err.stop _ c.group_stopped.new.yard c.group_stopped.result (c.group_stopped.ensures f.0 f.1)).files
+
+pub returns-in-Ok-clause-above : goal.returns-in-Ok-clause-above
+returns-in-Ok-clause-above g c = λ d stands over closed.
+    let y = c.args.yard.now in
+    let s = c.site_of-site.result in
+    let e = c.index_mut.result.now in
+    let seat = c.site_of-site.ensures.seat in
+    let at = get_at y.disk_sets.items s e c.site_of-site.ensures.disk_set c.index_mut.ensures.value in
+    let may = detach_may y.facts.items (in_files y) c.args.name.now c.args.volume.now c.args.plex c.requires.free in
+    let start = below_start d y c.args.name.now s e stands seat over (closed_runs (d.world.nodes (site_number d.world c.args.name.now)) over closed) may.may at in
+    let named = below_plex (missed_in start.missed d s) y c.args.name.now c.args.volume.now c.args.plex s c.number_of-place.result e start.at start.asks seat may at c.number_of-place.ensures in
+    detached d y _ c.args.name.now c.args.volume.now c.args.plex _ c.number_of-place.result s e c.detach_plex.new.self start named c.min.ensures
+    (record { there = at; later = c.in-Ok.ensures.later; disk_sets = refl; racks = refl }) c.in-Ok.ensures.failing c.in-Ok.ensures.since c.in-Ok.ensures.over refl (record { flight = refl; assemblies = refl; feeders = refl })
+
+pub returns-in-Err-clause-above : goal.returns-in-Err-clause-above
+returns-in-Err-clause-above g c = λ d stands over closed.
+    let y = c.args.yard.now in
+    let s = c.site_of-site.result in
+    let e = c.index_mut.result.now in
+    let seat = c.site_of-site.ensures.seat in
+    let at = get_at y.disk_sets.items s e c.site_of-site.ensures.disk_set c.index_mut.ensures.value in
+    let may = detach_may y.facts.items (in_files y) c.args.name.now c.args.volume.now c.args.plex c.requires.free in
+    let start = below_start d y c.args.name.now s e stands seat over (closed_runs (d.world.nodes (site_number d.world c.args.name.now)) over closed) may.may at in
+    let named = below_plex (missed_in start.missed d s) y c.args.name.now c.args.volume.now c.args.plex s c.number_of-place.result e start.at start.asks seat may at c.number_of-place.ensures in
+    let f = linked_fact (missed_in start.missed d s).world s in
+    let reply = c.group_stopped.ensures f start.at.seat.fact in
+    let same = reply_same s f c.in-Err.stop _ c.group_stopped.new.yard c.group_stopped.result reply in
+    undetached d y c.group_stopped.new.yard c.args.name.now c.args.volume.now c.args.plex _ c.number_of-place.result s e c.detach_plex.new.self start named c.min.ensures
+    (record { there = at; later = c.in-Err.ensures.later; disk_sets = ap (λ es. es.items) same.disk_sets; racks = same.racks }) c.in-Err.ensures.failing c.in-Err.ensures.since
+    _ c.group_stopped.result (record { facts = refl; load = record { flight = refl; assemblies = refl; feeders = refl } }) c.in-Err.stop c.in-Err.ensures.over reply
