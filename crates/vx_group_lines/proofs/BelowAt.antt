@@ -1,5 +1,5 @@
 -- A site with a replicated volume group over its group of disks, in a yard, and blocks of a volume of the group that is no data volume, as a line names them.
-use Rattle.std.proofs.Common.{◌≡◌, ◌∙◌, ◌+◌, ◌*◌, ◌≤◌, ℕ, true, false, List, ap, arith, subst, sym}
+use Rattle.std.proofs.Common.{◌≡◌, ◌∙◌, ◌+◌, ◌*◌, ◌≤◌, ℕ, true, false, List, ap, arith, refl, subst, sym}
 use Rattle.std.specs.List.{find}
 use Rattle.std.specs.Prelude.{None, Option, Some, slice_get, unwrap_or}
 use Rattle.std.specs.Str.{bytes_eq}
