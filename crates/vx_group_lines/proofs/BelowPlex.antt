@@ -1,5 +1,5 @@
 -- The plex of a group below a replicated volume group that a line names.
-use Rattle.std.proofs.Common.{◌≡◌, ◌∙◌, ℕ, true, List, map, ap, arith, subst, sym}
+use Rattle.std.proofs.Common.{◌≡◌, ◌∙◌, ℕ, true, List, map, ap, arith, refl, subst, sym}
 use Rattle.std.proofs.lemmas.Option.{slice_get-map}
 use Rattle.std.specs.List.{find}
 use Rattle.std.specs.Prelude.{Option, Some, option_map, slice_get, unwrap_or}

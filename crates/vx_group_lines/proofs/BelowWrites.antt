@@ -1,6 +1,8 @@
 -- What a write leads a yard to whose volume is one of the group below a replicated volume group, and none of its data volumes: it ends as one of the group alone. What
 -- plexes missed is not noted there, so that nothing is said of their maps.
 use Rattle.std.proofs.Common.{◌≡◌, ◌∙◌, ◌+◌, ◌*◌, ◌≤◌, ℕ, Bool, true, false, List, [], length, map, ap, sym, subst, refl, arith}
+use Rattle.std.specs.List.{position}
+use Rattle.std.specs.Str.{bytes_eq}
 use Rattle.std.specs.Prelude.{◌&&◌, Option, Some, None, Result, Ok, Err, if◌then◌else◌, slice_get, slice_set, unwrap_or}
 use Rattle.vx_model.specs.Content.{Content, Write, blocks_in}
 use Rattle.vx_model.specs.declared.no.No.{No}
@@ -10,6 +12,8 @@ use Rattle.vx_disk.specs.Counts.{Rose}
 use Rattle.vx_disk.specs.Shelf.{Meaning}
 use Rattle.vx_disk.specs.declared.shelf.Shelf.{Ghosts}
 use Rattle.vx_config.specs.declared.config.Config.{Config}
+use Rattle.vx_config.specs.declared.entry.VolumeEntry.{VolumeEntry}
+use Rattle.vx_kept.specs.Cleans.{at_serial}
 use Rattle.vx_history.specs.Doubts.{Doubted, happened}
 use Rattle.vx_history.specs.Groups.{GroupNode, NoteSettles, NoteUnsettles, note_cut, note_doubt, note_write}
 use Rattle.vx_history.specs.MapChanges.{InNoVolume, InVolume, StayKnown}
@@ -21,6 +25,7 @@ use Rattle.vx_history.specs.declared.event.Event.TheVariants.{Crash as CrashAt}
 use Rattle.vx_order.specs.Calls.{is_data}
 use Rattle.vx_order.specs.declared.facts.SiteFacts.{SiteFacts}
 use Rattle.vx_order.specs.declared.facts.VolumeFacts.{VolumeFacts}
+use Rattle.vx_order.specs.declared.facts.VolumeKind.TheVariants.{Plain}
 use Rattle.vx_script.specs.declared.line.ScriptLine.{ScriptLine}
 use Rattle.vx_script.specs.declared.line.ScriptLine.TheVariants.{Put as PutLine, Write as WriteLine}
 use Rattle.vx_effects.specs.Facts.{down_fact}
@@ -29,18 +34,25 @@ use Rattle.vx_grouped.specs.Ends.{plain_write}
 use Rattle.vx_grouped.specs.GroupSites.{DownNoted, FitsPlain, UpNoted, site_disks, with_note}
 use Rattle.vx_grouped.specs.SiteEnds.{ConfigGoes}
 use Rattle.vx_diskset.proofs.NotedLikes.{same_size}
-use Rattle.vx_diskset.specs.Aboves.{site_in}
+use Rattle.vx_diskset.specs.Aboves.{IsOutside, IsOutsideOf, above_in, above_site, site_in}
 use Rattle.vx_diskset.specs.Asked.{SameFailing}
 use Rattle.vx_diskset.specs.GroupCalls.{CalledOn}
 use Rattle.vx_diskset.specs.GroupSets.{cut_behind, cut_value}
+use Rattle.vx_diskset.specs.Holds.{KeptBeside, beside_of}
+use Rattle.vx_diskset.specs.Layouts.{units_of}
 use Rattle.vx_diskset.specs.Noted.{IsNoteTidy, RestsNamed, below_rvg}
 use Rattle.vx_diskset.specs.OverPlains.{OnOver}
 use Rattle.vx_diskset.specs.OverWrites.{WritesBelow, WroteBelow}
-use Rattle.vx_diskset.specs.Stands.{faults_at}
+use Rattle.vx_diskset.specs.Stands.{OverStands, faults_at}
 use Rattle.vx_diskset.specs.declared.disk_set.DiskSet.{DiskSet}
 use Rattle.vx_diskset.specs.declared.disk_set.DiskSet.TheVariants.{Over}
 use Rattle.vx_diskset.specs.declared.over_set.OverSet.{OverSet}
+use Rattle.vx_diskset.specs.declared.over_set.OverSite.{OverSite}
+use Rattle.vx_diskset.specs.declared.over_set.OverSite.TheVariants.{Origin as OriginSite, Receiver as ReceiverSite, Deported as GroupAway, Down as GroupFell, Gone as NoGroup}
+use Rattle.vx_events.proofs.DataNamed.{SpanTests, put_tests, write_tests}
+use Rattle.vx_events.proofs.OtherKinds.{IsOtherPlace, other_number, plain_written}
 use Rattle.vx_events.proofs.Places.{some_same}
+use Rattle.vx_events.proofs.Refused.{Named}
 use Rattle.vx_events.proofs.RefusedCalls.{CallMay}
 use Rattle.vx_events.proofs.RvgMissed.{missed_node, missed_note}
 use Rattle.vx_events.proofs.RvgStays.{then_same}
@@ -53,7 +65,7 @@ use Rattle.vx_events.specs.GroupMaps.{FailedIn, MapsLost, MapsOfDoubt, MapsOfWri
 use Rattle.vx_events.specs.GroupNotes.{Reconfigures, note_at}
 use Rattle.vx_events.specs.GroupViews.{noted_table}
 use Rattle.vx_events.specs.LinkedFacts.{linked_fact}
-use Rattle.vx_events.specs.RvgFits.{NoteKeepsRvg, entries_noted, rvg_noted}
+use Rattle.vx_events.specs.RvgFits.{NoteKeepsRvg, config_rvg, entries_noted, rvg_noted}
 use Rattle.vx_events.specs.RvgOver.{BelowEnds, EndsWrite, OverRvg, fact_kind, kind_named, missed_in, note_loosened}
 use Rattle.vx_events.specs.RvgSteps.{over_rvg_at, rvg_place}
 use Rattle.vx_events.specs.RvgViews.{is_over_rvg, over_table, table_at}
@@ -61,15 +73,16 @@ use Rattle.vx_events.specs.declared.said.Said.{Said}
 use Rattle.vx_events.specs.declared.said.Said.TheVariants.{Done, Refused}
 use Rattle.vx_yard.proofs.Carrying.{LetsGo, LetsGoBy, SameLoad}
 use Rattle.vx_yard.proofs.Lists.{set_same}
-use Rattle.vx_yard.proofs.NamedSite.{place_at}
+use Rattle.vx_yard.proofs.NamedSite.{fact_named, place_at}
 use Rattle.vx_yard.proofs.OneSite.{Changed}
 use Rattle.vx_yard.proofs.Rows.{fact_from, fact_like}
 use Rattle.vx_yard.specs.AboveLines.{LeadsAbove}
 use Rattle.vx_yard.specs.Standing.{StandsFor}
 use Rattle.vx_yard.specs.Stands.{RoseAll}
+use Rattle.vx_yard.specs.Working.{IsFree}
 use Rattle.vx_yard.specs.Writes.{IsWriteLine, below_facts}
 use Rattle.vx_yard.specs.Writes.IsWriteLine.{OfPut, OfWrite}
-use Rattle.vx_yard.specs.Yards.{IsTold, count_of}
+use Rattle.vx_yard.specs.Yards.{IsTold, count_of, in_files}
 use Rattle.vx_yard.specs.declared.yard.Yard.{Yard}
 use Rattle.vx_above.proofs.Changing.{moves_table, moves_to, reconfigures}
 use Rattle.vx_above.proofs.Fails.{calls_of}
@@ -176,6 +189,10 @@ module _ {R : Type 0} {g : Ghosts R} where
     -- none was cut before it
     clear : (note_at (d.world.nodes s)).cut ≡ None
     clear = let rests = call.called.at.named.6 in rests.0 call.called.up
+
+    -- a configuration as one is noted
+    abbrev at_was : Config → Config
+    at_was c = at_serial 0 c
 
     -- ---- the configuration that it leaves
 
@@ -320,6 +337,32 @@ module _ {R : Type 0} {g : Ghosts R} where
     wrote_stops IsOff wrote cut rests facts lets = wrote_off wrote cut rests facts (record { flight = lets.flight; assemblies = lets.assemblies; feeders = lets.feeders })
     wrote_stops other wrote cut rests facts lets = absurd wrote
 
+  -- ---- the volume is none of those of the replicated volume group
+
+  outside_site : (beside : KeptBeside) (n : Node) (s : OverSite R g) (units : Units) (place : ℕ) → OverStands beside n s → units_of n ≡ units → IsOtherPlace units place → IsOutside place (above_site s)
+  outside_site beside n (OriginSite f) units place it same other = subst (λ (u : Units). IsOutsideOf u place) (sym (it.units ∙ same)) (record { log = other.log; maps = other.maps; vols = other.vols })
+  outside_site beside n (ReceiverSite f) units place it same other = subst (λ (u : Units). IsOutsideOf u place) (sym (it.units ∙ same)) (record { log = other.log; maps = other.maps; vols = other.vols })
+  outside_site beside n (GroupAway idle) units place it same other = tt
+  outside_site beside n (GroupFell idle) units place it same other = tt
+  outside_site beside n NoGroup units place it same other = absurd it
+
+  -- the tests of the volume of the line
+  span_tests : (y : Yard R g) (line : ScriptLine) (name volume : List ℕ) (start : ℕ) (bytes : List ℕ) (n : Named y.facts.items name) (f : SiteFacts) → IsWriteLine line name volume start bytes → IsFree y line → n.facts ≡ f → (count : ℕ) × SpanTests f volume start count
+  span_tests y line name volume start bytes n f (OfWrite count fill is filled) free fact = (count, write_tests f y.facts.items (in_files y) name volume start count fill n fact (subst (λ (l : ScriptLine). IsFree y l) is free))
+  span_tests y line name volume start bytes n f (OfPut is one) free fact = (1, put_tests f y.facts.items (in_files y) name volume start bytes n fact (subst (λ (l : ScriptLine). IsFree y l) is free))
+
+  outside_of : (d : Doubted) (y : Yard R g) (line : ScriptLine) (name volume : List ℕ) (start : ℕ) (bytes : List ℕ) (count s place : ℕ) (e : DiskSet R g) → IsWriteLine line name volume start bytes → IsFree y line → (may : CallMay y.facts.items name volume start count)
+      → seat_of y.facts.items name ≡ Some s → (call : BelowCall d y name volume start count s place e) → IsOutside place (above_in call.at.set)
+  outside_of d y line name volume start bytes count s place e is free may seat call =
+      let n : Node = d.world.nodes s in
+      let tests : (count : ℕ) × SpanTests (linked_fact d.world s) volume start count = span_tests y line name volume start bytes may.site (linked_fact d.world s) is free (fact_named d y name s call.at.seat seat may.site) in
+      let kind : call.found.kind ≡ Plain = plain_written d.world s volume start tests.0 call.up tests.1 call.found call.finds call.off in
+      let other : (i : ℕ) × (position (λ (v : VolumeEntry). bytes_eq v.name volume) call.at.named.0.volumes ≡ Some i) × IsOtherPlace call.at.named.1 i =
+      other_number n volume call.found call.at.named.0 call.at.named.1 call.at.over call.at.named.2 call.at.named.3 call.at.named.4 call.finds call.off kind in
+      let here : place ≡ other.0 = call.placed ∙ ap (λ (o : Option ℕ). unwrap_or o 0) other.1 in
+      let units : units_of n ≡ call.at.named.1 = some_same (sym call.at.noted.3.named ∙ ap (λ (o : Option Config). config_rvg o) call.at.named.2 ∙ call.at.named.3) in
+      outside_site (beside_of d s) n call.at.set.site call.at.named.1 place call.at.stands.1 units (subst (λ (k : ℕ). IsOtherPlace call.at.named.1 k) (sym here) other.2)
+
   -- ---- the line, in the world before it, and in the one in which no maps are noted
 
   module _ (d : Doubted) (old : Yard R g) (name volume : List ℕ) (start count s place : ℕ) (before : DiskSet R g) (stands : StandsFor d old) (seat : seat_of old.facts.items name ≡ Some s) (over : over_rvg_at d.world name ≡ true)
@@ -366,13 +409,20 @@ module _ {R : Type 0} {g : Ghosts R} where
     pub bare_call : BelowCall (missed_in no_maps d s) old name volume start count s place before
     bare_call = below_call (missed_in no_maps d s) old name volume start count s place before bare_stands seat bare_over bare_plain may there number
 
+    -- what the tests see of the site
+    pub bare_fact : slice_get old.facts.items s ≡ Some (linked_fact (missed_in no_maps d s).world s)
+    bare_fact = bare_call.at.seat.fact
+
     bare_none : (note_at ((missed_in no_maps d s).world.nodes s)).maps ≡ no_maps
     bare_none = ap (λ (k : GroupNode). k.maps) (missed_note no_maps d s)
 
-    module _ (new : Yard R g) (line : ScriptLine) (bytes : List ℕ) (after : DiskSet R g) (is : IsWriteLine line name volume start bytes) (many : length bytes ≡ 512 * count) (changed : Changed old new s before after) (failing : SameFailing before after)
+    module _ (new : Yard R g) (line : ScriptLine) (bytes : List ℕ) (after : DiskSet R g) (is : IsWriteLine line name volume start bytes) (free : IsFree old line) (many : length bytes ≡ 512 * count) (changed : Changed old new s before after) (failing : SameFailing before after)
         (since : CalledOn before after) where
       abbrev writes : Result (Unit {0}) No → OverSet R g → OverSet R g → Type 0
       writes r = WritesBelow place start bytes r
+
+      outside : IsOutside place (above_in bare_call.at.set)
+      outside = outside_of (missed_in no_maps d s) old line name volume start bytes count s place before is free may seat bare_call
 
       fits : FitsPlain (note_at ((missed_in no_maps d s).world.nodes s)) place start (length bytes)
       fits = record {
@@ -404,10 +454,10 @@ module _ {R : Type 0} {g : Ghosts R} where
           leads_above no_maps d line s said old new (missed_carries no_maps d old name s before stands at there) (write_seat d line name volume start bytes is ∙ (place_at d old name s stands seat).number)
           (write_turns (IsTold new) d line name volume start bytes s said is plain_here) it
 
-      pub write_above : OnOver (WritesBelow place start bytes (Ok tt)) before after → new.facts ≡ old.facts → SameLoad old new → LeadsAbove d line Done old new
-      write_above wrote facts load =
-          let to : OverBehind (WritesBelow place start bytes (Ok tt) bare_call.at.set) after = overs_behind (writes (Ok tt)) before after bare_call.at.set bare_call.at.is_set wrote in
-          above Done (wrote_done (missed_in no_maps d s) old new line name volume start bytes s place before after to.set bare_stands is (call_of (Ok tt) to)
+      pub write_above : (done : Unit {0}) → OnOver (WritesBelow place start bytes (Ok done)) before after → new.facts ≡ old.facts → SameLoad old new → LeadsAbove d line Done old new
+      write_above done wrote facts load =
+          let to : OverBehind (WritesBelow place start bytes (Ok done) bare_call.at.set) after = overs_behind (writes (Ok done)) before after bare_call.at.set bare_call.at.is_set wrote in
+          above Done (wrote_done (missed_in no_maps d s) old new line name volume start bytes s place before after to.set bare_stands is (call_of (Ok done) to)
           (to.holds.wrote (below_rvg ((missed_in no_maps d s).world.nodes s)) (note_at ((missed_in no_maps d s).world.nodes s)) bare_call.asks fits) to.holds.cut (ap (λ fs. fs.items) facts) load)
 
       pub stop_above : (no : No) → OnOver (WritesBelow place start bytes (Err no)) before after → new.facts.items ≡ slice_set old.facts.items s (below_facts no (linked_fact (missed_in no_maps d s).world s)) → LetsGoBy no old new s

@@ -79,8 +79,8 @@ fn is_plain_in(volumes: &[VolumeFacts], place: usize) -> bool
     }
 }
 
-/// Whether a volume is one of a group, and no data volume of a replicated volume group.
-pub fn is_plain<R: Rack>(yard: &Yard<R>, name: &Name, volume: &Name) -> bool
+// Whether a volume is one of a group, and no data volume of a replicated volume group.
+fn is_plain<R: Rack>(yard: &Yard<R>, name: &Name, volume: &Name) -> bool
     requires kept { IsYardKept yard.now }
     requires named { IsSome (seat_of yard.now.facts.items name.now) }
     requires there { (s : ℕ) (f : SiteFacts) → seat_of yard.now.facts.items name.now ≡ Some s → slice_get yard.now.facts.items s ≡ Some f → IsSome (place_of f.volumes volume.now) }

@@ -1,6 +1,8 @@
 // The number of a volume in the group of a site. The tests see the data volumes of a replicated volume group first, so that a place in their table is another
 // number.
+ghost use Rattle.std.specs.List.{position};
 ghost use Rattle.std.specs.Prelude.{◌≡◌, ◌<◌, ◌≤◌, length, option_copied, Some, true};
+ghost use Rattle.std.specs.Str.{bytes_eq};
 ghost use Rattle.vx_config.specs.Checks.{is_sound};
 ghost use Rattle.vx_config.specs.declared.config.Config.{Config as ConfigValue};
 ghost use Rattle.vx_model.specs.declared.limits.TheConstants.{MOST_VOLUMES};
@@ -11,15 +13,21 @@ use vx_disk::Rack;
 use vx_model::Name;
 use vx_yard::Yard;
 
-// Of these volumes the first of this name; 0 where none has it.
+// The place of the first of these volumes that has this name.
+fn find_in(volumes: &[VolumeEntry], name: &Name) -> Option<usize>
+    ensures { result ≡ position (λ volume. bytes_eq volume.name name.now) volumes.now }
+{
+    volumes
+        .iter()
+        .position(|volume| volume.name.as_bytes() == name.as_bytes())
+}
+
+// The same as a number; 0 where none has it.
 fn place_in(volumes: &[VolumeEntry], name: &Name) -> u32
     requires few { length volumes.now ≤ MOST_VOLUMES }
     ensures { result ≡ number_in volumes.now name.now }
 {
-    match volumes
-        .iter()
-        .position(|volume| volume.name.as_bytes() == name.as_bytes())
-    {
+    match find_in(volumes, name) {
         Some(place) => place as u32,
         None => 0,
     }

@@ -9,8 +9,10 @@ use Rattle.vx_events.specs.declared.said.Said.{Said}
 use Rattle.vx_yard.proofs.ChangeSite.{told_before}
 use Rattle.vx_yard.proofs.Lists.{get_at}
 use Rattle.vx_yard.proofs.Seats.{named_some}
+use Rattle.vx_yard.specs.AboveLines.{LeadsAbove}
 use Rattle.vx_yard.specs.Standing.{LeadsOver}
 use Rattle.vx_yard.specs.Stands.{AreTold}
+use Rattle.vx_group_lines.proofs.BelowWrites.{bare_fact, stop_above, write_above}
 use Rattle.vx_group_lines.proofs.GroupCalls.{at_up}
 use Rattle.vx_group_lines.proofs.GroupPlain.{plain_fits, plain_numbered}
 use Rattle.vx_group_lines.proofs.GroupWrite.{block_count, may_write, write_asks, write_calls, write_done, write_over, write_stops}
@@ -115,3 +117,31 @@ returns-in-Err-clause-told g c = λ told.
 
 pub returns-in-Err-clause-files : goal.returns-in-Err-clause-files
 returns-in-Err-clause-files g c = ap (λ dir. is_some dir) c.group_refused.ensures.same.dir
+
+pub returns-in-Ok-clause-above : goal.returns-in-Ok-clause-above
+returns-in-Ok-clause-above g c = λ d line stands is free over plain.
+    let y = c.args.yard.now in
+    let s = c.site_of-site.result in
+    let e = c.index_mut.result.now in
+    let seat : seat_of y.facts.items c.args.name.now ≡ Some c.site_of-site.result = c.site_of-site.ensures.seat in
+    let at = get_at y.disk_sets.items s e c.site_of-site.ensures.disk_set c.index_mut.ensures.value in
+    let may = may_write y line c.args.name.now c.args.volume.now c.args.start c.args.bytes.now is free in
+    write_above d y c.args.name.now c.args.volume.now c.args.start (blocks_in c.args.bytes.now) s c.number_of-place.result e stands seat over plain may.call at c.number_of-place.ensures _ line c.args.bytes.now c.write_plain.new.self is free
+    (block_count line c.args.name.now c.args.volume.now c.args.start c.args.bytes.now is) (record { there = at; later = c.in-Ok.ensures.later; disk_sets = refl; racks = refl }) c.in-Ok.ensures.failing c.in-Ok.ensures.since
+    _ c.in-Ok.ensures.over refl (record { flight = refl; assemblies = refl; feeders = refl })
+
+pub returns-in-Err-clause-above : goal.returns-in-Err-clause-above
+returns-in-Err-clause-above g c = λ d line stands is free over plain.
+    let y = c.args.yard.now in
+    let s = c.site_of-site.result in
+    let e = c.index_mut.result.now in
+    let seat : seat_of y.facts.items c.args.name.now ≡ Some c.site_of-site.result = c.site_of-site.ensures.seat in
+    let at = get_at y.disk_sets.items s e c.site_of-site.ensures.disk_set c.index_mut.ensures.value in
+    let may = may_write y line c.args.name.now c.args.volume.now c.args.start c.args.bytes.now is free in
+    let same = c.group_refused.ensures.same in
+    let fact = bare_fact d y c.args.name.now c.args.volume.now c.args.start (blocks_in c.args.bytes.now) s c.number_of-place.result e stands seat over plain may.call at c.number_of-place.ensures in
+    subst (λ (r : Said). LeadsAbove d line r y c.group_refused.new.yard) (sym c.group_refused.ensures.said)
+    (stop_above d y c.args.name.now c.args.volume.now c.args.start (blocks_in c.args.bytes.now) s c.number_of-place.result e stands seat over plain may.call at c.number_of-place.ensures c.group_refused.new.yard line c.args.bytes.now c.write_plain.new.self is free
+    (block_count line c.args.name.now c.args.volume.now c.args.start c.args.bytes.now is) (record { there = at; later = c.in-Err.ensures.later; disk_sets = ap (λ es. es.items) same.disk_sets; racks = same.racks }) c.in-Err.ensures.failing c.in-Err.ensures.since
+    c.in-Err.no c.in-Err.ensures.over (c.group_refused.ensures.facts _ fact)
+    (record { flight = same.flight; assemblies = c.group_refused.ensures.assemblies; feeders = ap (λ fs. fs.items) same.feeders }))
