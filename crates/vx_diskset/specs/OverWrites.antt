@@ -1,5 +1,5 @@
 -- What a write to a volume of the group below a replicated volume group answers, where it is none of that one's, and what it leaves of the site.
-use Rattle.std.specs.Prelude.{◌≡◌, ℕ, Bool, true, List, length, Result, Ok, Err}
+use Rattle.std.specs.Prelude.{◌≡◌, ℕ, Bool, true, false, List, length, Result, Ok, Err}
 use Rattle.vx_disk.specs.Counts.{Rose}
 use Rattle.vx_disk.specs.declared.shelf.Shelf.{Ghosts}
 use Rattle.vx_events.specs.RvgOver.{note_loosened}
