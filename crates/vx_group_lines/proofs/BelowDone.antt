@@ -129,7 +129,7 @@ off_by : (xs : List (List ℕ)) (b : Bool) → xs ≡ [] → (not b && any_begun
 off_by xs true is = refl
 off_by xs false is = ap (λ (ys : List (List ℕ)). any_begun ys) is
 
-pub pub tight_then : (note next : GroupNode) → IsNoteTidy note → NoteSettles note next → next.loose ≡ false → next.begun ≡ []
+pub tight_then : (note next : GroupNode) → IsNoteTidy note → NoteSettles note next → next.loose ≡ false → next.begun ≡ []
 tight_then note next tidy settles tight = by settles.begun
   where
     by_old : (b : Bool) → note.loose ≡ b → (note.loose ≡ true → next.loose ≡ true) → next.begun ≡ []

@@ -7,9 +7,7 @@ use std::test::Fail;
 fn a_run_ends_at_an_open_line(rt: HostRuntime) -> Result<(), Fail> {
     let made = "rvg a srl=log1 dcm=maps vols=v\n";
     let wanted = "done\ndone\ndone\ndone\ndone\ndone\nbad 7 1\n";
-    for line in [
-        "vol a w 64 mirrors=1 layout=concat log=none fmr=off rdpol=round\n",
-    ] {
+    for line in ["vol a w 64 mirrors=1 layout=concat log=none fmr=off rdpol=round\n"] {
         assert!(rt; ends_at(&rt, rt.alloc(), made, line, 7, wanted)?, "{line}");
     }
     Ok(())
