@@ -12,11 +12,11 @@ use Rattle.vx_effects.proofs.Groups.{deport_effect}
 use Rattle.vx_effects.proofs.Leaving.{fit_note, fit_worked}
 use Rattle.vx_effects.proofs.Rises.{note_effect}
 use Rattle.vx_effects.proofs.Rows.{touch_kept}
-use Rattle.vx_history.specs.Doubts.{Doubted, happened}
+use Rattle.vx_history.specs.Doubts.{After, Doubted, happened}
 use Rattle.vx_history.specs.Events.{kept_of, lost_touch}
 use Rattle.vx_history.specs.Groups.{GroupNode}
 use Rattle.vx_history.specs.Steps.{burned, crashed, deported_site, worked_on}
-use Rattle.vx_history.specs.World.{After, Fuse, Node, World}
+use Rattle.vx_history.specs.World.{Fuse, Node, World}
 use Rattle.vx_history.specs.declared.event.Event.TheVariants.{Deport as DeportAt}
 use Rattle.vx_watched.specs.Since.{CalledSince}
 use Rattle.vx_grouped.specs.GroupSites.{AwayNoted, deported_with, idle_below, idle_disks, site_disks, with_note}

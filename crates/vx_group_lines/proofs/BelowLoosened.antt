@@ -1,5 +1,5 @@
 -- What a call on the group below a replicated volume group leads the yard to, that wrote to no volume, where imports of the group may disagree behind it.
-use Rattle.std.proofs.Common.{◌≡◌, ℕ, Bool, true, List, length, refl, sym}
+use Rattle.std.proofs.Common.{◌≡◌, ℕ, Bool, true, false, List, length, refl, sym}
 use Rattle.std.specs.Prelude.{Some, slice_set}
 use Rattle.vx_model.specs.declared.units.Units.{Units}
 use Rattle.vx_disk.specs.declared.shelf.Shelf.{Ghosts}
