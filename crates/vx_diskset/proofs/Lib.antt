@@ -32,6 +32,7 @@ pub mod OverKept
 pub mod OverLikes
 pub mod OverPlain
 pub mod CallsBelow
+pub mod MakesBelow
 pub mod Tidied
 pub mod OverReads
 pub mod OverReceivers

@@ -18,6 +18,7 @@ ghost use Rattle.vx_diskset.specs.DiskSets.{Later};
 ghost use Rattle.vx_diskset.specs.GroupCalls.{AtPlain, AtSite, CalledOn, OnSites, config_in, cut_in};
 ghost use Rattle.vx_diskset.specs.GroupSets.{cut_behind, cut_value};
 ghost use Rattle.vx_diskset.specs.OverAways.{DeportsBelow};
+ghost use Rattle.vx_diskset.specs.OverVolumes.{VolsBelow};
 ghost use Rattle.vx_diskset.specs.OverPlains.{AttsBelow, DetsBelow, OnOver, ReadsBelow};
 ghost use Rattle.vx_watched.specs.Traces.{TellsLess};
 
@@ -124,6 +125,7 @@ impl<R: Rack> DiskSet<R> {
         ensures maps { (n : Node) (note : GroupNode) → AtSite (UpNoted n note) self.old → OnSites (λ o e. AddedMapped o e result) self.old self.new }
         ensures refused { (n : Node) (note : GroupNode) (no : NoValue) → AtSite (UpNoted n note) self.old → AtPlain (λ o. refuses_volume o name.now want.now ≡ Some no) self.old → result ≡ Err (Refused no) }
         ensures volume { (n : Node) (note : GroupNode) → AtSite (UpNoted n note) self.old → IfOk result (λ vol. OnSites (VolumeIn name.now want.now vol) self.old self.new) }
+        ensures over { OnOver (VolsBelow name.now want.now result) self.old self.new }
         ensures cut { cut_in self.new ≡ cut_in self.old }
         ensures fuse { (n : Node) (note : GroupNode) → AtSite (UpNoted n note) self.old → FuseGoesOn self.old self.new }
         ensures failing { SameFailing self.old self.new }
@@ -132,6 +134,7 @@ impl<R: Rack> DiskSet<R> {
     {
         match self {
             DiskSet::OfGroup(group) => group.site.make_volume(alloc, name, want),
+            DiskSet::Over(over) => over.make(alloc, name, want),
             _ => Err(Stop::No(No::Role)),
         }
     }
