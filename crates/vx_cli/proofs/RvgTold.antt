@@ -7,7 +7,7 @@ use Rattle.vx_model.specs.declared.no.No.{No}
 use Rattle.vx_model.specs.declared.units.Units.{Units}
 use Rattle.vx_order.specs.Calls.{is_data}
 use Rattle.vx_script.specs.declared.line.ScriptLine.{ScriptLine}
-use Rattle.vx_script.specs.declared.line.ScriptLine.TheVariants.{GroupDeport, GroupImport, PlexAttach, PlexDetach, Put, Read, Recover, Rvg, Show, Write}
+use Rattle.vx_script.specs.declared.line.ScriptLine.TheVariants.{GroupDeport, GroupImport, PlexAttach, PlexDetach, Put, Read, Recover, Rvg, Show, Volume, Write}
 use Rattle.vx_events.specs.Ends.{place_of}
 use Rattle.vx_events.specs.Facts.{site_number}
 use Rattle.vx_events.specs.Fails.{Fails}
@@ -117,6 +117,7 @@ module _ {T U : Type 0} (f : U → T) where
 
   place_told : (d : Doubted) (line : ScriptLine) (s : ℕ) (fails : Fails) (said : Said) (new : Doubted) → OverRvg T d line s fails said new → OverRvg U d line s fails said new
   place_told d (GroupDeport site) s fails said new x = below_told d (GroupDeport site) s fails said new x
+  place_told d (Volume site volume blocks mirrors layout log map policy) s fails said new x = below_told d (Volume site volume blocks mirrors layout log map policy) s fails said new x
   place_told d (PlexDetach site volume plex) s fails said new x = below_told d (PlexDetach site volume plex) s fails said new x
   place_told d (PlexAttach site volume plex) s fails said new x = below_told d (PlexAttach site volume plex) s fails said new x
   place_told d (GroupImport site) s fails said new (inl x) = inl (takes_told d (GroupImport site) s fails said new x)

@@ -40,7 +40,7 @@ open_links w other closed = closed
 
 pub open_beside : (w : World) (line : ScriptLine) → is_for_rvg w line ≡ false → links_rvg w line ≡ false → is_open w line ≡ false
 open_beside w (GroupImport site) off links = off
-open_beside w (Volume site volume blocks mirrors layout log map policy) off links = off
+open_beside w (Volume site volume blocks mirrors layout log map policy) off links = halted_off (w.nodes (site_number w site)) off
 open_beside w (PlexDetach site volume plex) off links = halted_off (w.nodes (site_number w site)) off
 open_beside w (PlexAttach site volume plex) off links = halted_off (w.nodes (site_number w site)) off
 open_beside w (Write site volume start count fill) off links = volume_off (w.nodes (site_number w site)) volume off
@@ -98,7 +98,7 @@ module _ (w : World) (none : HasNoRvgs w) where
 
   pub open_none : HasNoOpen w
   open_none (GroupImport site) = none (site_number w site)
-  open_none (Volume site volume blocks mirrors layout log map policy) = none (site_number w site)
+  open_none (Volume site volume blocks mirrors layout log map policy) = halted_off (w.nodes (site_number w site)) (none (site_number w site))
   open_none (PlexDetach site volume plex) = halted_off (w.nodes (site_number w site)) (none (site_number w site))
   open_none (PlexAttach site volume plex) = halted_off (w.nodes (site_number w site)) (none (site_number w site))
   open_none (Write site volume start count fill) = volume_off (w.nodes (site_number w site)) volume (none (site_number w site))

@@ -12,7 +12,7 @@ use Rattle.vx_history.specs.World.{NoFuse, World}
 use Rattle.vx_history.specs.declared.event.Event.{Event}
 use Rattle.vx_history.specs.declared.event.Event.TheVariants.{Recover as RecoverAt, Fall as FallAt}
 use Rattle.vx_script.specs.declared.line.ScriptLine.{ScriptLine}
-use Rattle.vx_script.specs.declared.line.ScriptLine.TheVariants.{Apply, Crash, Disk as DiskLine, Fuse as FuseLine, GroupDeport, GroupImport, PlexAttach, PlexDetach, Put, Raw, Read, Recover, Show, Site, Status, Write}
+use Rattle.vx_script.specs.declared.line.ScriptLine.TheVariants.{Apply, Crash, Disk as DiskLine, Fuse as FuseLine, GroupDeport, GroupImport, PlexAttach, PlexDetach, Put, Raw, Read, Recover, Show, Site, Status, Volume, Write}
 use Rattle.vx_events.proofs.GroupStopping.{group_stops, noted_like}
 use Rattle.vx_events.proofs.KnownLaws.{finds_none}
 use Rattle.vx_events.proofs.Noting.{as_like, disks_like, like_disks, like_noted, like_self, like_then, like_site}
@@ -238,6 +238,7 @@ module _ (told : Type 0) (d : Doubted) (s : ℕ) (fails : Fails) (said : Said) (
   -- the line ended as events do, or found something on disks of which nothing is known
   pub stops_or_finds : (line : ScriptLine) → OpensFor d.world line → OverRvg told d line s fails said new → RvgStops d new ⊎ RvgFinds told d line s fails said new
   stops_or_finds (GroupDeport site) opens ends = inl (below_stops told d (GroupDeport site) s fails said new ends)
+  stops_or_finds (Volume site volume blocks mirrors layout log map policy) opens ends = inl (below_stops told d (Volume site volume blocks mirrors layout log map policy) s fails said new ends)
   stops_or_finds (PlexDetach site volume plex) opens ends = inl (below_stops told d (PlexDetach site volume plex) s fails said new ends)
   stops_or_finds (PlexAttach site volume plex) opens ends = inl (below_stops told d (PlexAttach site volume plex) s fails said new ends)
   stops_or_finds (GroupImport site) opens ends = takes_or (GroupImport site) ends

@@ -10,7 +10,7 @@ use Rattle.vx_history.specs.World.{NoFuse, Node, World}
 use Rattle.vx_config.specs.declared.config.Config.{Config}
 use Rattle.vx_model.specs.declared.units.Units.{Units}
 use Rattle.vx_script.specs.declared.line.ScriptLine.{ScriptLine}
-use Rattle.vx_script.specs.declared.line.ScriptLine.TheVariants.{Apply, GroupDeport, GroupImport, PlexAttach, PlexDetach, Put, Read, Recover, Show, Write}
+use Rattle.vx_script.specs.declared.line.ScriptLine.TheVariants.{Apply, GroupDeport, GroupImport, PlexAttach, PlexDetach, Put, Read, Recover, Show, Volume, Write}
 use Rattle.vx_order.specs.Calls.{is_data}
 use Rattle.vx_events.proofs.ReadsLeave.{read_by, read_note}
 use Rattle.vx_events.proofs.WritesBelow.{write_by}
@@ -158,6 +158,7 @@ module _ (told : Type 0) (tells : told) (d : Doubted) (s : ℕ) (known : (note_a
 
   pub over_known : (line : ScriptLine) → (MayDarken here line said → ⊥) → OverRvg told d line s fails said new → (note_at (new.world.nodes s)).dark ≡ false
   over_known (GroupDeport site) free ends = below_known (GroupDeport site) free ends
+  over_known (Volume site volume blocks mirrors layout log map policy) free ends = below_known (Volume site volume blocks mirrors layout log map policy) free ends
   over_known (PlexDetach site volume plex) free ends = below_known (PlexDetach site volume plex) free ends
   over_known (PlexAttach site volume plex) free ends = below_known (PlexAttach site volume plex) free ends
   over_known (GroupImport site) free ends = takes_or_known (GroupImport site) free ends

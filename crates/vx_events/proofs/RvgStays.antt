@@ -11,10 +11,10 @@ use Rattle.vx_model.specs.Content.{Write as BlockWrite}
 use Rattle.vx_config.specs.declared.config.Config.{Config}
 use Rattle.vx_model.specs.declared.site.PlexState.TheVariants.{Active, Stale}
 use Rattle.vx_script.specs.declared.line.ScriptLine.{ScriptLine}
-use Rattle.vx_script.specs.declared.line.ScriptLine.TheVariants.{Apply, GroupDeport, GroupImport, PlexAttach, PlexDetach, Put, Read, Recover, Show, Write}
+use Rattle.vx_script.specs.declared.line.ScriptLine.TheVariants.{Apply, GroupDeport, GroupImport, PlexAttach, PlexDetach, Put, Read, Recover, Show, Volume, Write}
 use Rattle.vx_events.proofs.KnownLaws.{group_stays, left_note, never}
 use Rattle.vx_events.proofs.Places.{some_same}
-use Rattle.vx_events.proofs.PlexKeeps.{puts_or}
+use Rattle.vx_events.proofs.PlexKeeps.{puts_or, volume_keeps}
 use Rattle.vx_events.proofs.RvgConfigs.{again_keeps, closed_keeps, keeps_self, keeps_then, loses_keeps, stayed}
 use Rattle.vx_events.proofs.RvgKnown.{back_dark, lost_group, noted_here, noted_over_here}
 use Rattle.vx_events.proofs.RvgMissed.{loosened_note, missed_keeps}
@@ -258,6 +258,9 @@ module _ (told : Type 0) (d : Doubted) (s : ℕ) (fails : Fails) (said : Said) (
   -- the line left it noted so, or found something on disks of which nothing is known
   pub stays_or_finds : (line : ScriptLine) → OverRvg told d line s fails said new → Stays ⊎ RvgFinds told d line s fails said new
   stays_or_finds (GroupDeport site) ends = inl (below_stays told d site s fails said new ends)
+  stays_or_finds (Volume site volume blocks mirrors layout log map policy) ends =
+      inl (below_keeps told d (Volume site volume blocks mirrors layout log map policy) s fails said new (λ brings. brings) (λ n note next does. volume_keeps s fails volume _ note next does.0)
+      (λ note next spoils. mapped_by note next (λ c e. loses_keeps (λ _. false) s fails c e) spoils) (λ note next cuts. mapped_by note next (λ c e. loses_keeps (λ _. false) s fails c e) cuts) ends)
   stays_or_finds (PlexDetach site volume plex) ends =
       inl (below_keeps told d (PlexDetach site volume plex) s fails said new (λ brings. brings)
       (λ n note next does. mapped_by note next (λ c e x. puts_or (λ _. false) s fails (plain_number note volume) plex Stale c e (inr x)) does.0)

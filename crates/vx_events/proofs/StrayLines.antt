@@ -8,7 +8,7 @@ use Rattle.vx_history.specs.World.{Node, World}
 use Rattle.vx_history.specs.declared.event.Event.{Event}
 use Rattle.vx_history.specs.declared.event.Event.TheVariants.{Crash as CrashAt, Fault, Recover as RecoverAt, Fall as FallAt}
 use Rattle.vx_script.specs.declared.line.ScriptLine.{ScriptLine}
-use Rattle.vx_script.specs.declared.line.ScriptLine.TheVariants.{GroupDeport, GroupImport, PlexAttach, PlexDetach, Put, Read, Recover, Rvg, Show, Write}
+use Rattle.vx_script.specs.declared.line.ScriptLine.TheVariants.{GroupDeport, GroupImport, PlexAttach, PlexDetach, Put, Read, Recover, Rvg, Show, Volume, Write}
 use Rattle.vx_events.proofs.Straying.{run_strays, runs_strays}
 use Rattle.vx_events.specs.Doubts.{IsAs}
 use Rattle.vx_events.specs.Ends.{AllDone, DiskFails, Ends, FindsLinks, FindsNone, FromBare, FromDown, FromUp, FuseRunsOut, HeaderFails, NoNumber, Recovering, ShowsReceived, place_of as site_of}
@@ -167,6 +167,7 @@ module _ (told : Type 0) (d : Doubted) (fails : Fails) (said : Said) (new : Doub
 
   over_found : (line : ScriptLine) (s : ℕ) → OverRvg told d line s fails said new → CalmOrFinds s line
   over_found (GroupDeport site) s ends = inl (below_strays told d (GroupDeport site) s fails said new ends)
+  over_found (Volume site volume blocks mirrors layout log map policy) s ends = inl (below_strays told d (Volume site volume blocks mirrors layout log map policy) s fails said new ends)
   over_found (PlexDetach site volume plex) s ends = inl (below_strays told d (PlexDetach site volume plex) s fails said new ends)
   over_found (PlexAttach site volume plex) s ends = inl (below_strays told d (PlexAttach site volume plex) s fails said new ends)
   over_found (GroupImport site) s ends = takes_found (GroupImport site) s ends

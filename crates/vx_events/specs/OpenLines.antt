@@ -21,7 +21,7 @@ is_open_volume n volume = is_over_rvg n && not (is_data (kind_named n volume))
 
 abbrev pub is_open : World → ScriptLine → Bool
 is_open w (GroupImport site) = is_over_rvg (w.nodes (site_number w site))
-is_open w (Volume site volume blocks mirrors layout log map policy) = is_over_rvg (w.nodes (site_number w site))
+is_open w (Volume site volume blocks mirrors layout log map policy) = is_halted_over (w.nodes (site_number w site))
 is_open w (PlexDetach site volume plex) = is_halted_over (w.nodes (site_number w site))
 is_open w (PlexAttach site volume plex) = is_halted_over (w.nodes (site_number w site))
 is_open w (Write site volume start count fill) = is_open_volume (w.nodes (site_number w site)) volume

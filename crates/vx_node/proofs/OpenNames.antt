@@ -22,7 +22,7 @@ use Rattle.vx_events.specs.RvgSteps.{over_rvg_at}
 use Rattle.vx_events.specs.StepsOver.{over_group_at}
 use Rattle.vx_group_lines.proofs.Going.{finds_volume, site_worded, volume_worded}
 use Rattle.vx_group_lines.specs.Plain.{plain_at}
-use Rattle.vx_group_lines.proofs.Tests.{UpMay, attach_may, detach_may}
+use Rattle.vx_group_lines.proofs.Tests.{UpMay, attach_may, detach_may, volume_may}
 use Rattle.vx_link_lines.proofs.AnswerFor.{refused_other}
 use Rattle.vx_yard.proofs.NamedSite.{named_same}
 use Rattle.vx_yard.proofs.Seats.{named_some}
@@ -36,7 +36,6 @@ use Rattle.vx_node.specs.OpenSites.{block_volume, halted_site, open_second, open
 first_of : (line : ScriptLine) (site : List ℕ) → open_site line ≡ Some site → first_name line ≡ Some site
 unfolding first_name
 first_of (GroupImport name) site is = is
-first_of (Volume name volume blocks mirrors layout log map policy) site is = is
 first_of (Write name volume start count fill) site is = is
 first_of (Put name volume start bytes) site is = is
 first_of (Link p s sync prot) site is = is
@@ -44,6 +43,7 @@ first_of other site is = absurd (cc)
 
 first_halted : (line : ScriptLine) (site : List ℕ) → halted_site line ≡ Some site → first_name line ≡ Some site
 unfolding first_name
+first_halted (Volume name volume blocks mirrors layout log map policy) site is = is
 first_halted (PlexDetach name volume plex) site is = is
 first_halted (PlexAttach name volume plex) site is = is
 first_halted other site is = absurd (cc)
@@ -99,6 +99,7 @@ module _ {R : Type 0} {g : Ghosts R} where
 
   -- its site is up
   pub halted_up : (y : Yard R g) (line : ScriptLine) (site : List ℕ) → halted_site line ≡ Some site → line_refusal y.facts.items (in_files y) line ≡ None → (s : ℕ) (f : SiteFacts) → seat_of y.facts.items site ≡ Some s → slice_get y.facts.items s ≡ Some f → f.state ≡ Up
+  halted_up y (Volume name volume blocks mirrors layout log map policy) site is free s f seat at = up_shown y name site s f is (volume_may y.facts.items (in_files y) name volume blocks mirrors layout log map policy free).may seat at
   halted_up y (PlexDetach name volume plex) site is free s f seat at = up_shown y name site s f is (detach_may y.facts.items (in_files y) name volume plex free).may seat at
   halted_up y (PlexAttach name volume plex) site is free s f seat at = up_shown y name site s f is (attach_may y.facts.items (in_files y) name volume plex free).may seat at
   halted_up y other site is free s f seat at = absurd (cc)
@@ -123,6 +124,7 @@ module _ (w : World) where
   halted_first name site is = ap (λ (n : List ℕ). is_halted_over (w.nodes (site_number w n))) (sym (some_same is))
 
   pub open_halted : (line : ScriptLine) (site : List ℕ) → halted_site line ≡ Some site → is_halted_over (w.nodes (site_number w site)) ≡ is_open w line
+  open_halted (Volume name volume blocks mirrors layout log map policy) site is = halted_first name site is
   open_halted (PlexDetach name volume plex) site is = halted_first name site is
   open_halted (PlexAttach name volume plex) site is = halted_first name site is
   open_halted other site is = absurd (cc)
@@ -136,7 +138,6 @@ module _ (w : World) where
 
   pub open_there : (line : ScriptLine) (site : List ℕ) → open_site line ≡ Some site → block_volume line ≡ None → over_rvg_at w site ≡ true → is_open w line ≡ true
   open_there (GroupImport name) site is none over = over_first name site true is over
-  open_there (Volume name volume blocks mirrors layout log map policy) site is none over = over_first name site true is over
   open_there (Write name volume start count fill) site is none over = absurd (cc)
   open_there (Put name volume start bytes) site is none over = absurd (cc)
   open_there (Link p s sync prot) site is none over = either_first p site s true is over
@@ -168,7 +169,6 @@ module _ (w : World) where
 
   pub open_not : (line : ScriptLine) (site : List ℕ) → open_site line ≡ Some site → open_second line ≡ None → over_rvg_at w site ≡ false → is_open w line ≡ false
   open_not (GroupImport name) site is none off = over_first name site false is off
-  open_not (Volume name volume blocks mirrors layout log map policy) site is none off = over_first name site false is off
   open_not (Write name volume start count fill) site is none off = volume_off name site volume is off
   open_not (Put name volume start bytes) site is none off = volume_off name site volume is off
   open_not (Link p s sync prot) site is none off = absurd (cc)

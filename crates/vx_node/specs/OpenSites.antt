@@ -6,7 +6,6 @@ use Rattle.vx_script.specs.declared.line.ScriptLine.TheVariants.{GroupImport, Li
 -- a site: where a replicated volume group is over its group, the line is open, or writes blocks
 abbrev pub open_site : ScriptLine → Option (List ℕ)
 open_site (GroupImport site) = Some site
-open_site (Volume site volume blocks mirrors layout log map policy) = Some site
 open_site (Write site volume start count fill) = Some site
 open_site (Put site volume start bytes) = Some site
 open_site (Link p s sync prot) = Some p
@@ -14,6 +13,7 @@ open_site other = None
 
 -- a site: where a replicated volume group that is halted is over its group, the line is open
 abbrev pub halted_site : ScriptLine → Option (List ℕ)
+halted_site (Volume site volume blocks mirrors layout log map policy) = Some site
 halted_site (PlexDetach site volume plex) = Some site
 halted_site (PlexAttach site volume plex) = Some site
 halted_site other = None

@@ -22,7 +22,6 @@ fn open_site(line: &ScriptLine) -> Option<Name>
 {
     match line {
         ScriptLine::GroupImport { site }
-        | ScriptLine::Volume { site, .. }
         | ScriptLine::Write { site, .. }
         | ScriptLine::Put { site, .. } => Some(*site),
         ScriptLine::Link { primary, .. } => Some(*primary),
@@ -35,7 +34,9 @@ fn halted_site(line: &ScriptLine) -> Option<Name>
     ensures { result ≡ halted_site line.now }
 {
     match line {
-        ScriptLine::PlexDetach { site, .. } | ScriptLine::PlexAttach { site, .. } => Some(*site),
+        ScriptLine::Volume { site, .. }
+        | ScriptLine::PlexDetach { site, .. }
+        | ScriptLine::PlexAttach { site, .. } => Some(*site),
         _ => None,
     }
 }

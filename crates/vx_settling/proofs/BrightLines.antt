@@ -10,7 +10,7 @@ use Rattle.vx_history.specs.declared.event.Event.{Event}
 use Rattle.vx_history.specs.declared.event.Event.TheVariants.{Crash as CrashAt, Recover as RecoverAt}
 use Rattle.vx_history.specs.Steps.{worked, worked_on}
 use Rattle.vx_script.specs.declared.line.ScriptLine.{ScriptLine}
-use Rattle.vx_script.specs.declared.line.ScriptLine.TheVariants.{GroupDeport, GroupImport, PlexAttach, PlexDetach, Put, Read, Recover, Rvg, Show, Write}
+use Rattle.vx_script.specs.declared.line.ScriptLine.TheVariants.{GroupDeport, GroupImport, PlexAttach, PlexDetach, Put, Read, Recover, Rvg, Show, Volume, Write}
 use Rattle.vx_events.proofs.KnownLaws.{group_known, left_note}
 use Rattle.vx_events.proofs.RvgEnding.{never_found}
 use Rattle.vx_events.proofs.RvgFull.{brings_found}
@@ -160,6 +160,7 @@ module _ (told : Type 0) (tells : told) (d : Doubted) (b : AllBright d) (fails :
   place_or : (line : ScriptLine) (s : ℕ) → (IsHeldDown line said → ⊥) → (BringsUp line → (note_at (d.world.nodes s)).loose ≡ false)
       → IsBright (new.world.nodes s) → OverRvg told d line s fails said new → AllBright new
   place_or (GroupDeport site) s held agree here below = below_bright (GroupDeport site) s held here below
+  place_or (Volume site volume blocks mirrors layout log map policy) s held agree here below = below_bright (Volume site volume blocks mirrors layout log map policy) s held here below
   place_or (PlexDetach site volume plex) s held agree here below = below_bright (PlexDetach site volume plex) s held here below
   place_or (PlexAttach site volume plex) s held agree here below = below_bright (PlexAttach site volume plex) s held here below
   place_or (GroupImport site) s held agree here (inl takes) = takes_bright (GroupImport site) s held here takes

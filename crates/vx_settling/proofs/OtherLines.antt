@@ -354,6 +354,7 @@ module _ (i : ℕ) (o : Option GroupNode) where
 
       place_or : (line : ScriptLine) (s : ℕ) → may_note d.world line i ≡ false → eqb i s ≡ false → OverRvg told d line s fails said new → HasNote i o new
       place_or (GroupDeport site) s off apart below = below_notes (GroupDeport site) s apart below
+      place_or (Volume site volume blocks mirrors layout log map policy) s off apart below = below_notes (Volume site volume blocks mirrors layout log map policy) s apart below
       place_or (PlexDetach site volume plex) s off apart below = below_notes (PlexDetach site volume plex) s apart below
       place_or (PlexAttach site volume plex) s off apart below = below_notes (PlexAttach site volume plex) s apart below
       place_or (GroupImport site) s off apart (inl takes) = takes_notes (GroupImport site) s apart takes
