@@ -36,6 +36,8 @@ pub mod PlexPlaces
 pub mod BelowPlex
 pub mod BelowDetach
 pub mod BelowAttach
+pub mod VolumePlaces
+pub mod BelowVolume
 pub mod BareSites
 pub mod GroupInit
 pub mod GroupEnding
