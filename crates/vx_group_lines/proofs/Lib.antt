@@ -38,6 +38,8 @@ pub mod BelowDetach
 pub mod BelowAttach
 pub mod VolumePlaces
 pub mod BelowVolume
+pub mod BelowShort
+pub mod BelowMakes
 pub mod BareSites
 pub mod GroupInit
 pub mod GroupEnding

@@ -48,6 +48,7 @@ plain_on false false mine is here apart = absurd (let clash : false ≡ true = h
 abbrev pub WorksAlone : ScriptLine → Type 0
 WorksAlone (GroupDeport site) = ⊥
 WorksAlone (GroupImport site) = ⊥
+WorksAlone (Volume site volume blocks mirrors layout log map policy) = ⊥
 WorksAlone (PlexDetach site volume plex) = ⊥
 WorksAlone (PlexAttach site volume plex) = ⊥
 WorksAlone (Recover site) = ⊥
@@ -65,7 +66,7 @@ alone_off : (w : World) (line : ScriptLine) → WorksAlone line → goes_to_grou
 alone_off w (GroupInit site) alone goes closed = refl
 alone_off w (GroupDeport site) alone goes closed = absurd alone
 alone_off w (GroupImport site) alone goes closed = absurd alone
-alone_off w (Volume site volume blocks mirrors layout log map policy) alone goes closed = closed
+alone_off w (Volume site volume blocks mirrors layout log map policy) alone goes closed = absurd alone
 alone_off w (PlexDetach site volume plex) alone goes closed = absurd alone
 alone_off w (PlexAttach site volume plex) alone goes closed = absurd alone
 alone_off w (Rvg site srl maps volumes) alone goes closed = absurd alone
