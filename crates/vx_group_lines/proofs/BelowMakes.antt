@@ -77,13 +77,13 @@ module _ {R : Type 0} {g : Ghosts R} (d : Doubted) (old mid : Yard R g) (name vo
   start : BelowStart d old name s before
   start = below_start d old name s before stands seat over (closed_runs (d.world.nodes (site_number d.world name)) over closed) may.may changed.there
 
-  e : Doubted
+  abbrev e : Doubted
   e = missed_world start.missed d s
 
-  n : Node
+  abbrev n : Node
   n = e.world.nodes s
 
-  note : GroupNode
+  abbrev note : GroupNode
   note = note_at n
 
   -- no volume of the group has the name, and there is room for one more
