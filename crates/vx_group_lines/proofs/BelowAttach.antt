@@ -170,6 +170,7 @@ module _ {R : Type 0} {g : Ghosts R} where
     never_by count why clash = absurd (cc)
 
     pub attached : (count : ℕ) → OnOver (AttsBelow place asked (Ok count)) before after → new.facts.items ≡ old.facts.items → SameLoad old new → LeadsAboveIs d (PlexAttach name volume plex) old new (Ok (DoneAt count))
+    unfolding line_of
     attached count on facts load =
         let r : Result ℕ Stop = Ok count in
         let then : OverBehind (AttsBelow place asked r start.at.set) after = then_of r on in
@@ -186,6 +187,7 @@ module _ {R : Type 0} {g : Ghosts R} where
 
     pub unattached : (mid : Yard R g) (result : Result Said OutOfMemory) → Midway old mid → (stop : Stop) → OnOver (AttsBelow place asked (Err stop)) before after → reply_noted s (linked_fact (missed_world start.missed d s).world s) stop mid new result
         → LeadsAboveIs d (PlexAttach name volume plex) old new result
+    unfolding line_of
     unattached mid result half stop on refusal =
         let r : Result ℕ Stop = Err stop in
         let then : OverBehind (AttsBelow place asked r start.at.set) after = then_of r on in

@@ -162,6 +162,7 @@ module _ {R : Type 0} {g : Ghosts R} where
     then_of r on = overs_behind (DetsBelow place asked r) before after start.at.set start.at.is_set on
 
     pub detached : OnOver (DetsBelow place asked (Ok (tt {0}))) before after → new.facts.items ≡ old.facts.items → SameLoad old new → LeadsAboveIs d (PlexDetach name volume plex) old new (Ok Done)
+    unfolding line_of
     detached on facts load =
         let r : Result (Unit {0}) Stop = Ok (tt {0}) in
         let then : OverBehind (DetsBelow place asked r start.at.set) after = then_of r on in
@@ -175,6 +176,7 @@ module _ {R : Type 0} {g : Ghosts R} where
 
     pub undetached : (mid : Yard R g) (result : Result Said OutOfMemory) → Midway old mid → (stop : Stop) → OnOver (DetsBelow place asked (Err stop)) before after → reply_noted s (linked_fact (missed_world start.missed d s).world s) stop mid new result
         → LeadsAboveIs d (PlexDetach name volume plex) old new result
+    unfolding line_of
     undetached mid result half stop on refusal =
         let r : Result (Unit {0}) Stop = Err stop in
         let then : OverBehind (DetsBelow place asked r start.at.set) after = then_of r on in
