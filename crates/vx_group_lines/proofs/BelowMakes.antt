@@ -138,6 +138,7 @@ module _ {R : Type 0} {g : Ghosts R} (d : Doubted) (old mid : Yard R g) (name vo
   pub made : (new : Yard R g) (vol : ℕ) → OnOver (VolsBelow volume want (Ok vol)) before after
       → ((f : SiteFacts) (c : Config) → slice_get mid.facts.items s ≡ Some f → HasConfig s c mid → new.facts.items ≡ slice_set mid.facts.items s (with_table (kinds_by c.rvg c.volumes) f))
       → new.assemblies ≡ mid.assemblies → KeepsRest mid new → LeadsAboveIs d (Volume name volume blocks mirrors layout log map_of policy) old new (Ok Done)
+  unfolding line_of
   made new vol on facts assemblies rest =
       let r : Result ℕ Stop = Ok vol in
       let then : OverBehind (VolsBelow volume want r start.at.set) after = then_of r on in
@@ -160,6 +161,7 @@ module _ {R : Type 0} {g : Ghosts R} (d : Doubted) (old mid : Yard R g) (name vo
   -- it is not
   pub unmade : (new : Yard R g) (stop : Stop) (result : Result Said OutOfMemory) → OnOver (VolsBelow volume want (Err stop)) before after → KeepsRest mid new → ((f : SiteFacts) → slice_get mid.facts.items s ≡ Some f → reply_noted s f stop mid new result)
       → LeadsAboveIs d (Volume name volume blocks mirrors layout log map_of policy) old new result
+  unfolding line_of
   unmade new (StopsBy why) result on rest reply =
       let r : Result ℕ Stop = Err (StopsBy why) in
       let then : OverBehind (VolsBelow volume want r start.at.set) after = then_of r on in
