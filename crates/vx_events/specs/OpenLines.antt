@@ -1,5 +1,5 @@
 -- The lines at which a run ends as at one whose kind is not built: one that links a site with a replicated volume group over its group of disks; and at such a site an
--- import, those on volumes of the group, those on its plexes where it is halted, and writes to a volume that is no data volume.
+-- import, those that make a volume of the group or work on its plexes where it is halted, and writes to a volume that is no data volume.
 use Rattle.std.specs.Prelude.{◌≡◌, ◌&&◌, ℕ, Bool, true, false, List, None, is_some, not}
 use Rattle.vx_history.specs.World.{Node, World}
 use Rattle.vx_order.specs.Calls.{is_data}
