@@ -66,7 +66,7 @@ use Rattle.vx_events.specs.GroupNotes.{Reconfigures, note_at}
 use Rattle.vx_events.specs.GroupViews.{noted_table}
 use Rattle.vx_events.specs.LinkedFacts.{linked_fact}
 use Rattle.vx_events.specs.RvgFits.{NoteKeepsRvg, config_rvg, entries_noted, rvg_noted}
-use Rattle.vx_events.specs.RvgOver.{BelowEnds, EndsWrite, OverRvg, fact_kind, kind_named, missed_in, note_loosened}
+use Rattle.vx_events.specs.RvgOver.{BelowEnds, EndsWrite, OverRvg, fact_kind, kind_named, missed_world, note_loosened}
 use Rattle.vx_events.specs.RvgSteps.{over_rvg_at, rvg_place}
 use Rattle.vx_events.specs.RvgViews.{is_over_rvg, over_table, table_at}
 use Rattle.vx_events.specs.declared.said.Said.{Said}
@@ -377,14 +377,14 @@ module _ {R : Type 0} {g : Ghosts R} where
     at : BelowAt d old name s before
     at = below_at d old name s before stands seat over there
 
-    pub bare_stands : StandsFor (missed_in no_maps d s) old
+    pub bare_stands : StandsFor (missed_world no_maps d s) old
     bare_stands = missed_stands no_maps d old name s before stands at there
 
-    here : (missed_in no_maps d s).world.nodes s ≡ missed_site no_maps (d.world.nodes s)
+    here : (missed_world no_maps d s).world.nodes s ≡ missed_site no_maps (d.world.nodes s)
     here = missed_node no_maps d s
 
-    bare_number : site_number (missed_in no_maps d s).world name ≡ s
-    bare_number = (place_at (missed_in no_maps d s) old name s bare_stands seat).number
+    bare_number : site_number (missed_world no_maps d s).world name ≡ s
+    bare_number = (place_at (missed_world no_maps d s) old name s bare_stands seat).number
 
     still_over : is_over_rvg (missed_site no_maps (d.world.nodes s)) ≡ true
     still_over = over_again n m (with_maps no_maps (note_at n)) at.over refl refl
@@ -398,22 +398,22 @@ module _ {R : Type 0} {g : Ghosts R} where
     pub plain_here : is_data (kind_named (d.world.nodes s) volume) ≡ false
     plain_here = subst (λ (i : ℕ). is_data (kind_named (d.world.nodes i) volume) ≡ false) (place_at d old name s stands seat).number plain
 
-    bare_over : over_rvg_at (missed_in no_maps d s).world name ≡ true
-    bare_over = ap (λ (i : ℕ). is_over_rvg ((missed_in no_maps d s).world.nodes i)) bare_number ∙ ap (λ (k : Node). is_over_rvg k) here ∙ still_over
+    bare_over : over_rvg_at (missed_world no_maps d s).world name ≡ true
+    bare_over = ap (λ (i : ℕ). is_over_rvg ((missed_world no_maps d s).world.nodes i)) bare_number ∙ ap (λ (k : Node). is_over_rvg k) here ∙ still_over
 
-    bare_plain : is_data (kind_named ((missed_in no_maps d s).world.nodes (site_number (missed_in no_maps d s).world name)) volume) ≡ false
+    bare_plain : is_data (kind_named ((missed_world no_maps d s).world.nodes (site_number (missed_world no_maps d s).world name)) volume) ≡ false
     bare_plain =
-        ap (λ (i : ℕ). is_data (kind_named ((missed_in no_maps d s).world.nodes i) volume)) bare_number ∙ ap (λ (k : Node). is_data (kind_named k volume)) here
+        ap (λ (i : ℕ). is_data (kind_named ((missed_world no_maps d s).world.nodes i) volume)) bare_number ∙ ap (λ (k : Node). is_data (kind_named k volume)) here
         ∙ ap (λ (vs : List VolumeFacts). is_data (fact_kind (slice_get vs (unwrap_or (place_of vs volume) 0)))) same_table ∙ plain_here
 
-    pub bare_call : BelowCall (missed_in no_maps d s) old name volume start count s place before
-    bare_call = below_call (missed_in no_maps d s) old name volume start count s place before bare_stands seat bare_over bare_plain may there number
+    pub bare_call : BelowCall (missed_world no_maps d s) old name volume start count s place before
+    bare_call = below_call (missed_world no_maps d s) old name volume start count s place before bare_stands seat bare_over bare_plain may there number
 
     -- what the tests see of the site
-    pub bare_fact : slice_get old.facts.items s ≡ Some (linked_fact (missed_in no_maps d s).world s)
+    pub bare_fact : slice_get old.facts.items s ≡ Some (linked_fact (missed_world no_maps d s).world s)
     bare_fact = bare_call.at.seat.fact
 
-    bare_none : (note_at ((missed_in no_maps d s).world.nodes s)).maps ≡ no_maps
+    bare_none : (note_at ((missed_world no_maps d s).world.nodes s)).maps ≡ no_maps
     bare_none = ap (λ (k : GroupNode). k.maps) (missed_note no_maps d s)
 
     module _ (new : Yard R g) (line : ScriptLine) (bytes : List ℕ) (after : DiskSet R g) (is : IsWriteLine line name volume start bytes) (free : IsFree old line) (many : length bytes ≡ 512 * count) (changed : Changed old new s before after) (failing : SameFailing before after)
@@ -422,16 +422,16 @@ module _ {R : Type 0} {g : Ghosts R} where
       writes r = WritesBelow place start bytes r
 
       outside : IsOutside place (above_in bare_call.at.set)
-      outside = outside_of (missed_in no_maps d s) old line name volume start bytes count s place before is free may seat bare_call
+      outside = outside_of (missed_world no_maps d s) old line name volume start bytes count s place before is free may seat bare_call
 
-      fits : FitsPlain (note_at ((missed_in no_maps d s).world.nodes s)) place start (length bytes)
+      fits : FitsPlain (note_at ((missed_world no_maps d s).world.nodes s)) place start (length bytes)
       fits = record {
         some = omega (arith, bare_call.some, many);
         whole = omega (arith, many);
         within = omega (arith, bare_call.within, many);
       }
 
-      call_of : (r : Result (Unit {0}) No) (to : OverBehind (WritesBelow place start bytes r bare_call.at.set) after) → WriteCall (missed_in no_maps d s) old new name volume start bytes s place before after to.set
+      call_of : (r : Result (Unit {0}) No) (to : OverBehind (WritesBelow place start bytes r bare_call.at.set) after) → WriteCall (missed_world no_maps d s) old new name volume start bytes s place before after to.set
       call_of r to = record {
         called = record {
           at = bare_call.at;
@@ -449,7 +449,7 @@ module _ {R : Type 0} {g : Ghosts R} where
         none = bare_none;
       }
 
-      above : (said : Said) → LeadsBelow (missed_in no_maps d s) line s said old new → LeadsAbove d line said old new
+      above : (said : Said) → LeadsBelow (missed_world no_maps d s) line s said old new → LeadsAbove d line said old new
       above said it =
           leads_above no_maps d line s said old new (missed_carries no_maps d old name s before stands at there) (write_seat d line name volume start bytes is ∙ (place_at d old name s stands seat).number)
           (write_turns (IsTold new) d line name volume start bytes s said is plain_here) it
@@ -457,12 +457,12 @@ module _ {R : Type 0} {g : Ghosts R} where
       pub write_above : (done : Unit {0}) → OnOver (WritesBelow place start bytes (Ok done)) before after → new.facts ≡ old.facts → SameLoad old new → LeadsAbove d line Done old new
       write_above done wrote facts load =
           let to : OverBehind (WritesBelow place start bytes (Ok done) bare_call.at.set) after = overs_behind (writes (Ok done)) before after bare_call.at.set bare_call.at.is_set wrote in
-          above Done (wrote_done (missed_in no_maps d s) old new line name volume start bytes s place before after to.set bare_stands is (call_of (Ok done) to)
-          (to.holds.wrote (below_rvg ((missed_in no_maps d s).world.nodes s)) (note_at ((missed_in no_maps d s).world.nodes s)) bare_call.asks fits) to.holds.cut (ap (λ fs. fs.items) facts) load)
+          above Done (wrote_done (missed_world no_maps d s) old new line name volume start bytes s place before after to.set bare_stands is (call_of (Ok done) to)
+          (to.holds.wrote (below_rvg ((missed_world no_maps d s).world.nodes s)) (note_at ((missed_world no_maps d s).world.nodes s)) bare_call.asks fits) to.holds.cut (ap (λ fs. fs.items) facts) load)
 
-      pub stop_above : (no : No) → OnOver (WritesBelow place start bytes (Err no)) before after → new.facts.items ≡ slice_set old.facts.items s (below_facts no (linked_fact (missed_in no_maps d s).world s)) → LetsGoBy no old new s
+      pub stop_above : (no : No) → OnOver (WritesBelow place start bytes (Err no)) before after → new.facts.items ≡ slice_set old.facts.items s (below_facts no (linked_fact (missed_world no_maps d s).world s)) → LetsGoBy no old new s
           → LeadsAbove d line (Refused no) old new
       stop_above no wrote facts lets =
           let to : OverBehind (WritesBelow place start bytes (Err no) bare_call.at.set) after = overs_behind (writes (Err no)) before after bare_call.at.set bare_call.at.is_set wrote in
-          above (Refused no) (wrote_stops (missed_in no_maps d s) old new line name volume start bytes s place before after to.set bare_stands is (call_of (Err no) to) no
-          (to.holds.wrote (below_rvg ((missed_in no_maps d s).world.nodes s)) (note_at ((missed_in no_maps d s).world.nodes s)) bare_call.asks fits) to.holds.cut to.holds.named facts lets)
+          above (Refused no) (wrote_stops (missed_world no_maps d s) old new line name volume start bytes s place before after to.set bare_stands is (call_of (Err no) to) no
+          (to.holds.wrote (below_rvg ((missed_world no_maps d s).world.nodes s)) (note_at ((missed_world no_maps d s).world.nodes s)) bare_call.asks fits) to.holds.cut to.holds.named facts lets)
