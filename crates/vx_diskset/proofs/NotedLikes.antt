@@ -78,7 +78,7 @@ module _ (n m : Node) (like : NotesAs n m) where
     on_like note (Marked rack) it = absurd it
     on_like note Gone it = absurd it
 
-    site_like : (note : GroupNode) (o : OverSet R g) → SiteNoted n note (Over o) → SiteNoted m note (Over o)
+    pub site_like : (note : GroupNode) (o : OverSet R g) → SiteNoted n note (Over o) → SiteNoted m note (Over o)
     site_like note o it = (
       on_like note (site_in o) it.0,
       it.1,

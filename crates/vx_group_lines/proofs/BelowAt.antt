@@ -84,13 +84,13 @@ module _ {R : Type 0} {g : Ghosts R} where
       below_here d y name s e stands seat (subst (λ (i : ℕ). is_over_rvg (d.world.nodes i) ≡ true) (place_at d y name s stands seat).number over) there
 
   -- a group that is up has the configuration that is noted, and each volume the blocks that are noted
-  record SizedUp (note : GroupNode) (e : GroupSite R g) : Type 0 where
-    config : Config
-    has : site_config e ≡ Some config
-    noted : NotesConfig note config
-    size : (v : ℕ) → note.bytes.size v ≡ blocks_of config.volumes v
+  pub record SizedUp (note : GroupNode) (e : GroupSite R g) : Type 0 where
+    pub config : Config
+    pub has : site_config e ≡ Some config
+    pub noted : NotesConfig note config
+    pub size : (v : ℕ) → note.bytes.size v ≡ blocks_of config.volumes v
 
-  sized_up : (n : Node) (note : GroupNode) (e : GroupSite R g) → UpNoted n note e → SizedUp note e
+  pub sized_up : (n : Node) (note : GroupNode) (e : GroupSite R g) → UpNoted n note e → SizedUp note e
   sized_up n note (SiteUp laid) it = record {
     config = laid.core.inner.config;
     has = refl;

@@ -78,11 +78,11 @@ all_kept : (n : Node) (count : ℕ) → length n.log ≤ n.safe → n.safe ≤ c
 all_kept n count durable least most = omega (arith, durable, least, most)
 
 -- so many writes are kept of those of the site
-record FellSo {R : Type 0} {g : Ghosts R} (beside : KeptBeside) (n : Node) (p : OverSet R g) : Type 0 where
-  count : ℕ
-  least : n.safe ≤ count
-  most : count ≤ length n.log
-  stands : SiteStands (sure_of (itself beside n)) (fell_to n n count) (Over p)
+pub record FellSo {R : Type 0} {g : Ghosts R} (beside : KeptBeside) (n : Node) (p : OverSet R g) : Type 0 where
+  pub count : ℕ
+  pub least : n.safe ≤ count
+  pub most : count ≤ length n.log
+  pub stands : SiteStands (sure_of (itself beside n)) (fell_to n n count) (Over p)
 
 -- of a crash nothing but the disks of the group is noted
 fell_like : (n : Node) (k : GroupNode) (m : Node) → m.state ≡ IsDown → m.disks ≡ n.disks → m.blocks ≡ n.blocks → m.group ≡ Some k → m.fuse ≡ NoFuse → IsLikeGroup (crashed (with_note k (below_rvg n)) 0) (below_rvg m)
@@ -118,7 +118,7 @@ module _ {R : Type 0} {g : Ghosts R} where
       subst (λ (x : KeptSite). (count : ℕ) → x.node.safe ≤ count → count ≤ length x.node.log → SiteStands (sure_of x) (fell_to n x.node count) (Over p) → FellSo beside n p) (sym own)
       (λ count least most stands. record { count = count; least = least; most = most; stands = stands })
 
-  fell_so : (beside : KeptBeside) (n : Node) (p : OverSet R g) → beside.doubt ≡ None → CrashedAt beside n (Over p) → FellSo beside n p
+  pub fell_so : (beside : KeptBeside) (n : Node) (p : OverSet R g) → beside.doubt ≡ None → CrashedAt beside n (Over p) → FellSo beside n p
   fell_so beside n p sure fell = fell_itself beside n p fell.kept (by fell.is) fell.count fell.least fell.most fell.stands
     where
       by : (fell.kept ≡ itself beside n) ⊎ (beside.doubt ≡ Some fell.kept) → fell.kept ≡ itself beside n

@@ -71,6 +71,7 @@ pub mod RvgComing
 pub mod RvgWorlds
 pub mod RvgReturns
 pub mod RvgRose
+pub mod RvgKept
 pub mod RvgRests
 pub mod RvgLost
 pub mod RvgHeld
