@@ -13,7 +13,7 @@ use Rattle.vx_events.specs.Facts.{site_number}
 use Rattle.vx_events.specs.Fails.{Fails}
 use Rattle.vx_events.specs.GroupNotes.{note_at}
 use Rattle.vx_events.specs.Parts.{StopsBetween, StopsDown, StopsInPart, StopsRead, StopsShort}
-use Rattle.vx_events.specs.RvgBack.{GroupHeld, GroupUnfound, KeptLost, LogFails, LogLacks, FindsNoRvg, FindsPlain, FindsRvg, RvgBack, RvgFinds, RvgUp}
+use Rattle.vx_events.specs.RvgBack.{FindsLost, FindsNoRvg, FindsPlain, FindsRvg, GroupHeld, GroupUnfound, KeptLost, LogFails, LogLacks, RvgBack, RvgFinds, RvgUp}
 use Rattle.vx_events.specs.OpenLines.{is_open}
 use Rattle.vx_events.specs.RvgMakes.{MakesRvg, RvgCut, RvgDone, RvgFails, RvgLacks}
 use Rattle.vx_events.specs.RvgNotes.{NotesLacking, NotesNarrowed, NotesNoRvg, NotesRvg}
@@ -68,6 +68,8 @@ module _ {T U : Type 0} (f : U → T) where
   found_told : (d : Doubted) (line : ScriptLine) (s : ℕ) (fails : Fails) (said : Said) (new : Doubted) → RvgFinds T d line s fails said new → RvgFinds U d line s fails said new
   found_told d line s fails said new (FindsRvg kept taken next mid n k row c units of brings knows dark is same comes config fits lies says left) =
       FindsRvg kept taken next mid n k row c units of brings (nothing_told f (note_at (d.world.nodes s)) knows) (λ u. dark (f u)) is same comes config fits lies says left
+  found_told d line s fails said new (FindsLost site kept taken disk next mid n k row c units has is are failed unknown dark rests same comes config fits lies says left) =
+      FindsLost site kept taken disk next mid n k row c units has is are failed (nothing_told f (note_at (d.world.nodes s)) unknown) (λ u. dark (f u)) rests same comes config fits lies says left
   found_told d line s fails said new (FindsPlain kept taken next mid over of brings knows dark is none says left) =
       FindsPlain kept taken next mid over of brings (nothing_told f (note_at (d.world.nodes s)) knows) (λ u. dark (f u)) is none says left
   found_told d line s fails said new (FindsNoRvg kept taken lost next why over of brings knows other notes says left) =

@@ -30,7 +30,7 @@ use Rattle.vx_events.specs.GroupEnds.{KnowsNothing}
 use Rattle.vx_events.specs.GroupLines.{group_noted, noting}
 use Rattle.vx_events.specs.GroupNotes.{IsKnown, note_at}
 use Rattle.vx_events.specs.Lists.{Choice, events_of, recovery_of, crash_count}
-use Rattle.vx_events.specs.RvgBack.{FindsNoRvg, FindsPlain, FindsRvg, GroupHeld, GroupUnfound, IsLeftBack, KeptLost, IsLeftBut, LogFails, LogLacks, RvgBack, RvgFinds, RvgUp, fall_first, fuse_left, SessionLeft}
+use Rattle.vx_events.specs.RvgBack.{FindsLost, FindsNoRvg, FindsPlain, FindsRvg, GroupHeld, GroupUnfound, IsLeftBack, IsLeftBut, KeptLost, LogFails, LogLacks, RvgBack, RvgFinds, RvgUp, SessionLeft, fall_first, fuse_left}
 use Rattle.vx_events.specs.RvgMakes.{RvgStops}
 use Rattle.vx_events.specs.RvgOver.{BelowEnds, EndsOver, OpensFor, OverRvg, kind_named, missed_world, noting_over, fuse_behind}
 use Rattle.vx_events.specs.RvgParts.{RvgShort, ShortGroup, ShortLog, ShortMade}
@@ -211,6 +211,7 @@ opens_at w other opens c h = absurd h
 unknown_found : (told : Type 0) (d : Doubted) (s : ℕ) (fails : Fails) (said : Said) (new : Doubted) (line : ScriptLine) → RvgFinds told d line s fails said new
     → KnowsNothing told (note_at (d.world.nodes s))
 unknown_found told d s fails said new line (FindsRvg kept taken next mid n k row c units are brings unknown dark is same comes config fits lies says left) = unknown
+unknown_found told d s fails said new line (FindsLost site kept taken disk next mid n k row c units has is are failed unknown dark rests same comes config fits lies says left) = unknown
 unknown_found told d s fails said new line (FindsPlain kept taken next mid has are brings unknown dark is none says left) = unknown
 unknown_found told d s fails said new line (FindsNoRvg kept taken lost next why has are brings unknown free notes says left) = unknown
 
@@ -226,6 +227,8 @@ module _ (told : Type 0) (d : Doubted) (s : ℕ) (fails : Fails) (said : Said) (
   -- Where the world has not strayed, nothing else came up from the disks: at most none was found, and a site that is up crashed.
   pub finds_stops : (line : ScriptLine) → new.strayed ≡ false → RvgFinds told d line s fails said new → RvgStops d new
   finds_stops line calm (FindsRvg kept taken next mid n k row c units are brings unknown dark is same comes config fits lies says left) =
+      absurd (let e : true ≡ false = sym left.strayed ∙ calm in cc)
+  finds_stops line calm (FindsLost site kept taken disk next mid n k row c units has is are failed unknown dark rests same comes config fits lies says left) =
       absurd (let e : true ≡ false = sym left.strayed ∙ calm in cc)
   finds_stops line calm (FindsPlain kept taken next mid has are brings unknown dark is none says left) = absurd (let e : true ≡ false = sym left.strayed ∙ calm in cc)
   finds_stops line calm (FindsNoRvg kept taken lost next why has are brings unknown free notes says left) = fall_stops d s line kept taken lost next new left

@@ -29,7 +29,7 @@ use Rattle.vx_events.specs.GroupLines.{group_noted, noting, plain_number}
 use Rattle.vx_events.specs.GroupMaps.{WithMaps}
 use Rattle.vx_events.specs.GroupNotes.{IsKnown, NotesBack, NotesCut, NotesDoubt, NotesRefused, NotesUnfound, NotesWrite, Reconfigures, no_note, note_at}
 use Rattle.vx_events.specs.GroupViews.{config_of}
-use Rattle.vx_events.specs.RvgBack.{FindsNoRvg, FindsPlain, FindsRvg, GroupHeld, GroupUnfound, IsLeftBack, IsLeftBut, KeptLost, LogFails, LogLacks, RvgBack, RvgFinds, RvgUp}
+use Rattle.vx_events.specs.RvgBack.{FindsLost, FindsNoRvg, FindsPlain, FindsRvg, GroupHeld, GroupUnfound, IsLeftBack, IsLeftBut, KeptLost, LogFails, LogLacks, RvgBack, RvgFinds, RvgUp}
 use Rattle.vx_events.specs.RvgFits.{KeepsRvg, KeptConfig, NoteKeepsRvg, config_rvg, rvg_noted}
 use Rattle.vx_events.specs.RvgOver.{BelowEnds, NotesLine, OverRvg, EndsOver, kind_named, missed_world}
 use Rattle.vx_events.specs.RvgViews.{is_over_rvg}
@@ -224,6 +224,8 @@ module _ (told : Type 0) (d : Doubted) (line : ScriptLine) (s : ℕ) (fails : Fa
   -- what is found on disks of which nothing is known may be another one, and stays unknown
   finds_stays : told → RvgFinds told d line s fails said new → (note_at (new.world.nodes s)).dark ≡ false → NoteKeepsRvg here (note_at (new.world.nodes s))
   finds_stays tells (FindsRvg kept taken next mid n k row c units are brings unknown dark is same comes config fits lies says left) known =
+      absurd (never (sym known ∙ back_dark s line taken next d _ new left ∙ dark tells))
+  finds_stays tells (FindsLost site kept taken disk next mid n k row c units has is are failed unknown dark rests same comes config fits lies says left) known =
       absurd (never (sym known ∙ back_dark s line taken next d _ new left ∙ dark tells))
   finds_stays tells (FindsPlain kept taken next mid has are brings unknown dark is none says left) known =
       absurd (never (sym known ∙ back_dark s line taken next d _ new left ∙ dark tells))
