@@ -108,6 +108,5 @@ pub mod OverStarting
 pub mod OverStays
 pub mod UnderCalling
 pub mod UnitsLie
-pub mod OverUntold
 pub mod OverLooks
 pub mod OverRisen

@@ -31,7 +31,6 @@ use Rattle.vx_model.specs.Content.{Write}
 use Rattle.vx_model.specs.declared.errors.Stop.{Stop}
 use Rattle.vx_model.specs.declared.errors.Stop.TheVariants.{No as Refused, OutOfMemory}
 use Rattle.vx_model.specs.declared.no.No.{No}
-use Rattle.vx_model.specs.declared.no.No.TheVariants.{Device}
 use Rattle.vx_model.specs.declared.site.SiteState.{SiteState}
 use Rattle.vx_model.specs.declared.site.SiteState.TheVariants.{Down as IsDown}
 use Rattle.vx_model.specs.declared.units.Units.{Units}
@@ -96,9 +95,6 @@ never_both b is not_so = let clash : true ≡ false = sym is ∙ not_so in cc
 
 pub never_none : {A : Type 0} {x : A} → Some x ≡ None → ⊥
 never_none e = cc
-
-never_short : (disk : ℕ) → (let stop : Stop = Refused (Device disk) in stop ≡ OutOfMemory) → ⊥
-never_short disk e = cc
 
 -- ---- disks by themselves
 
@@ -314,33 +310,6 @@ module _ {R : Type 0} {g : Ghosts R} (n : Node) (note : GroupNode) (idle : Idle 
 
       pub held_refused : HeldStill beside n note (Down idle) s stop
       held_refused = by_early (stops_early stop) refl
-
-    -- ---- it came up, and what is kept of a write that was cut could not be read: the disks crashed, and tell nothing
-
-    module _ (last : Idle R g) (s : OverSet R g) (at : site_in s ≡ Down last) (cuts : cut_value s.cut ≡ cut_value cut) (disk : ℕ) (untold : IsTrue (idle_disks last).tells → ⊥) (known : IsTrue (idle_below last).tells → (note.dark ≡ true) ⊎ (note.loose ≡ true))
-        (stopped : AreStopped (idle_disks last)) (units : (idle_disks last).units ≡ (idle_disks idle).units) (size : (u : ℕ) → (idle_disks last).size u ≡ (idle_disks idle).size u) (rose : Rose ((idle_ready idle).disk_faults disk) ((idle_disks last).disk_faults disk)) where
-      last_off : (idle_disks last).tells ≡ false
-      last_off = not_true (idle_disks last).tells untold
-
-      none_left : TellsNone (idle_disks last)
-      none_left = record { tells = last_off; leaves = λ v b x left. (laws last.rack).none last_off v b x left }
-
-      pub held_lost : HeldStill beside n note (Down idle) s (Refused (Device disk))
-      held_lost = record {
-        loosens = true;
-        dims = true;
-        loose = λ is below. known (subst (λ (e : GroupSite R g). IsTrue (site_below e).tells) at below);
-        dimmed = λ dims early below. known (subst (λ (e : GroupSite R g). IsTrue (site_below e).tells) at below);
-        short = λ is. absurd (never_short disk is);
-        why = subst (λ (e : GroupSite R g). Rose ((idle_ready idle).disk_faults disk) ((site_disks e).disk_faults disk)) (sym at) rose;
-        noted = held_noted true true s last at cuts
-            (held_down (below_rvg n) note idle.agreed (idle_below idle).tells (idle_disks idle) down true true (idle_below last).tells last.agreed (idle_disks last) (λ tight. absurd (let clash : true ≡ false = tight in cc)) none_left stopped units size
-            (λ lit below. absurd (let clash : true ≡ false = lit in cc)))
-            (record { each = λ i x each is. absurd (none_left.leaves 0 0 (i 0 0) ((ready_under g last.agreed last.rack).leaves 0 0 (i 0 0) (each 0 0))) });
-        stands = as_rest (note_held true true note) s
-            (fell_dim beside n (Some (note_held true true note)) (sym same_units) (λ is. never_none is) (λ c. FellOver c beside n (idle_ready idle)) (idle_ready idle) rests over last
-            (λ told. never_both (idle_disks last).tells ((ready_under g last.agreed last.rack).tells told) last_off) laws s (fell_site s.site last at));
-      }
 
     -- ---- it was done, and it is not known what the disks hold
 

@@ -42,7 +42,6 @@ use Rattle.vx_diskset.specs.declared.over_set.OverSet.{OverSet}
 use Rattle.vx_diskset.proofs.GroupRising.{crash_counts, down_cut}
 use Rattle.vx_diskset.proofs.OverKept.{keeps_over, nowhere_aside}
 use Rattle.vx_diskset.proofs.OverNoted.{down_again, noted_up, up_group, up_named, up_noted}
-use Rattle.vx_diskset.proofs.OverUntold.{lost_untold}
 use Rattle.vx_diskset.proofs.StaysUp.{not_true}
 
 module _ {R : Type 0} {g : Ghosts R} where
@@ -136,6 +135,5 @@ module _ {R : Type 0} {g : Ghosts R} where
       subst (λ (e : GroupSite R g). Rose ((site_disks e).disk_faults disk) ((site_disks (site_in last)).disk_faults disk)) at
           (subst (λ (x : ℕ). Rose ((site_disks site).disk_faults disk) x) (sym (crash_counts pick (site_in s) (site_in last) stopped disk))
           (subst (λ (e : GroupSite R g). Rose ((site_disks site).disk_faults disk) ((site_disks e).disk_faults disk)) (sym new_at) looks.2)),
-      lost_untold laws disk cut last (ap (λ (x : Option CutWrite). cut_value x) (cut_is ∙ was)) (crashed (worked (below_rvg n)) 0) note (fell (worked (below_rvg n)) note noted.3.tidy (up_new looks.0 s new_at new_above)),
     )
     looks_lost other looks s new_at new_above was last crash fell named cut_is pick stopped = absurd looks

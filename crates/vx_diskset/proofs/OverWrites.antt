@@ -1,6 +1,6 @@
 -- Writes to a volume of the group below a replicated volume group, behind which imports of disks that crashed may disagree.
-use Rattle.std.proofs.Common.{◌≡◌, true, refl, subst, sym}
-use Rattle.std.specs.Prelude.{Err, Ok, Result, Some}
+use Rattle.std.proofs.Common.{◌≡◌, true, subst, sym}
+use Rattle.std.specs.Prelude.{Err, Ok, Result}
 use Rattle.vx_disk.specs.Racks.{IsRack}
 use Rattle.vx_disk.specs.declared.shelf.Shelf.{Ghosts}
 use Rattle.vx_events.specs.RvgOver.{note_loosened}

@@ -32,7 +32,6 @@ use Rattle.vx_diskset.specs.Holds.{KeptBeside, most_header}
 use Rattle.vx_diskset.specs.Layouts.{units_of}
 use Rattle.vx_diskset.specs.Noted.{AgreesStill, SiteNoted, below_rvg}
 use Rattle.vx_diskset.specs.GroupCalls.{cut_above}
-use Rattle.vx_diskset.specs.GroupSets.{cut_value}
 use Rattle.vx_diskset.specs.OverStarts.{HandsOut}
 use Rattle.vx_diskset.specs.Recovers.{CutFits, KeptIs, still_cut}
 use Rattle.vx_diskset.specs.Stands.{SiteStands}
@@ -183,18 +182,12 @@ module _ {R : Type 0} {g : Ghosts R} where
 
   -- ---- the write that was cut
 
-  -- The disks behind a read of it that failed, where they tell nothing: a site that crashed, and of whose disks nothing is known, is so still.
-  pub record LostUntold (disk : ℕ) (cut : Option CutWrite) (new : OverSet R g) : Type 0 where
-    pub held : (beside : KeptBeside) (n : Node) (note : GroupNode) (o : OverSet R g) → n.group ≡ Some note → n.state ≡ IsDown → SiteStands beside n (Over o) → SiteNoted n note (Over o) → cut_value cut ≡ note.cut
-        → (IsTrue (site_disks (site_in new)).tells → ⊥) → (IsTrue (site_below (site_in new)).tells → (note.dark ≡ true) ⊎ (note.loose ≡ true)) → (site_disks (site_in new)).units ≡ (site_disks (site_in o)).units
-        → ((u : ℕ) → (site_disks (site_in new)).size u ≡ (site_disks (site_in o)).size u) → Rose ((as_imported (site_in o)).disk_faults disk) ((site_disks (site_in new)).disk_faults disk) → HeldStill beside n note (site_in o) new (Refused (Device disk))
-
   -- What is read of it at a site whose replicated volume group came up with its group. Where a disk fails in that the disks crash, and the write is cut still.
   abbrev pub LookedOver : KeptBeside → Node → GroupNode → Option CutWrite → (old new : OverSet R g) → Result (Option KeptWrite) Stop → Type 0
   LookedOver beside n note cut old new (Ok kept) = SiteStands beside (worked n) (Over new) × SiteNoted (worked n) note (Over new) × KeptIs note (site_disks (site_in old)) cut kept
   LookedOver beside n note cut old new (Err (Refused (Device disk))) =
       CrashedAt beside (worked n) (Over new) × SiteNoted (crashed (with_note (still_cut cut note) n) 0) (still_cut cut note) (Over new) × CutFits note cut
-      × Rose ((site_disks (site_in old)).disk_faults disk) ((site_disks (site_in new)).disk_faults disk) × LostUntold disk cut new
+      × Rose ((site_disks (site_in old)).disk_faults disk) ((site_disks (site_in new)).disk_faults disk)
   LookedOver beside n note cut old new (Err other) = ⊥
 
   -- so it is of the disks of a site; of those without one more is said elsewhere

@@ -1,6 +1,6 @@
 -- Where no call of a line failed, and no fuse ran out in it, imports of a group of disks with a replicated volume group agree behind it as before.
-use Rattle.std.proofs.Common.{◌≡◌, ◌∙◌, ◌⊎◌, inl, inr, ℕ, Bool, true, false, List, Option, Some, ap, refl, subst, sym}
-use Rattle.std.specs.Prelude.{◌||◌, unwrap_or}
+use Rattle.std.proofs.Common.{◌≡◌, ◌∙◌, ◌⊎◌, inl, inr, ℕ, Bool, true, false, Option, Some, ap, refl, subst, sym}
+use Rattle.std.specs.Prelude.{unwrap_or}
 use Rattle.vx_model.specs.declared.no.Counted.TheVariants.{Number}
 use Rattle.vx_model.specs.declared.no.No.{No}
 use Rattle.vx_model.specs.declared.no.No.TheVariants.{Limit}

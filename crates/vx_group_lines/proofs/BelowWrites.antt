@@ -1,14 +1,13 @@
 -- What a write leads a yard to whose volume is one of the group below a replicated volume group, and none of its data volumes: it ends as one of the group alone. What
 -- plexes missed is not noted there, so that nothing is said of their maps.
-use Rattle.std.proofs.Common.{◌≡◌, ◌∙◌, ◌+◌, ◌*◌, ◌≤◌, ℕ, Bool, true, false, List, [], length, map, ap, sym, subst, refl, arith}
+use Rattle.std.proofs.Common.{◌≡◌, ◌∙◌, ◌+◌, ◌*◌, ◌≤◌, ℕ, Bool, true, false, List, [], length, ap, sym, subst, refl, arith}
 use Rattle.std.specs.List.{position}
 use Rattle.std.specs.Str.{bytes_eq}
 use Rattle.std.specs.Prelude.{◌&&◌, Option, Some, None, Result, Ok, Err, if◌then◌else◌, slice_get, slice_set, unwrap_or}
-use Rattle.vx_model.specs.Content.{Content, Write, blocks_in}
+use Rattle.vx_model.specs.Content.{Content, Write}
 use Rattle.vx_model.specs.declared.no.No.{No}
 use Rattle.vx_model.specs.declared.no.No.TheVariants.{Device, Down as IsOff}
 use Rattle.vx_model.specs.declared.units.Units.{Units}
-use Rattle.vx_disk.specs.Counts.{Rose}
 use Rattle.vx_disk.specs.Shelf.{Meaning}
 use Rattle.vx_disk.specs.declared.shelf.Shelf.{Ghosts}
 use Rattle.vx_config.specs.declared.config.Config.{Config}
@@ -18,8 +17,7 @@ use Rattle.vx_history.specs.Doubts.{Doubted, happened}
 use Rattle.vx_history.specs.Groups.{GroupNode, NoteSettles, NoteUnsettles, note_cut, note_doubt, note_write}
 use Rattle.vx_history.specs.MapChanges.{InNoVolume, InVolume, StayKnown}
 use Rattle.vx_history.specs.Missing.{no_maps, this_volume, with_maps}
-use Rattle.vx_history.specs.Steps.{burned, crashed}
-use Rattle.vx_history.specs.Stops.{IsFused}
+use Rattle.vx_history.specs.Steps.{burned}
 use Rattle.vx_history.specs.World.{Node}
 use Rattle.vx_history.specs.declared.event.Event.TheVariants.{Crash as CrashAt}
 use Rattle.vx_order.specs.Calls.{is_data}
@@ -31,7 +29,7 @@ use Rattle.vx_script.specs.declared.line.ScriptLine.TheVariants.{Put as PutLine,
 use Rattle.vx_effects.specs.Facts.{down_fact}
 use Rattle.vx_grouped.specs.ConfigMoves.{LosesSome, none_again}
 use Rattle.vx_grouped.specs.Ends.{plain_write}
-use Rattle.vx_grouped.specs.GroupSites.{DownNoted, FitsPlain, UpNoted, site_disks, with_note}
+use Rattle.vx_grouped.specs.GroupSites.{FitsPlain, UpNoted, site_disks, with_note}
 use Rattle.vx_grouped.specs.SiteEnds.{ConfigGoes}
 use Rattle.vx_diskset.proofs.NotedLikes.{same_size}
 use Rattle.vx_diskset.specs.Aboves.{IsOutside, IsOutsideOf, above_in, above_site, site_in}
@@ -40,12 +38,11 @@ use Rattle.vx_diskset.specs.GroupCalls.{CalledOn}
 use Rattle.vx_diskset.specs.GroupSets.{cut_behind, cut_value}
 use Rattle.vx_diskset.specs.Holds.{KeptBeside, beside_of}
 use Rattle.vx_diskset.specs.Layouts.{units_of}
-use Rattle.vx_diskset.specs.Noted.{IsNoteTidy, RestsNamed, below_rvg}
+use Rattle.vx_diskset.specs.Noted.{RestsNamed, below_rvg}
 use Rattle.vx_diskset.specs.OverPlains.{OnOver}
 use Rattle.vx_diskset.specs.OverWrites.{WritesBelow, WroteBelow}
 use Rattle.vx_diskset.specs.Stands.{OverStands, faults_at}
 use Rattle.vx_diskset.specs.declared.disk_set.DiskSet.{DiskSet}
-use Rattle.vx_diskset.specs.declared.disk_set.DiskSet.TheVariants.{Over}
 use Rattle.vx_diskset.specs.declared.over_set.OverSet.{OverSet}
 use Rattle.vx_diskset.specs.declared.over_set.OverSite.{OverSite}
 use Rattle.vx_diskset.specs.declared.over_set.OverSite.TheVariants.{Origin as OriginSite, Receiver as ReceiverSite, Deported as GroupAway, Down as GroupFell, Gone as NoGroup}

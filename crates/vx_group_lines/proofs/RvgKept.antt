@@ -1,6 +1,6 @@
 -- What a recovery of a site whose group has a replicated volume group leads its yard to, where both came up, and what is kept of a write that was cut could not be read:
 -- the site is down again, and the write is cut still.
-use Rattle.std.proofs.Common.{◌≡◌, ◌∙◌, ◌++◌, ◌+◌, ◌<◌, ◌≤◌, ℕ, Bool, true, false, List, [], ◌∷◌, length, map, ap, sym, subst, refl, arith, inl}
+use Rattle.std.proofs.Common.{◌≡◌, ◌∙◌, ◌+◌, ◌<◌, ◌≤◌, ℕ, Bool, true, List, [], ◌∷◌, length, map, ap, sym, subst, refl, arith, inl}
 use Rattle.std.specs.Prelude.{Contains, Err, Option, Some, None, slice_set, if◌then◌else◌}
 use Rattle.vx_model.specs.Content.{Content}
 use Rattle.vx_model.specs.declared.errors.Stop.TheVariants.{No as StopsBy}
@@ -36,12 +36,11 @@ use Rattle.vx_diskset.specs.declared.over_set.OverSite.TheVariants.{Origin as Or
 use Rattle.vx_events.proofs.Places.{never_some, some_same}
 use Rattle.vx_events.proofs.RvgEvents.{rvg_apart}
 use Rattle.vx_events.proofs.RvgStays.{then_same}
-use Rattle.vx_events.specs.Doubts.{run_as}
 use Rattle.vx_events.specs.Facts.{volume_fact}
 use Rattle.vx_events.specs.Fails.{Fails}
 use Rattle.vx_events.specs.GroupNotes.{NotesBack, note_at}
 use Rattle.vx_events.specs.LinkedFacts.{linked_fact}
-use Rattle.vx_events.specs.RvgBack.{IsLeftBack, KeptLost, RvgBack, fall_first}
+use Rattle.vx_events.specs.RvgBack.{IsLeftBack, KeptLost, RvgBack}
 use Rattle.vx_events.specs.RvgFits.{NoteKeepsRvg}
 use Rattle.vx_events.specs.RvgViews.{is_over_rvg, over_table}
 use Rattle.vx_events.specs.RvgWorks.{NotesWork}
@@ -62,7 +61,7 @@ use Rattle.vx_group_lines.proofs.Arriving.{Arrives, arrives_noted, noted_at}
 use Rattle.vx_group_lines.proofs.BelowOff.{FellSo, fell_so}
 use Rattle.vx_group_lines.proofs.RvgComing.{DownCall, rest_named, rest_noted, rest_stood, stands_so}
 use Rattle.vx_group_lines.proofs.RvgReturns.{call_named, calls_are_of, calls_at, calls_rose, extra_at, group_back, group_works, many_at, named_again}
-use Rattle.vx_group_lines.proofs.RvgRose.{arrives, below_rest, came_first, keeps_back, keeps_next, links_rest, note_before, origin_rest, over, risen, risen_world, seen, some_rest, sure_rest, unfused_rest}
+use Rattle.vx_group_lines.proofs.RvgRose.{arrives, below_rest, came_first, keeps_back, keeps_next, links_rest, note_before, origin_rest, over, risen, risen_world, seen, some_rest, sure_rest}
 use Rattle.vx_group_lines.proofs.RvgWorlds.{beside_as, fell_back_arrives, fell_back_headers, kept_at, rest_then}
 
 module _ {R : Type 0} {g : Ghosts R} where

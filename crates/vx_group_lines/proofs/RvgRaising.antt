@@ -1,6 +1,6 @@
 -- What the calls of a recovery lead a yard to, at a site whose group has a replicated volume group.
-use Rattle.std.proofs.Common.{◌≡◌, ◌∙◌, ◌≤◌, ℕ, Bool, List, ap, sym, subst, refl, arith}
-use Rattle.std.specs.Prelude.{Option, Some, None, slice_get, slice_set, Result, Ok, Err}
+use Rattle.std.proofs.Common.{◌≡◌, ◌∙◌, ◌≤◌, ℕ, Bool, List, ap, sym, subst, refl}
+use Rattle.std.specs.Prelude.{Option, Some, slice_get, slice_set, Result, Ok, Err}
 use Rattle.vx_model.specs.declared.errors.OutOfMemory.{OutOfMemory}
 use Rattle.vx_model.specs.declared.errors.Stop.{Stop}
 use Rattle.vx_model.specs.declared.errors.Stop.TheVariants.{No as StopsBy, OutOfMemory as MemoryStop}
@@ -20,7 +20,6 @@ use Rattle.vx_diskset.specs.GroupCalls.{AtSite, config_in, core_in, cut_above}
 use Rattle.vx_diskset.specs.Holds.{beside_of}
 use Rattle.vx_diskset.specs.OverRises.{HeldStill, LookedOver, LostAgain, OverRises, RaisesAbove, RisesAgain, RisesFound, RisesHeld, RisesLost, RisesPlain, RoseAgain, came_with}
 use Rattle.vx_diskset.specs.OverStarts.{HandsOut}
-use Rattle.vx_diskset.specs.Stands.{faults_at}
 use Rattle.vx_diskset.specs.declared.disk_set.DiskSet.{DiskSet}
 use Rattle.vx_diskset.specs.declared.disk_set.DiskSet.TheVariants.{Over}
 use Rattle.vx_diskset.specs.declared.group_set.CutWrite.{CutWrite}
@@ -162,7 +161,7 @@ module _ {R : Type 0} {g : Ghosts R} (d : Doubted) (name : List ℕ) (s kept : �
         rises : (done : Unit {0}) → cut ≡ cut_above between o.cut → OverRises (beside_of b s) n note (site_in o) between (Ok done) → RaisesIs d (Recover name) s kept taken old new result
         rises done handed_is (RisesAgain x is ok again) = rose x is (handed_is ∙ ap (λ (e : DiskSet R g). cut_above e o.cut) is) again
         rises done handed_is (RisesFound x is ok found) =
-            found_stood d name s kept taken old mid new before between first at cut result st x is (handed_is ∙ ap (λ (e : DiskSet R g). cut_above e o.cut) is) found
+            found_stood d name s kept taken old mid new before between first at cut result st x is found
         rises done handed_is (RisesPlain x is ok plain) = plain_stood d name s kept taken old mid new before between first at cut result st x is (handed_is ∙ ap (λ (e : DiskSet R g). cut_above e o.cut) is) plain
         rises done handed_is (RisesLost x stop is err lost) = absurd (never_both err)
         rises done handed_is (RisesHeld x stop is err held) = absurd (never_both err)

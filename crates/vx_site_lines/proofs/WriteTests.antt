@@ -1,6 +1,6 @@
 -- What the tests of a line that writes say of a site which may keep links.
-use Rattle.std.proofs.Common.{◌≡◌, ◌∙◌, ◌*◌, ◌≤◌, ℕ, Bool, true, false, List, length, ap, sym, subst, refl, arith}
-use Rattle.std.specs.Prelude.{Option, Some, None, replicate, slice_get}
+use Rattle.std.proofs.Common.{◌≡◌, ◌∙◌, ◌*◌, ◌≤◌, ℕ, true, false, List, length, ap, sym, subst, refl, arith}
+use Rattle.std.specs.Prelude.{Some, None, replicate, slice_get}
 use Rattle.std.specs.Str.{bytes_eq}
 use Rattle.std.proofs.lemmas.List.{length-replicate}
 use Rattle.vx_model.specs.Content.{Write, blocks_in}
