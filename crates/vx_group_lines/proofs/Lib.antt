@@ -76,6 +76,7 @@ pub mod RvgRests
 pub mod RvgLost
 pub mod RvgHeld
 pub mod RvgFound
+pub mod FoundLost
 pub mod ImportBeside
 pub mod RvgAtRest
 pub mod RecoverFound
