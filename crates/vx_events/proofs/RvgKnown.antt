@@ -104,14 +104,14 @@ module _ (told : Type 0) (tells : told) (d : Doubted) (s : ℕ) (known : (note_a
   back_known_too line free (LogFails site kept taken disk middle next left has is are failed back keeps works begun says leads) =
       absurd (no_rise here line said _ says free (subst BringsUp (sym is) tt))
   back_known_too line free (LogLacks site kept taken middle next has is are back keeps works lacks says left) = absurd (no_rise here line said _ says free (subst BringsUp (sym is) tt))
-  back_known_too line free (KeptLost site kept taken disk middle next has is are failed back keeps works says left) = absurd (no_rise here line said _ says free (subst BringsUp (sym is) tt))
+  back_known_too line free (KeptLost site kept taken disk middle next has cut is are failed back keeps works says left) = absurd (no_rise here line said _ says free (subst BringsUp (sym is) tt))
   back_known_too line free (GroupUnfound site kept taken lost why next has is are not leaves says left) = absurd (no_rise here line said why says free (subst BringsUp (sym is) tt))
   back_known_too line free (GroupHeld site kept taken lost disk next has is are failed notes says left) = absurd (no_rise here line said _ says free (subst BringsUp (sym is) tt))
 
   finds_known : (line : ScriptLine) → (MayDarken here line said → ⊥) → RvgFinds told d line s fails said new → ⊥
   finds_known line free (FindsRvg kept taken next mid n k row c units are brings unknown dark is same comes config fits lies says left) =
       finds_none told tells here known (λ loose. free (brings, inl loose)) unknown
-  finds_known line free (FindsLost site kept taken disk next mid n k row c units has is are failed unknown dark rests same comes config fits lies says left) =
+  finds_known line free (FindsLost site kept taken disk next mid n k row c units has cut is are failed unknown dark rests same comes config fits lies says left) =
       finds_none told tells here known (λ loose. free (subst BringsUp (sym is) tt, inl loose)) unknown
   finds_known line free (FindsPlain kept taken next mid has are brings unknown dark is none says left) =
       finds_none told tells here known (λ loose. free (brings, inl loose)) unknown

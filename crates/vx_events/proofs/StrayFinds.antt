@@ -26,7 +26,7 @@ module _ (told : Type 0) (d : Doubted) (line : ScriptLine) (s : ℕ) (fails : Fa
   finds_apart : RvgFinds told d line s fails said new → (new.world.nodes s).group ≡ None → StraysAs d new
   finds_apart (FindsRvg kept taken next mid n k row c units are brings unknown dark is same comes config fits lies says left) none =
       absurd (let e : Some next ≡ None = sym (back_group s line taken next d (gone_astray (found_linked mid s k row)) new left) ∙ none in cc)
-  finds_apart (FindsLost site kept taken disk next mid n k row c units has is are failed unknown dark rests same comes config fits lies says left) none =
+  finds_apart (FindsLost site kept taken disk next mid n k row c units has cut is are failed unknown dark rests same comes config fits lies says left) none =
       absurd (let e : Some next ≡ None = sym (back_group s line taken next d (gone_astray (found_fallen mid s k row)) new left) ∙ none in cc)
   finds_apart (FindsPlain kept taken next mid has are brings unknown dark is plain says left) none =
       absurd
@@ -43,7 +43,7 @@ module _ (told : Type 0) (d : Doubted) (line : ScriptLine) (s : ℕ) (fails : Fa
       (let e : Some units ≡ None =
       sym (ap (λ (o : Option GroupNode). rvg_noted (unwrap_or o no_note)) noted ∙ ap config_rvg config ∙ fits.rvg) ∙ none in
       cc)
-  finds_plain (FindsLost site kept taken disk next mid n k row c units has is are failed unknown dark rests same comes config fits lies says left) off none =
+  finds_plain (FindsLost site kept taken disk next mid n k row c units has cut is are failed unknown dark rests same comes config fits lies says left) off none =
       absurd (let e : true ≡ false = sym has ∙ off in cc)
   finds_plain (FindsPlain kept taken next mid has are brings unknown dark is plain says left) off none = absurd (let e : true ≡ false = sym has ∙ off in cc)
   finds_plain (FindsNoRvg kept taken lost next why has are brings unknown device notes says left) off none = absurd (let e : true ≡ false = sym has ∙ off in cc)

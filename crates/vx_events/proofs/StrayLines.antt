@@ -128,7 +128,7 @@ back_strays told d line s fails said new (LogFails site kept taken disk middle n
     left.strayed ∙ run_strays taken d (fall_first (d.world.nodes s).state s kept ++ begun)
 back_strays told d line s fails said new (LogLacks site kept taken middle next has is are back keeps works lacks says left) =
     left.strayed ∙ run_strays taken d (fall_first (d.world.nodes s).state s kept)
-back_strays told d line s fails said new (KeptLost site kept taken disk middle next has is are failed back keeps works says left) =
+back_strays told d line s fails said new (KeptLost site kept taken disk middle next has cut is are failed back keeps works says left) =
     left.strayed ∙ run_strays taken d (fall_first (d.world.nodes s).state s kept ++ RecoverAt s None ∷ CrashAt s 0 ∷ [])
 back_strays told d line s fails said new (GroupUnfound site kept taken lost why next has is are not leaves says left) =
     left.strayed ∙ run_strays taken d (fall_first (d.world.nodes s).state s kept)
@@ -218,7 +218,7 @@ module _ (told : Type 0) (d : Doubted) (line : ScriptLine) (s : ℕ) (fails : Fa
   finds_calm : RvgFinds told d line s fails said new → new.strayed ≡ false → d.strayed ≡ false
   finds_calm (FindsRvg kept taken next mid n k row c units are brings unknown dark is same comes config fits lies says left) calm =
       absurd (let e : true ≡ false = sym left.strayed ∙ calm in cc)
-  finds_calm (FindsLost site kept taken disk next mid n k row c units has is are failed unknown dark rests same comes config fits lies says left) calm =
+  finds_calm (FindsLost site kept taken disk next mid n k row c units has cut is are failed unknown dark rests same comes config fits lies says left) calm =
       absurd (let e : true ≡ false = sym left.strayed ∙ calm in cc)
   finds_calm (FindsPlain kept taken next mid has are brings unknown dark is none says left) calm = absurd (let e : true ≡ false = sym left.strayed ∙ calm in cc)
   finds_calm (FindsNoRvg kept taken lost next why has are brings unknown device notes says left) calm =
@@ -259,8 +259,8 @@ short_strays told d line new (StopsRead read) = read_strays d line new read
 short_strays told d line new (StopsBetween untold p s middle is moves left) = left.strayed ∙ moves.strayed
 
 rvg_short_strays : (told : Type 0) (d : Doubted) (line : ScriptLine) (s : ℕ) (new : Doubted) → RvgShort told d line s new → StraysAs d new
-rvg_short_strays told d line s new (ShortGroup kept taken lost next has is notes left) = left.strayed ∙ run_strays taken d (fall_first (d.world.nodes s).state s kept)
-rvg_short_strays told d line s new (ShortLog kept taken fails middle next has is are back keeps cut left) =
+rvg_short_strays told d line s new (ShortGroup site kept taken lost next has is notes left) = left.strayed ∙ run_strays taken d (fall_first (d.world.nodes s).state s kept)
+rvg_short_strays told d line s new (ShortLog site kept taken fails middle next has is are back keeps cut left) =
     left.strayed ∙ run_strays taken d (fall_first (d.world.nodes s).state s kept)
 rvg_short_strays told d line s new (ShortMade site srl maps volumes fails next is are notes left) = left.strayed
 

@@ -96,7 +96,7 @@ pub data RvgBack (told : Type 0) (d : Doubted) (line : ScriptLine) (s : ℕ) (fa
       → WorksCut ⊥ s fails (note_at (d.world.nodes s)).cut middle next → LacksSession told (run_as taken d (fall_first (d.world.nodes s).state s kept)).world s
       → said ≡ Refused (Limit Number MOST_NUMBER) → IsLeftBut true s line taken next d (run_as taken d (fall_first (d.world.nodes s).state s kept)) new → RvgBack told d line s fails said new
   -- the site came up, and what is kept of a write that was cut could not be read: it is down again
-  KeptLost : (site : List ℕ) (kept : ℕ) (taken : Bool) (disk : ℕ) (middle next : GroupNode) → is_over_rvg (d.world.nodes s) ≡ true → line ≡ Recover site → AreOf s fails
+  KeptLost : (site : List ℕ) (kept : ℕ) (taken : Bool) (disk : ℕ) (middle next : GroupNode) → is_over_rvg (d.world.nodes s) ≡ true → ((note_at (d.world.nodes s)).cut ≡ None → ⊥) → line ≡ Recover site → AreOf s fails
       → Contains fails (s, disk) → NotesBack told s (d.world.nodes s) fails (note_at (d.world.nodes s)) middle → NoteKeepsRvg (note_at (d.world.nodes s)) middle
       → WorksCut ⊥ s fails (note_at (d.world.nodes s)).cut middle next → said ≡ Refused (Device disk)
       → IsLeftBack s line taken next d (run_as taken d (fall_first (d.world.nodes s).state s kept ++ RecoverAt s None ∷ CrashAt s 0 ∷ [])) new → RvgBack told d line s fails said new
@@ -147,7 +147,7 @@ pub data RvgFinds (told : Type 0) (d : Doubted) (line : ScriptLine) (s : ℕ) (f
       → IsLeftBack s line taken next d (gone_astray (found_linked mid s k row)) new → RvgFinds told d line s fails said new
   -- one came up at a site that had one, and what is kept of a write that was cut could not be read: it is down again
   FindsLost : (site : List ℕ) (kept : ℕ) (taken : Bool) (disk : ℕ) (next : GroupNode) (mid : Doubted) (n k : Node) (row : ℕ → Link) (c : Config) (units : Units) → is_over_rvg (d.world.nodes s) ≡ true
-      → line ≡ Recover site → AreOf s fails → Contains fails (s, disk) → KnowsNothing told (note_at (d.world.nodes s)) → (told → next.dark ≡ true)
+      → ((note_at (d.world.nodes s)).cut ≡ None → ⊥) → line ≡ Recover site → AreOf s fails → Contains fails (s, disk) → KnowsNothing told (note_at (d.world.nodes s)) → (told → next.dark ≡ true)
       → mid ≡ run_as taken d (fall_first (d.world.nodes s).state s kept) → n ≡ record (mid.world.nodes s) { volumes = k.volumes; group = k.group } → ComesUpAs s mid.world.sites n k row
       → config_of next.config ≡ Some c → FitsRvg k c units → HasUnits c.volumes units → said ≡ Refused (Device disk)
       → IsLeftBack s line taken next d (gone_astray (found_fallen mid s k row)) new → RvgFinds told d line s fails said new

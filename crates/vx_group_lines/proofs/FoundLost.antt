@@ -79,9 +79,10 @@ use Rattle.vx_group_lines.specs.Noting.{made_facts}
 use Rattle.vx_group_lines.specs.RvgRises.{RaisesFor, RestsSo, rests_as, rests_world}
 use Rattle.vx_group_lines.proofs.Arriving.{Arrives, arrives_as, arrives_none, arrives_noted, arrives_then}
 use Rattle.vx_group_lines.proofs.BelowOff.{FellSo, fell_so}
-use Rattle.vx_group_lines.proofs.RvgComing.{DownCall, down_made, rest_links, rest_stood, rest_sure, some_data, stands_so}
+use Rattle.vx_group_lines.proofs.RvgComing.{DownCall, down_made, rest_links, rest_noted, rest_stood, rest_sure, some_data, stands_so}
 use Rattle.vx_group_lines.proofs.RvgFacts.{gained_fact}
 use Rattle.vx_group_lines.proofs.RvgFound.{arrives_astray, knows_nothing}
+use Rattle.vx_group_lines.proofs.RvgKept.{some_cut}
 use Rattle.vx_group_lines.proofs.RvgReturns.{call_named, calls_are_of, calls_at, calls_rose}
 use Rattle.vx_group_lines.proofs.RvgRose.{note_before}
 use Rattle.vx_group_lines.proofs.RvgWorlds.{beside_as}
@@ -145,7 +146,7 @@ cut_fits note (Some c) it x is = subst (λ (y : Write). FitsPlain note y.volume 
 
 module _ {R : Type 0} {g : Ghosts R} (d : Doubted) (name : List ℕ) (s kept : ℕ) (taken : Bool) (rests : RestsSo d s kept taken) (old new : Yard R g) (o p : OverSet R g) (call : DownCall (rests_as d s kept taken) old new s o (Over p)) (x : OverSet R g)
     (again : FoundAgain (beside_of (rests_as d s kept taken) s) ((rests_as d s kept taken).world.nodes s) (note_at ((rests_as d s kept taken).world.nodes s)) (site_in o) x)
-    (told_before : IsTrue (site_below (site_in p)).tells → IsTrue (site_below (site_in x)).tells) (cut : Option CutWrite) (disk : ℕ)
+    (told_before : IsTrue (site_below (site_in p)).tells → IsTrue (site_below (site_in x)).tells) (cut : Option CutWrite) (cut_is : cut ≡ o.cut) (disk : ℕ)
     (looked : LookedOver (beside_of (rests_as d s kept taken) s) again.over.node again.over.next cut x p (Err (StopsBy (Device disk)))) where
   abbrev b : Doubted
   b = rests_as d s kept taken
@@ -351,9 +352,14 @@ module _ {R : Type 0} {g : Ghosts R} (d : Doubted) (name : List ℕ) (s kept : �
       subst (λ (y : GroupNode). KnowsNothing (IsTold new) y) (note_before d s kept taken rests old new o p call)
       (knows_nothing (IsTold new) (site_below (site_in x)).tells note told_below again.less.was)
 
+  some_was : (note_at (d.world.nodes s)).cut ≡ None → ⊥
+  some_was none =
+      some_cut next cut looked.2
+      (ap (λ (y : Option CutWrite). cut_value y) cut_is ∙ (rest_noted b old new s o (Over p) call).1 ∙ ap (λ (y : GroupNode). y.cut) (note_before d s kept taken rests old new o p call) ∙ none)
+
   ends : RvgFinds (IsTold new) d (Recover name) s fails (Refused (Device disk)) fell_left
   ends =
-      FindsLost name kept taken disk lost h (let y : Node = record at { volumes = m.volumes; group = m.group } in y) k row again.over.now again.over.units rests.over refl (calls_are_of b old new s o p call many) failed known
+      FindsLost name kept taken disk lost h (let y : Node = record at { volumes = m.volumes; group = m.group } in y) k row again.over.now again.over.units rests.over some_was refl (calls_are_of b old new s o p call many) failed known
       (λ told. again.less.dark (told_below told)) refl refl comes_as again.over.is (record { rvg = again.over.fits.rvg; volumes = again.over.fits.volumes; ring = again.over.fits.ring }) again.over.has refl
       (record { world = refl; after = λ i. refl; strayed = refl })
 

@@ -125,10 +125,10 @@ module _ {R : Type 0} {g : Ghosts R} where
   less_on note next x q told less = record { was = λ it. less.was (told it); dark = λ it. less.dark (told it) }
 
   pub found_stood : (d : Doubted) (name : List ℕ) (s kept : ℕ) (taken : Bool) (old mid new : Yard R g) (before between : DiskSet R g) (first : RaisedTo old mid s before between) (at : AtRest d s kept taken old)
-      (cut : Option CutWrite) (result : Result Said OutOfMemory) (st : StoodUp s cut mid new result) (x : OverSet R g) → between ≡ Over x
+      (cut : Option CutWrite) (result : Result Said OutOfMemory) (st : StoodUp s cut mid new result) (x : OverSet R g) → between ≡ Over x → cut ≡ (rest_set d s kept taken old mid new before between first at).cut
       → FoundAgain (beside_of (rests_as d s kept taken) s) ((rests_as d s kept taken).world.nodes s) (note_at ((rests_as d s kept taken).world.nodes s)) (site_in (rest_set d s kept taken old mid new before between first at)) x
       → RaisesIs d (Recover name) s kept taken old new result
-  found_stood d name s kept taken old mid new before between first at cut result st x is again = by st.answer refl looks
+  found_stood d name s kept taken old mid new before between first at cut result st x is cut_is again = by st.answer refl looks
     where
       b : Doubted
       b = rests_as d s kept taken
@@ -183,7 +183,7 @@ module _ {R : Type 0} {g : Ghosts R} where
           let done : StandsOver s (linked_fact (rests_as d s kept taken).world s) sits.config sits.core st.after (Err (StopsBy (Device disk))) mid new result =
           subst (λ (a : Result (Option KeptWrite) Stop). StandsOver s f sits.config sits.core st.after a mid new result) ends so in
           subst (λ (r : Result Said OutOfMemory). RaisesIs d (Recover name) s kept taken old new r) (sym done.2)
-          (found_lost d name s kept taken at.rests old new o p call x again tells cut disk it sits.core sits.config sits.noted
+          (found_lost d name s kept taken at.rests old new o p call x again tells cut cut_is disk it sits.core sits.config sits.noted
           (up_seen (beside_of b s) here.node sits.core (set_volumes (Over x)) sits.stands here.same.running here.whole)
           (done.0 ∙ ap (λ (fs : List SiteFacts). slice_set fs s (down_fact (made_facts sits.core sits.config f))) first.facts)
           (record {

@@ -26,7 +26,7 @@ use Rattle.vx_diskset.specs.GroupSets.{cut_value}
 use Rattle.vx_diskset.specs.Holds.{KeptBeside, KeptSite, beside_of, itself, sure_of}
 use Rattle.vx_diskset.specs.Noted.{IsNamed, NotedOver, SiteNoted}
 use Rattle.vx_diskset.specs.OverRises.{LookedOver, RoseAgain, came_with}
-use Rattle.vx_diskset.specs.Recovers.{still_cut}
+use Rattle.vx_diskset.specs.Recovers.{CutFits, still_cut}
 use Rattle.vx_diskset.specs.Stands.{OverStands, SiteStands}
 use Rattle.vx_diskset.specs.declared.disk_set.DiskSet.TheVariants.{Over}
 use Rattle.vx_diskset.specs.declared.group_set.CutWrite.{CutWrite}
@@ -63,6 +63,11 @@ use Rattle.vx_group_lines.proofs.RvgComing.{DownCall, rest_named, rest_noted, re
 use Rattle.vx_group_lines.proofs.RvgReturns.{call_named, calls_are_of, calls_at, calls_rose, extra_at, group_back, group_works, many_at, named_again}
 use Rattle.vx_group_lines.proofs.RvgRose.{arrives, below_rest, came_first, keeps_back, keeps_next, links_rest, note_before, origin_rest, over, risen, risen_world, seen, some_rest, sure_rest}
 use Rattle.vx_group_lines.proofs.RvgWorlds.{beside_as, fell_back_arrives, fell_back_headers, kept_at, rest_then}
+
+-- a write that lies in its volume was cut
+pub some_cut : (note : GroupNode) (cut : Option CutWrite) → CutFits note cut → cut_value cut ≡ None → ⊥
+some_cut note None it none = absurd it
+some_cut note (Some c) it none = never_some (sym none)
 
 module _ {R : Type 0} {g : Ghosts R} where
   -- a site that is down has its writes all
@@ -221,12 +226,15 @@ module _ {R : Type 0} {g : Ghosts R} where
     works : NotesWork ⊥ s fails r.group.middle next
     works = group_works b old new s o p call r.laid r.group x r.to last next r.over.works r.over.goes r.over.agrees extra (omega arith)
 
+    some : (note_at (d.world.nodes s)).cut ≡ None → ⊥
+    some none = some_cut next cut looked.2 (cut_note ∙ ap (λ (k : GroupNode). k.cut) (note_before d s kept taken rests old new o p call) ∙ none)
+
     cut_before : lost ≡ (let k : GroupNode = record next { cut = (note_at (d.world.nodes s)).cut } in k)
     cut_before = ap (λ c. let k : GroupNode = record next { cut = c } in k) (cut_note ∙ ap (λ (k : GroupNode). k.cut) (note_before d s kept taken rests old new o p call))
 
     ends : (name : List ℕ) → RvgBack (IsTold new) d (Recover name) s fails (Refused (Device disk)) fell_world
     ends name =
-        KeptLost name kept taken disk r.group.middle lost rests.over refl (calls_are_of b old new s o p call many) failed back
+        KeptLost name kept taken disk r.group.middle lost rests.over some refl (calls_are_of b old new s o p call many) failed back
         (subst (λ (k : GroupNode). NoteKeepsRvg k r.group.middle) (note_before d s kept taken rests old new o p call) (keeps_back d s kept taken rests old new o p call x r last))
         (record { worked = next; works = works; is = cut_before }) refl
         (subst (λ (e : Doubted). IsLeftBack s (Recover name) taken lost d e fell_world) (sym (rest_then d s kept taken (RecoverAt s None ∷ CrashAt s 0 ∷ []))) (record { world = refl; after = λ i. refl; strayed = refl }))

@@ -161,7 +161,7 @@ module _ {R : Type 0} {g : Ghosts R} (d : Doubted) (name : List ℕ) (s kept : �
         rises : (done : Unit {0}) → cut ≡ cut_above between o.cut → OverRises (beside_of b s) n note (site_in o) between (Ok done) → RaisesIs d (Recover name) s kept taken old new result
         rises done handed_is (RisesAgain x is ok again) = rose x is (handed_is ∙ ap (λ (e : DiskSet R g). cut_above e o.cut) is) again
         rises done handed_is (RisesFound x is ok found) =
-            found_stood d name s kept taken old mid new before between first at cut result st x is found
+            found_stood d name s kept taken old mid new before between first at cut result st x is (handed_is ∙ ap (λ (e : DiskSet R g). cut_above e o.cut) is) found
         rises done handed_is (RisesPlain x is ok plain) = plain_stood d name s kept taken old mid new before between first at cut result st x is (handed_is ∙ ap (λ (e : DiskSet R g). cut_above e o.cut) is) plain
         rises done handed_is (RisesLost x stop is err lost) = absurd (never_both err)
         rises done handed_is (RisesHeld x stop is err held) = absurd (never_both err)

@@ -113,7 +113,7 @@ module _ (told : Type 0) (tells : told) (d : Doubted) (b : AllBright d) (fails :
   rises_bright line s held here (LogFails site kept taken disk middle next events has is are failed back keeps works begun says left) =
       absurd (loud said line _ held says (subst BringsUp (sym is) tt))
   rises_bright line s held here (LogLacks site kept taken middle next has is are back keeps works lacks says left) = absurd (loud said line _ held says (subst BringsUp (sym is) tt))
-  rises_bright line s held here (KeptLost site kept taken disk middle next has is are failed back keeps works says left) = absurd (loud said line _ held says (subst BringsUp (sym is) tt))
+  rises_bright line s held here (KeptLost site kept taken disk middle next has cut is are failed back keeps works says left) = absurd (loud said line _ held says (subst BringsUp (sym is) tt))
   rises_bright line s held here (GroupUnfound site kept taken lost why next has is are not leaves says left) = absurd (loud said line why held says (subst BringsUp (sym is) tt))
   rises_bright line s held here (GroupHeld site kept taken lost disk next has is are failed notes says left) = absurd (loud said line _ held says (subst BringsUp (sym is) tt))
 

@@ -301,7 +301,7 @@ module _ (i : ℕ) (o : Option GroupNode) where
           fell line s apart taken true next (fall_first (d.world.nodes s).state s kept ++ leaves) left
       rises_notes line s apart (LogLacks site kept taken middle next has is are back keeps works lacks says left) =
           fell line s apart taken true next (fall_first (d.world.nodes s).state s kept) left
-      rises_notes line s apart (KeptLost site kept taken disk middle next has is are failed back keeps works says left) =
+      rises_notes line s apart (KeptLost site kept taken disk middle next has cut is are failed back keeps works says left) =
           rose line s apart taken next (fall_first (d.world.nodes s).state s kept ++ RecoverAt s None ∷ CrashAt s 0 ∷ []) left
       rises_notes line s apart (GroupUnfound site kept taken lost why next has is are not leaves says left) =
           fell line s apart taken lost next (fall_first (d.world.nodes s).state s kept) left
@@ -330,7 +330,7 @@ module _ (i : ℕ) (o : Option GroupNode) where
       finds_notes : (line : ScriptLine) (s : ℕ) → eqb i s ≡ false → RvgFinds told d line s fails said new → HasNote i o new
       finds_notes line s apart (FindsRvg kept taken next mid n k row c units are brings unknown dark is same comes config fits lies says left) =
           came line s taken next mid k row apart (at_rest s kept taken mid is) left
-      finds_notes line s apart (FindsLost site kept taken disk next mid n k row c units has is are failed unknown dark rests same comes config fits lies says left) =
+      finds_notes line s apart (FindsLost site kept taken disk next mid n k row c units has cut is are failed unknown dark rests same comes config fits lies says left) =
           let linked : HasNote i o (found_linked mid s (fallen k) (fallen_row row)) = linked_notes mid s (fallen k) (fallen_row row) apart (at_rest s kept taken mid rests) in
           back_notes s line taken next d (gone_astray (found_fallen mid s k row)) new apart left x.has (record { note = linked.note; doubt = linked.doubt })
       finds_notes line s apart (FindsPlain kept taken next mid has are brings unknown dark is none says left) =

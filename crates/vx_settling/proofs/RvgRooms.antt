@@ -91,7 +91,7 @@ module _ (told : Type 0) (d : Doubted) (line : ScriptLine) (s : ℕ) (fails : Fa
   pub finds_gained : (is_over_rvg (d.world.nodes s) ≡ true → ⊥) → RvgFinds told d line s fails said new → FitsNoted (new.world.nodes s)
   finds_gained none (FindsRvg kept taken next mid n k row c units are brings unknown dark is same comes config fits lies says left) =
       found_fits taken next mid k row c units config fits lies left
-  finds_gained none (FindsLost site kept taken disk next mid n k row c units has is are failed unknown dark rests same comes config fits lies says left) = absurd (none has)
+  finds_gained none (FindsLost site kept taken disk next mid n k row c units has cut is are failed unknown dark rests same comes config fits lies says left) = absurd (none has)
   finds_gained none (FindsPlain kept taken next mid has are brings unknown dark is bare says left) = absurd (none has)
   finds_gained none (FindsNoRvg kept taken lost next why has are brings unknown device notes says left) = absurd (none has)
 
@@ -111,7 +111,7 @@ module _ (told : Type 0) (d : Doubted) (good : GoodDoubted d) (alike : DoubtsAli
       → RvgFinds told d line s fails said new → FitsNoted (new.world.nodes s)
   finds_fits s made over fits still (FindsRvg kept taken next mid n k row c units are brings unknown dark is same comes config rvg lies says left) =
       found_fits told d line s fails said new taken next mid k row c units config rvg lies left
-  finds_fits s made over fits still (FindsLost site kept taken disk next mid n k row c units has is are failed unknown dark rests same comes config rvg lies says left) =
+  finds_fits s made over fits still (FindsLost site kept taken disk next mid n k row c units has cut is are failed unknown dark rests same comes config rvg lies says left) =
       fallen_fits told d line s fails said new taken next mid k row c units config rvg lies left
   finds_fits s made over fits still (FindsPlain kept taken next mid has are brings unknown dark is none says left) =
       let same : SameRoom (group_set s (unmade_site (mid.world.nodes s))) (new.world.nodes s) =
