@@ -360,8 +360,9 @@ module _ {R : Type 0} {g : Ghosts R} where
       let units : units_of n ≡ call.at.named.1 = some_same (sym call.at.noted.3.named ∙ ap (λ (o : Option Config). config_rvg o) call.at.named.2 ∙ call.at.named.3) in
       outside_site (beside_of d s) n call.at.set.site call.at.named.1 place call.at.stands.1 units (subst (λ (k : ℕ). IsOtherPlace call.at.named.1 k) (sym here) other.2)
 
-  -- ---- the line, in the world before it, and in the one in which no maps are noted
+-- ---- the line, in the world before it, and in the one in which no maps are noted
 
+module _ {R : Type 0} {g : Ghosts R} where
   module _ (d : Doubted) (old : Yard R g) (name volume : List ℕ) (start count s place : ℕ) (before : DiskSet R g) (stands : StandsFor d old) (seat : seat_of old.facts.items name ≡ Some s) (over : over_rvg_at d.world name ≡ true)
       (plain : is_data (kind_named (d.world.nodes (site_number d.world name)) volume) ≡ false) (may : CallMay old.facts.items name volume start count) (there : slice_get old.disk_sets.items s ≡ Some before)
       (number : (c : Config) → HasConfig s c old → place ≡ number_in c.volumes volume) where
