@@ -21,3 +21,5 @@ mod open;
 mod over_groups;
 #[cfg(test)]
 mod plexes;
+#[cfg(test)]
+mod writes;
