@@ -1,5 +1,5 @@
 -- Calls on the group below a replicated volume group that write to no volume, by what the site notes of it.
-use Rattle.std.proofs.Common.{◌≡◌, ◌-◌, inr, ℕ, Bool, true, false, [], IsTrue, length, refl, sym, ap, subst}
+use Rattle.std.proofs.Common.{◌≡◌, ◌-◌, inr, ℕ, Bool, true, false, [], length, refl, sym, subst}
 use Rattle.std.specs.Prelude.{Some, Result, Ok, Err, nat_le, nat_lt}
 use Rattle.vx_model.specs.declared.errors.Stop.{Stop}
 use Rattle.vx_model.specs.declared.errors.Stop.TheVariants.{No as Refused, OutOfMemory}

@@ -35,3 +35,4 @@ pub mod OverPlains
 pub mod OverVolumes
 pub mod OverRises
 pub mod OverStarts
+pub mod OverWrites

@@ -23,7 +23,7 @@ use Rattle.vx_events.specs.LinkLists.{link_events}
 use Rattle.vx_events.specs.Lists.{Choice, crash_count, events_of}
 use Rattle.vx_events.specs.OpenLines.{is_open}
 use Rattle.vx_events.specs.Parts.{PartLeft, ReadFirst, StopsBetween, StopsDown, StopsInPart, StopsRead, StopsShort}
-use Rattle.vx_events.specs.RvgBack.{FindsNoRvg, FindsPlain, FindsRvg, GroupHeld, GroupUnfound, LogFails, LogLacks, RvgBack, RvgFinds, RvgUp, fall_first}
+use Rattle.vx_events.specs.RvgBack.{FindsLost, FindsNoRvg, FindsPlain, FindsRvg, GroupHeld, GroupUnfound, KeptLost, LogFails, LogLacks, RvgBack, RvgFinds, RvgUp, fall_first}
 use Rattle.vx_events.specs.RvgMakes.{MakesRvg, RvgCut, RvgDone, RvgFails, RvgLacks, noting_in, units_at}
 use Rattle.vx_events.specs.RvgNotes.{volume_events}
 use Rattle.vx_events.specs.GroupNotes.{IsKnown, note_at}
@@ -128,6 +128,8 @@ back_strays told d line s fails said new (LogFails site kept taken disk middle n
     left.strayed ∙ run_strays taken d (fall_first (d.world.nodes s).state s kept ++ begun)
 back_strays told d line s fails said new (LogLacks site kept taken middle next has is are back keeps works lacks says left) =
     left.strayed ∙ run_strays taken d (fall_first (d.world.nodes s).state s kept)
+back_strays told d line s fails said new (KeptLost site kept taken disk middle next has cut is are failed back keeps works says left) =
+    left.strayed ∙ run_strays taken d (fall_first (d.world.nodes s).state s kept ++ RecoverAt s None ∷ CrashAt s 0 ∷ [])
 back_strays told d line s fails said new (GroupUnfound site kept taken lost why next has is are not leaves says left) =
     left.strayed ∙ run_strays taken d (fall_first (d.world.nodes s).state s kept)
 back_strays told d line s fails said new (GroupHeld site kept taken lost disk next has is are failed notes says left) =
@@ -216,6 +218,8 @@ step_found told files d line fails said new step = by_found told d fails said ne
 module _ (told : Type 0) (d : Doubted) (line : ScriptLine) (s : ℕ) (fails : Fails) (said : Said) (new : Doubted) where
   finds_calm : RvgFinds told d line s fails said new → new.strayed ≡ false → d.strayed ≡ false
   finds_calm (FindsRvg kept taken next mid n k row c units are brings unknown dark is same comes config fits lies says left) calm =
+      absurd (let e : true ≡ false = sym left.strayed ∙ calm in cc)
+  finds_calm (FindsLost site kept taken disk next mid n k row c units has cut is are failed unknown dark rests same comes config fits lies says left) calm =
       absurd (let e : true ≡ false = sym left.strayed ∙ calm in cc)
   finds_calm (FindsPlain kept taken next mid has are brings unknown dark is none says left) calm = absurd (let e : true ≡ false = sym left.strayed ∙ calm in cc)
   finds_calm (FindsNoRvg kept taken lost next why has are brings unknown device notes says left) calm =

@@ -26,6 +26,7 @@ pub mod BelowMissed
 pub mod BelowUp
 pub mod BelowOff
 pub mod BelowDone
+pub mod BelowWrites
 pub mod NoMaps
 pub mod BelowUnmapped
 pub mod BelowLoosened
@@ -74,10 +75,12 @@ pub mod RvgComing
 pub mod RvgWorlds
 pub mod RvgReturns
 pub mod RvgRose
+pub mod RvgKept
 pub mod RvgRests
 pub mod RvgLost
 pub mod RvgHeld
 pub mod RvgFound
+pub mod FoundLost
 pub mod ImportBeside
 pub mod RvgAtRest
 pub mod RecoverFound

@@ -23,3 +23,5 @@ mod over_groups;
 mod plexes;
 #[cfg(test)]
 mod vols;
+#[cfg(test)]
+mod writes;

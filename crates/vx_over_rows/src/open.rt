@@ -20,19 +20,7 @@ fn a_run_ends_at_a_line_on_the_group_of_a_halted_site(rt: HostRuntime) -> Result
     Ok(())
 }
 
-// A run ends at a write to a volume that the replicated volume group does not have.
-#[test]
-fn a_run_ends_at_a_write_to_another_volume(rt: HostRuntime) -> Result<(), Fail> {
-    let made =
-        "vol a w 64 mirrors=1 layout=concat log=none fmr=off rdpol=round\nrvg a srl=log1 dcm=maps vols=v\n";
-    let wanted = "done\ndone\ndone\ndone\ndone\ndone\ndone\nbad 8 1\n";
-    for line in ["write a w 0 1 11\n", "write a w 63 1 00\n"] {
-        assert!(rt; ends_at(&rt, rt.alloc(), made, line, 8, wanted)?, "{line}");
-    }
-    Ok(())
-}
-
-// And at a link from the site or to it. The other site has one volume of the same size, and a log of the same.
+// A run ends at a link from the site or to it. The other site has one volume of the same size, and a log of the same.
 #[test]
 fn a_run_ends_at_a_link(rt: HostRuntime) -> Result<(), Fail> {
     let made = "rvg a srl=log1 dcm=maps vols=v\nsite b 3 256\nraw b\n";
