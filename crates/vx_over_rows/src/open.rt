@@ -38,8 +38,9 @@ fn a_run_ends_at_a_link(rt: HostRuntime) -> Result<(), Fail> {
 #[test]
 fn lines_before_it_are_done(rt: HostRuntime) -> Result<(), Fail> {
     let made =
-        "vol a w 64 mirrors=1 layout=concat log=none fmr=off rdpol=round\nrvg a srl=log1 dcm=maps vols=v\nwrite a v 0 1 11\nread a v 0 1\n";
-    let wanted = "done\ndone\ndone\ndone\ndone\ndone\ndone\ndone 1\n11\nbad 10 1\n";
-    assert!(rt; ends_at(&rt, rt.alloc(), made, "write a w 0 1 11\nfoo\n", 10, wanted)?);
+        "vol a w 64 mirrors=1 layout=concat log=none fmr=off rdpol=round\nrvg a srl=log1 dcm=maps vols=w\nwrite a w 0 1 11\nread a w 0 1\ndisk a 0 fail\napply a 1\n";
+    let wanted =
+        "done\ndone\ndone\ndone\ndone\ndone\ndone\ndone 1\n11\ndone\nno 7 device 0\nbad 12 1\n";
+    assert!(rt; ends_at(&rt, rt.alloc(), made, "plex a v 1 det\nfoo\n", 12, wanted)?);
     Ok(())
 }
