@@ -1,6 +1,6 @@
 -- What calls on the replicated volume group of a site that is up make of the note of the group below.
 use Rattle.std.proofs.Common.{◌≡◌, ◌∙◌, ◌⊎◌, ◌+◌, ◌<◌, ◌≤◌, ◌++◌, ℕ, true, [], ◌∷◌, map, length, ap, sym, subst, refl, arith, inl, inr}
-use Rattle.std.specs.Prelude.{List, Option, Some, IsTrue, unwrap_or}
+use Rattle.std.specs.Prelude.{List, None, Option, Some, IsTrue, unwrap_or}
 use Rattle.vx_disk.specs.Counts.{Rose}
 use Rattle.vx_disk.specs.Shelf.{Meaning}
 use Rattle.vx_disk.specs.declared.shelf.Shelf.{Ghosts}
@@ -18,7 +18,7 @@ use Rattle.vx_grouped.specs.ConfigMoves.{StateMoves, none_again}
 use Rattle.vx_grouped.specs.GroupSites.{site_disks, with_note}
 use Rattle.vx_diskset.specs.Aboves.{below_site, site_in}
 use Rattle.vx_diskset.specs.Holds.{KeptBeside, beside_of}
-use Rattle.vx_diskset.specs.Noted.{AgreesStill, IsNamed, NotedOn, NotesMoved, NotesOn, SiteNoted, below_rvg}
+use Rattle.vx_diskset.specs.Noted.{AgreesStill, CutRests, IsNamed, NotedOn, NotesMoved, NotesOn, SiteNoted, below_rvg}
 use Rattle.vx_diskset.specs.Stands.{OverStands, SiteStands}
 use Rattle.vx_diskset.specs.declared.disk_set.DiskSet.TheVariants.{Over}
 use Rattle.vx_diskset.specs.declared.over_set.OverSet.{OverSet}
@@ -110,6 +110,10 @@ module _ {R : Type 0} {g : Ghosts R} where
     pub call_table : (m : Node) → m.volumes ≡ n.volumes → over_table m call_note ≡ over_table n note
     call_table m volumes = table_like n m note call_note volumes rvg_same seen_same
 
+    -- no write to a volume of the group is cut
+    cut_up : CutRests n → note.cut ≡ None
+    cut_up rests = rests.0 call.up
+
     -- its data volumes are named as they were
     pub call_named : IsNamed n → (m : Node) → m.volumes ≡ n.volumes → m.group ≡ Some call_note → IsNamed m
     call_named it m volumes group =
@@ -122,7 +126,7 @@ module _ {R : Type 0} {g : Ghosts R} where
           moved.2.change.parts.rvg ∙ ap (λ (c : Config). c.rvg) (sym first) ∙ it.3,
           volumes ∙ it.4 ∙ ap (λ (xs : List DataVolume). map as_volume xs) (data_again it.0.volumes moved.2.now.volumes it.1.vols same),
           record { srl = has_again it.0.volumes moved.2.now.volumes it.1.srl same it.5.srl; vols = all_again it.0.volumes moved.2.now.volumes it.1.vols same it.5.vols },
-          cut_none m call_note group (moved.1.same.cut ∙ it.6),
+          cut_none m call_note group (moved.1.same.cut ∙ cut_up it.6),
         )
 
     pub call_units : config_units (config_of call_note.config) ≡ config_units (config_of note.config)

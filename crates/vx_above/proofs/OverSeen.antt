@@ -22,7 +22,7 @@ use Rattle.vx_yard.proofs.Rows.{fact_like, fact_same, facts_is}
 abbrev pub noted_node : Node → GroupNode → Fuse → Node
 noted_node m next fuse = record m { group = Some next; fuse = fuse }
 
-group_like : (state : SiteState) (m : Node) (next : GroupNode) (fuse : Fuse) → group_by state (noted_node m next fuse) ≡ group_by state m
+pub group_like : (state : SiteState) (m : Node) (next : GroupNode) (fuse : Fuse) → group_by state (noted_node m next fuse) ≡ group_by state m
 group_like IsBare m next fuse = refl
 group_like IsUp m next fuse = refl
 group_like Deported m next fuse = refl

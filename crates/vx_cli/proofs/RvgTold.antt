@@ -7,13 +7,13 @@ use Rattle.vx_model.specs.declared.no.No.{No}
 use Rattle.vx_model.specs.declared.units.Units.{Units}
 use Rattle.vx_order.specs.Calls.{is_data}
 use Rattle.vx_script.specs.declared.line.ScriptLine.{ScriptLine}
-use Rattle.vx_script.specs.declared.line.ScriptLine.TheVariants.{GroupDeport, GroupImport, PlexAttach, PlexDetach, Put, Read, Recover, Rvg, Show, Write}
+use Rattle.vx_script.specs.declared.line.ScriptLine.TheVariants.{GroupDeport, GroupImport, PlexAttach, PlexDetach, Put, Read, Recover, Rvg, Show, Volume, Write}
 use Rattle.vx_events.specs.Ends.{place_of}
 use Rattle.vx_events.specs.Facts.{site_number}
 use Rattle.vx_events.specs.Fails.{Fails}
 use Rattle.vx_events.specs.GroupNotes.{note_at}
 use Rattle.vx_events.specs.Parts.{StopsBetween, StopsDown, StopsInPart, StopsRead, StopsShort}
-use Rattle.vx_events.specs.RvgBack.{GroupHeld, GroupUnfound, LogFails, LogLacks, FindsNoRvg, FindsPlain, FindsRvg, RvgBack, RvgFinds, RvgUp}
+use Rattle.vx_events.specs.RvgBack.{FindsLost, FindsNoRvg, FindsPlain, FindsRvg, GroupHeld, GroupUnfound, KeptLost, LogFails, LogLacks, RvgBack, RvgFinds, RvgUp}
 use Rattle.vx_events.specs.OpenLines.{is_open}
 use Rattle.vx_events.specs.RvgMakes.{MakesRvg, RvgCut, RvgDone, RvgFails, RvgLacks}
 use Rattle.vx_events.specs.RvgNotes.{NotesLacking, NotesNarrowed, NotesNoRvg, NotesRvg}
@@ -60,12 +60,16 @@ module _ {T U : Type 0} (f : U → T) where
       LogFails site kept taken disk middle next gone has is of failed (back_told f s (d.world.nodes s) fails (note_at (d.world.nodes s)) middle back) keeps works session says left
   came_told d line s fails said new (LogLacks site kept taken middle next has is of back keeps works lacks says left) =
       LogLacks site kept taken middle next has is of (back_told f s (d.world.nodes s) fails (note_at (d.world.nodes s)) middle back) keeps works (λ u. lacks (f u)) says left
+  came_told d line s fails said new (KeptLost site kept taken disk middle next has cut is of failed back keeps works says left) =
+      KeptLost site kept taken disk middle next has cut is of failed (back_told f s (d.world.nodes s) fails (note_at (d.world.nodes s)) middle back) keeps works says left
   came_told d line s fails said new (GroupUnfound site kept taken lost why next has is of not leaves says left) = GroupUnfound site kept taken lost why next has is of not leaves says left
   came_told d line s fails said new (GroupHeld site kept taken lost disk next has is of failed notes says left) = GroupHeld site kept taken lost disk next has is of failed notes says left
 
   found_told : (d : Doubted) (line : ScriptLine) (s : ℕ) (fails : Fails) (said : Said) (new : Doubted) → RvgFinds T d line s fails said new → RvgFinds U d line s fails said new
   found_told d line s fails said new (FindsRvg kept taken next mid n k row c units of brings knows dark is same comes config fits lies says left) =
       FindsRvg kept taken next mid n k row c units of brings (nothing_told f (note_at (d.world.nodes s)) knows) (λ u. dark (f u)) is same comes config fits lies says left
+  found_told d line s fails said new (FindsLost site kept taken disk next mid n k row c units has cut is are failed unknown dark rests same comes config fits lies says left) =
+      FindsLost site kept taken disk next mid n k row c units has cut is are failed (nothing_told f (note_at (d.world.nodes s)) unknown) (λ u. dark (f u)) rests same comes config fits lies says left
   found_told d line s fails said new (FindsPlain kept taken next mid over of brings knows dark is none says left) =
       FindsPlain kept taken next mid over of brings (nothing_told f (note_at (d.world.nodes s)) knows) (λ u. dark (f u)) is none says left
   found_told d line s fails said new (FindsNoRvg kept taken lost next why over of brings knows other notes says left) =
@@ -117,6 +121,7 @@ module _ {T U : Type 0} (f : U → T) where
 
   place_told : (d : Doubted) (line : ScriptLine) (s : ℕ) (fails : Fails) (said : Said) (new : Doubted) → OverRvg T d line s fails said new → OverRvg U d line s fails said new
   place_told d (GroupDeport site) s fails said new x = below_told d (GroupDeport site) s fails said new x
+  place_told d (Volume site volume blocks mirrors layout log map policy) s fails said new x = below_told d (Volume site volume blocks mirrors layout log map policy) s fails said new x
   place_told d (PlexDetach site volume plex) s fails said new x = below_told d (PlexDetach site volume plex) s fails said new x
   place_told d (PlexAttach site volume plex) s fails said new x = below_told d (PlexAttach site volume plex) s fails said new x
   place_told d (GroupImport site) s fails said new (inl x) = inl (takes_told d (GroupImport site) s fails said new x)

@@ -1,5 +1,5 @@
 -- Calls on the group below a replicated volume group that write to no volume, by what the site notes of it.
-use Rattle.std.proofs.Common.{◌≡◌, ◌-◌, inr, ℕ, Bool, true, false, [], IsTrue, length, refl, sym, ap, subst}
+use Rattle.std.proofs.Common.{◌≡◌, ◌-◌, inr, ℕ, Bool, true, false, [], length, refl, sym, subst}
 use Rattle.std.specs.Prelude.{Some, Result, Ok, Err, nat_le, nat_lt}
 use Rattle.vx_model.specs.declared.errors.Stop.{Stop}
 use Rattle.vx_model.specs.declared.errors.Stop.TheVariants.{No as Refused, OutOfMemory}
@@ -178,17 +178,17 @@ module _ {R : Type 0} {g : Ghosts R} where
 
   -- behind a call its disks are up, or have no fuse
   module _ (rackful : (r : R) → IsRack (g.meaning r)) where
-    below_settled : (T : Type 0) (twice : Bool) (Done Fails Cuts : Config → Config → Type 0) (Lacks : No → Type 0) (n : Node) (note : GroupNode) (old new : GroupSite R g) (r : Result T Stop) → CalledBelow {T = T} twice Done Fails Cuts Lacks n note old new r → IsSettled new
-    below_settled T twice Done Fails Cuts Lacks n note old new (Ok done) it = up_settled rackful (with_note (note_tidied it.0) n) (note_tidied it.0) new it.2
-    below_settled T twice Done Fails Cuts Lacks n note old new (Err (Refused (Device disk))) it = up_settled rackful (with_note (note_tidied it.0) n) (note_tidied it.0) new it.2
-    below_settled T twice Done Fails Cuts Lacks n note old new (Err (Refused IsOff)) it = down_settled rackful (crashed (with_note (note_tidied it.0) n) 0) (note_tidied it.0) new it.2
-    below_settled T twice Done Fails Cuts Lacks n note old new (Err (Refused other)) it = up_settled rackful (worked n) note new it.0
-    below_settled T twice Done Fails Cuts Lacks n note old new (Err OutOfMemory) it = absurd it
+    pub calls_settled : (T : Type 0) (twice : Bool) (Done Fails Cuts : Config → Config → Type 0) (Lacks : No → Type 0) (n : Node) (note : GroupNode) (old new : GroupSite R g) (r : Result T Stop) → CalledBelow {T = T} twice Done Fails Cuts Lacks n note old new r → IsSettled new
+    calls_settled T twice Done Fails Cuts Lacks n note old new (Ok done) it = up_settled rackful (with_note (note_tidied it.0) n) (note_tidied it.0) new it.2
+    calls_settled T twice Done Fails Cuts Lacks n note old new (Err (Refused (Device disk))) it = up_settled rackful (with_note (note_tidied it.0) n) (note_tidied it.0) new it.2
+    calls_settled T twice Done Fails Cuts Lacks n note old new (Err (Refused IsOff)) it = down_settled rackful (crashed (with_note (note_tidied it.0) n) 0) (note_tidied it.0) new it.2
+    calls_settled T twice Done Fails Cuts Lacks n note old new (Err (Refused other)) it = up_settled rackful (worked n) note new it.0
+    calls_settled T twice Done Fails Cuts Lacks n note old new (Err OutOfMemory) it = absurd it
 
     pub det_below_settled : (n : Node) (note : GroupNode) (v p : ℕ) (old new : GroupSite R g) (r : Result (Unit {0}) Stop) → DetBelow n note v p old new r → IsSettled new
     det_below_settled n note v p old new r it =
-        below_settled (Unit {0}) false (DetDone v p (site_disks old) (site_disks new)) (DetFails (site_disks old) (site_disks new)) (DetCuts v p (site_disks old) (site_disks new)) (λ which. refuses_det old v p ≡ Some which) n note old new r it
+        calls_settled (Unit {0}) false (DetDone v p (site_disks old) (site_disks new)) (DetFails (site_disks old) (site_disks new)) (DetCuts v p (site_disks old) (site_disks new)) (λ which. refuses_det old v p ≡ Some which) n note old new r it
 
     pub att_below_settled : (n : Node) (note : GroupNode) (v p : ℕ) (old new : GroupSite R g) (r : Result ℕ Stop) → AttBelow n note v p old new r → IsSettled new
     att_below_settled n note v p old new r it =
-        below_settled ℕ true (AttDone v p (site_disks old) (site_disks new)) (AttFails v p (site_disks old) (site_disks new)) (AttCuts v p (site_disks old) (site_disks new)) (λ which. refuses_att old v p ≡ Some which) n note old new r it
+        calls_settled ℕ true (AttDone v p (site_disks old) (site_disks new)) (AttFails v p (site_disks old) (site_disks new)) (AttCuts v p (site_disks old) (site_disks new)) (λ which. refuses_att old v p ≡ Some which) n note old new r it

@@ -32,6 +32,7 @@ pub mod OverKept
 pub mod OverLikes
 pub mod OverPlain
 pub mod CallsBelow
+pub mod MakesBelow
 pub mod Tidied
 pub mod OverReads
 pub mod OverReceivers
@@ -39,6 +40,7 @@ pub mod OverAsked
 pub mod OverAway
 pub mod OverTaking
 pub mod OverDoubted
+pub mod OverWrites
 pub mod Loosened
 pub mod OverHolds
 pub mod OverRecovers

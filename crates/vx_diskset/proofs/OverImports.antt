@@ -21,7 +21,7 @@ use Rattle.vx_grouped.specs.declared.group_site.GroupSite.TheVariants.{Up, Depor
 use Rattle.vx_grouped.specs.declared.idle.Idle.{Idle}
 use Rattle.vx_grouped.specs.declared.laid.Laid.{Laid}
 use Rattle.vx_diskset.specs.Aboves.{AboveStays, site_in}
-use Rattle.vx_diskset.specs.GroupCalls.{AtOver, AtSite, cut_in}
+use Rattle.vx_diskset.specs.GroupCalls.{AtOver, AtSite, cut_above, cut_in}
 use Rattle.vx_diskset.specs.GroupSets.{cut_value}
 use Rattle.vx_diskset.specs.OverStarts.{BackAt, BehindImport, BroughtBy, FellBack, HandsOut, RaisesOver, StartFails, Started, StartsOver, TakesOver, TriedOn, WithRvg, WithUnits}
 use Rattle.vx_diskset.specs.Recovers.{RisesSince}
@@ -89,14 +89,14 @@ module _ {R : Type 0} {g : Ghosts R} where
   pub brought_as : (old o mid : GroupSite R g) (answer : Result (Unit {0}) Stop) → old ≡ o → BroughtBy old mid answer → BroughtBy o mid answer
   brought_as old o mid answer is it = subst (λ (x : GroupSite R g). BroughtBy x mid answer) is it
 
-  pub raises_done : (old mid : GroupSite R g) (was cut : Option CutWrite) (new : DiskSet R g) (answer started : Result (Unit {0}) Stop) (r : Result (Option CutWrite) Stop) → BroughtBy old mid answer → was ≡ cut → answer ≡ Ok tt → WithRvg false mid was new started → HandsOut was started r → RaisesOver old cut new r
+  pub raises_done : (old mid : GroupSite R g) (was cut : Option CutWrite) (new : DiskSet R g) (answer started : Result (Unit {0}) Stop) (r : Result (Option CutWrite) Stop) → BroughtBy old mid answer → was ≡ cut → answer ≡ Ok tt → WithRvg false mid was new started → HandsOut (cut_above new was) started r → RaisesOver old cut new r
   raises_done old mid was cut new answer started r by same is over hands = record {
     mid = mid;
     answer = answer;
     by = by;
     started = started;
     behind = subst (λ (a : Result (Unit {0}) Stop). BehindImport false mid cut new a started) (sym is) (subst (λ (k : Option CutWrite). WithRvg false mid k new started) same over);
-    is = subst (λ (k : Option CutWrite). HandsOut k started r) same hands;
+    is = subst (λ (k : Option CutWrite). HandsOut (cut_above new k) started r) same hands;
   }
 
   pub raises_stopped : (old mid : GroupSite R g) (cut : Option CutWrite) (new : DiskSet R g) (answer : Result (Unit {0}) Stop) (stop : Stop) → BroughtBy old mid answer → answer ≡ Err stop → AtOver (λ e. e ≡ mid) new → cut_in new ≡ cut_value cut → RaisesOver old cut new (Err stop)

@@ -63,6 +63,11 @@ module _ {R : Type 0} {g : Ghosts R} where
   cut_behind (Over s) cut = None
   cut_behind other cut = cut
 
+  -- and where the group had one: none, where it has none any more
+  abbrev pub cut_above : DiskSet R g → Option CutWrite → Option CutWrite
+  cut_above (Over s) cut = cut
+  cut_above other cut = None
+
   -- the configuration of a group that is up
   abbrev pub config_in : DiskSet R g → Option Config
   config_in (OfGroup s) = site_config s.site

@@ -32,5 +32,7 @@ pub mod OverAsks
 pub mod OverAways
 pub mod OverKeeps
 pub mod OverPlains
+pub mod OverVolumes
 pub mod OverRises
 pub mod OverStarts
+pub mod OverWrites

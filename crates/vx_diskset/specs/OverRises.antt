@@ -31,6 +31,7 @@ use Rattle.vx_diskset.specs.DiskSets.{CrashedAt, no_number}
 use Rattle.vx_diskset.specs.Holds.{KeptBeside, most_header}
 use Rattle.vx_diskset.specs.Layouts.{units_of}
 use Rattle.vx_diskset.specs.Noted.{AgreesStill, SiteNoted, below_rvg}
+use Rattle.vx_diskset.specs.GroupCalls.{cut_above}
 use Rattle.vx_diskset.specs.OverStarts.{HandsOut}
 use Rattle.vx_diskset.specs.Recovers.{CutFits, KeptIs, still_cut}
 use Rattle.vx_diskset.specs.Stands.{SiteStands}
@@ -200,7 +201,7 @@ module _ {R : Type 0} {g : Ghosts R} where
 
   pub record RaisedOver (beside : KeptBeside) (n : Node) (note : GroupNode) (o : OverSet R g) (new : DiskSet R g) (r : Result (Option CutWrite) Stop) : Type 0 where
     pub answer : Result (Unit {0}) Stop
-    pub hands : HandsOut o.cut answer r
+    pub hands : HandsOut (cut_above new o.cut) answer r
     pub rises : OverRises beside n note (site_in o) new answer
 
   -- of others nothing is said here

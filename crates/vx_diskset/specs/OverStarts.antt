@@ -36,7 +36,7 @@ use Rattle.vx_watched.specs.Since.{CalledSince}
 use Rattle.vx_watched.specs.Traces.{TellsLess}
 use Rattle.vx_diskset.specs.Aboves.{above_in, site_in}
 use Rattle.vx_diskset.specs.Founded.{LaidFell}
-use Rattle.vx_diskset.specs.GroupCalls.{AtOver, cut_behind, cut_in}
+use Rattle.vx_diskset.specs.GroupCalls.{AtOver, cut_above, cut_behind, cut_in}
 use Rattle.vx_diskset.specs.GroupSets.{cut_value}
 use Rattle.vx_diskset.specs.Works.{DoesStart}
 use Rattle.vx_diskset.specs.declared.above.Above.TheVariants.{Origin}
@@ -248,7 +248,7 @@ module _ {R : Type 0} {g : Ghosts R} where
     pub by : BroughtBy old mid answer
     pub started : Result (Unit {0}) Stop
     pub behind : BehindImport false mid cut new answer started
-    pub is : HandsOut cut started r
+    pub is : HandsOut (cut_above new cut) started r
 
   -- an import of one that was deported
   pub record TakesOver (old : GroupSite R g) (cut : Option CutWrite) (new : DiskSet R g) (r : Result (Unit {0}) Stop) : Type 0 where

@@ -16,7 +16,7 @@ ghost use Rattle.vx_diskset.specs.DiskSets.{Later};
 ghost use Rattle.vx_diskset.specs.Aboves.{site_in};
 ghost use Rattle.vx_diskset.specs.OverRises.{FindsOver, LooksOver, RaisesAbove};
 ghost use Rattle.vx_diskset.specs.OverStarts.{HandsOut, ImportsBy, ImportsIn, RaisesBy, RaisesIn, RaisesOver, TakesOver};
-ghost use Rattle.vx_diskset.specs.GroupCalls.{AtFound, AtPlain, AtSite, ImportsOn, InitIs, OnSites, cut_behind as cut_behind_of, cut_in};
+ghost use Rattle.vx_diskset.specs.GroupCalls.{AtFound, AtPlain, AtSite, ImportsOn, InitIs, OnSites, cut_above as cut_above_of, cut_behind as cut_behind_of, cut_in};
 ghost use Rattle.vx_diskset.specs.Holds.{KeptBeside};
 ghost use Rattle.vx_diskset.specs.Recovers.{LooksAt, LooksKept, RaisesGroup, RaisesMaps, RisesSince, RisesWith, cut_past};
 ghost use Rattle.vx_diskset.specs.Stands.{SiteStands};
@@ -167,6 +167,16 @@ fn cut_behind<R: Rack>(disk_set: &DiskSet<R>, cut: Option<CutWrite>) -> Option<C
     }
 }
 
+// The same of a group that had one: no write, where it has none any more.
+fn cut_above<R: Rack>(disk_set: &DiskSet<R>, cut: Option<CutWrite>) -> Option<CutWrite>
+    ensures { result ≡ cut_above_of disk_set.now cut }
+{
+    match disk_set {
+        DiskSet::Over(_) => cut,
+        _ => None,
+    }
+}
+
 // The same of a site that crashed, which hands out the write that its crash cut.
 fn raise_in<R: Rack>(
     group: GroupSet<R>,
@@ -205,6 +215,7 @@ fn raise_over<R: Rack>(
     match answer {
         Ok(()) => {
             let (disk_set, started) = with_rvg(alloc, site, cut, false);
+            let kept = cut_above(&disk_set, kept);
             (disk_set, hands_out(started, kept))
         }
         Err(stop) => (DiskSet::Over(OverSet::of(site, above, cut)), Err(stop)),

@@ -21,6 +21,7 @@ mod over_plain;
 mod over_plexes;
 mod over_set;
 mod over_starts;
+mod over_volumes;
 mod over_work;
 mod places;
 mod pumping;

@@ -28,11 +28,13 @@ use Rattle.vx_events.specs.Found.{ComesUpAs}
 use Rattle.vx_events.specs.Facts.{site_number}
 use Rattle.vx_events.specs.Failing.{is_failing, made_fail}
 use Rattle.vx_events.specs.LinkEnds.{AreLeft, link_noted, target_noted}
+use Rattle.vx_events.specs.RvgBack.{fallen, fallen_row, found_fallen}
 use Rattle.vx_events.specs.LinksFit.{DoubtFits, IsBlank, IsRested, LinksFit, RowFits, StartsAt}
 use Rattle.vx_events.proofs.Places.{never_some, some_same}
 use Rattle.vx_effects.specs.Settings.{SetsFail}
 use Rattle.vx_effects.proofs.Fitting.{fit_crashed, fit_happened, fit_resolved, none_more, updated_other}
 use Rattle.vx_effects.proofs.Headers.{bare_none}
+use Rattle.vx_effects.proofs.Links.{keeps_touch, row_moves}
 use Rattle.vx_effects.proofs.Moves.{All, Moves, Rests, fit_moves, moves_alike, moves_like}
 use Rattle.vx_effects.proofs.Outcomes.{outcome_moves, stopped_moves}
 use Rattle.vx_effects.proofs.Tests
@@ -259,11 +261,11 @@ fit_empty = record {
   rests = λ p down. let e : Bare ≡ Down = down in absurd (cc);
 }
 
--- what is found on the disks of a site that is not in doubt, with links that fit
-pub fit_found : (d : Doubted) (s : ℕ) (n k : Node) (row : ℕ → LinkOf) → s < d.world.sites → d.after s ≡ None → ComesUpAs s d.world.sites n k row → LinksFit d
+-- what a site that is not in doubt is made, which is not bare, with links that fit
+pub fit_linked : (d : Doubted) (s : ℕ) (k : Node) (row : ℕ → LinkOf) → s < d.world.sites → d.after s ≡ None → (k.state ≡ Bare → ⊥) → RowFits s d.world.sites row → StartsAt k row → k.phase ≡ Quiet → IsRested k → LinksFit d
     → LinksFit (found_linked d s k row)
-fit_found d s n k row below sure comes fit = record {
-  rows = all_updated (λ (p : ℕ) (r : ℕ → LinkOf). RowFits p d.world.sites r) d.world.links s row comes.fits (λ p _. fit.rows p);
+fit_linked d s k row below sure made fits starts quiet rests fit = record {
+  rows = all_updated (λ (p : ℕ) (r : ℕ → LinkOf). RowFits p d.world.sites r) d.world.links s row fits (λ p _. fit.rows p);
   later = all_updated (λ (p : ℕ) (n : Node). d.world.sites ≤ p → n.state ≡ Bare) d.world.nodes s k (λ h. absurd (omega (arith, below, h))) (λ p _ h. fit.later p h);
   bare = λ p bare. blank p (apart p bare) (subst (λ (n : Node). n.state ≡ Bare) (updated_other d.world.nodes s p k (apart p bare)) bare);
   doubts = λ p a is.
@@ -279,18 +281,15 @@ fit_found d s n k row below sure comes fit = record {
         quiet = f.quiet;
       };
   starts = λ p. starting p (eqb p s) refl;
-  quiet = all_updated (λ (p : ℕ) (m : Node). m.phase ≡ Quiet) d.world.nodes s k comes.quiet (λ p _. fit.quiet p);
-  rests = all_updated (λ (p : ℕ) (m : Node). IsRested m) d.world.nodes s k (λ _. comes.rests) (λ p _. fit.rests p);
+  quiet = all_updated (λ (p : ℕ) (m : Node). m.phase ≡ Quiet) d.world.nodes s k quiet (λ p _. fit.quiet p);
+  rests = all_updated (λ (p : ℕ) (m : Node). IsRested m) d.world.nodes s k rests (λ p _. fit.rests p);
 }
   where
-    up : k.state ≡ Up
-    up = comes.same.up
-
     starting : (p : ℕ) (b : Bool) → eqb p s ≡ b → StartsAt (updated d.world.nodes s k p) (updated d.world.links s row p)
     starting p true e =
         subst (λ (i : ℕ). StartsAt (updated d.world.nodes s k i) (updated d.world.links s row i)) (sym (eqb_equal p s e))
         (subst (λ (m : Node). StartsAt m (updated d.world.links s row s)) (sym (at_place d.world.nodes s k))
-        (subst (λ (r : ℕ → LinkOf). StartsAt k r) (sym (at_place d.world.links s row)) comes.starts))
+        (subst (λ (r : ℕ → LinkOf). StartsAt k r) (sym (at_place d.world.links s row)) starts))
     starting p false e =
         let other : p ≡ s → ⊥ = eqb_apart p s e in
         subst (λ (m : Node). StartsAt m (updated d.world.links s row p)) (sym (updated_other d.world.nodes s p k other))
@@ -299,10 +298,33 @@ fit_found d s n k row below sure comes fit = record {
     apart : (p : ℕ) → (updated d.world.nodes s k p).state ≡ Bare → p ≡ s → ⊥
     apart p bare same =
         let here : (updated d.world.nodes s k s).state ≡ Bare = subst (λ (i : ℕ). (updated d.world.nodes s k i).state ≡ Bare) same bare in
-        let e : Up ≡ Bare = sym up ∙ ap (λ (n : Node). n.state) (sym (at_place d.world.nodes s k)) ∙ here in cc
+        made (ap (λ (n : Node). n.state) (sym (at_place d.world.nodes s k)) ∙ here)
 
     blank : (p : ℕ) → (p ≡ s → ⊥) → (d.world.nodes p).state ≡ Bare → IsBlank (found_linked d s k row).world p
     blank p other bare = record {
       links = λ i. ap (λ (r : ℕ → LinkOf). is_linked (r i)) (updated_other d.world.links s p row other) ∙ (fit.bare p bare).links i;
       headers = (fit.bare p bare).headers;
+    }
+
+-- what is found on the disks of a site that is not in doubt, with links that fit
+pub fit_found : (d : Doubted) (s : ℕ) (n k : Node) (row : ℕ → LinkOf) → s < d.world.sites → d.after s ≡ None → ComesUpAs s d.world.sites n k row → LinksFit d
+    → LinksFit (found_linked d s k row)
+fit_found d s n k row below sure comes fit =
+    fit_linked d s k row below sure (λ bare. let e : Up ≡ Bare = sym comes.same.up ∙ bare in absurd (cc)) comes.fits comes.starts comes.quiet (λ _. comes.rests) fit
+
+-- the same behind a crash, with all its writes
+pub fit_fallen : (d : Doubted) (s : ℕ) (n k : Node) (row : ℕ → LinkOf) → s < d.world.sites → d.after s ≡ None → ComesUpAs s d.world.sites n k row → LinksFit d
+    → LinksFit (found_fallen d s k row)
+fit_fallen d s n k row below sure comes fit =
+    let it : LinksFit (found_linked d s (fallen k) (fallen_row row)) =
+    fit_linked d s (fallen k) (fallen_row row) below sure (λ bare. let e : Down ≡ Bare = bare in absurd (cc)) (row_moves s d.world.sites row (fallen_row row) (λ i. keeps_touch (row i)) comes.fits) comes.starts comes.quiet
+    (λ _. refl) fit in
+    record {
+      rows = it.rows;
+      later = it.later;
+      bare = λ p bare. record { links = (it.bare p bare).links; headers = (it.bare p bare).headers };
+      doubts = λ p a is. let f = it.doubts p a is in record { up = f.up; halted = f.halted; up_too = f.up_too; halted_too = f.halted_too; row = f.row; starts = f.starts; quiet = f.quiet };
+      starts = it.starts;
+      quiet = it.quiet;
+      rests = it.rests;
     }

@@ -10,9 +10,9 @@ use Rattle.vx_history.specs.Likes.{IsLike}
 use Rattle.vx_history.specs.Stops.{EventsEnd, AllDone as EventsDone, Halts, Cuts, Reads, IsLikeDoubted, IsOpen, all_fails, told_fails}
 use Rattle.vx_history.specs.World.{NoFuse, World}
 use Rattle.vx_history.specs.declared.event.Event.{Event}
-use Rattle.vx_history.specs.declared.event.Event.TheVariants.{Recover as RecoverAt, Fall as FallAt}
+use Rattle.vx_history.specs.declared.event.Event.TheVariants.{Crash as CrashAt, Fall as FallAt, Recover as RecoverAt}
 use Rattle.vx_script.specs.declared.line.ScriptLine.{ScriptLine}
-use Rattle.vx_script.specs.declared.line.ScriptLine.TheVariants.{Apply, Crash, Disk as DiskLine, Fuse as FuseLine, GroupDeport, GroupImport, PlexAttach, PlexDetach, Put, Raw, Read, Recover, Show, Site, Status, Write}
+use Rattle.vx_script.specs.declared.line.ScriptLine.TheVariants.{Apply, Crash, Disk as DiskLine, Fuse as FuseLine, GroupDeport, GroupImport, PlexAttach, PlexDetach, Put, Raw, Read, Recover, Show, Site, Status, Volume, Write}
 use Rattle.vx_events.proofs.GroupStopping.{group_stops, noted_like}
 use Rattle.vx_events.proofs.KnownLaws.{finds_none}
 use Rattle.vx_events.proofs.Noting.{as_like, disks_like, like_disks, like_noted, like_self, like_then, like_site}
@@ -30,7 +30,7 @@ use Rattle.vx_events.specs.GroupEnds.{KnowsNothing}
 use Rattle.vx_events.specs.GroupLines.{group_noted, noting}
 use Rattle.vx_events.specs.GroupNotes.{IsKnown, note_at}
 use Rattle.vx_events.specs.Lists.{Choice, events_of, recovery_of, crash_count}
-use Rattle.vx_events.specs.RvgBack.{FindsNoRvg, FindsPlain, FindsRvg, GroupHeld, GroupUnfound, IsLeftBack, IsLeftBut, LogFails, LogLacks, RvgBack, RvgFinds, RvgUp, fall_first, fuse_left, SessionLeft}
+use Rattle.vx_events.specs.RvgBack.{FindsLost, FindsNoRvg, FindsPlain, FindsRvg, GroupHeld, GroupUnfound, IsLeftBack, IsLeftBut, KeptLost, LogFails, LogLacks, RvgBack, RvgFinds, RvgUp, SessionLeft, fall_first, fuse_left}
 use Rattle.vx_events.specs.RvgMakes.{RvgStops}
 use Rattle.vx_events.specs.RvgOver.{BelowEnds, EndsOver, OpensFor, OverRvg, kind_named, missed_world, noting_over, fuse_behind}
 use Rattle.vx_events.specs.RvgParts.{RvgShort, ShortGroup, ShortLog, ShortMade}
@@ -122,6 +122,9 @@ module _ (told : Type 0) (d : Doubted) (line : ScriptLine) (s : ℕ) (fails : Fa
   back_stops (LogFails site kept taken disk middle next left has is are failed back keeps works (inr begun) says leads) =
       but_by true d s line taken next (fall_first (d.world.nodes s).state s kept ++ left) ((s, disk) ∷ []) new (told_behind (fall_first (d.world.nodes s).state s kept) left (falls_tell (d.world.nodes s).state s kept) ∙ ap all_fails begun) leads
   back_stops (LogLacks site kept taken middle next has is are back keeps works lacks says left) = fall_stops d s line kept taken true next new left
+  back_stops (KeptLost site kept taken disk middle next has cut is are failed back keeps works says left) =
+      done_by d s line taken next (fall_first (d.world.nodes s).state s kept ++ RecoverAt s None ∷ CrashAt s 0 ∷ []) [] new
+      (told_behind (fall_first (d.world.nodes s).state s kept) (RecoverAt s None ∷ CrashAt s 0 ∷ []) (falls_tell (d.world.nodes s).state s kept)) left
   back_stops (GroupUnfound site kept taken lost why next has is are not leaves says left) = fall_stops d s line kept taken lost next new left
   back_stops (GroupHeld site kept taken lost disk next has is are failed notes says left) = fall_stops d s line kept taken lost next new left
 
@@ -208,6 +211,7 @@ opens_at w other opens c h = absurd h
 unknown_found : (told : Type 0) (d : Doubted) (s : ℕ) (fails : Fails) (said : Said) (new : Doubted) (line : ScriptLine) → RvgFinds told d line s fails said new
     → KnowsNothing told (note_at (d.world.nodes s))
 unknown_found told d s fails said new line (FindsRvg kept taken next mid n k row c units are brings unknown dark is same comes config fits lies says left) = unknown
+unknown_found told d s fails said new line (FindsLost site kept taken disk next mid n k row c units has cut is are failed unknown dark rests same comes config fits lies says left) = unknown
 unknown_found told d s fails said new line (FindsPlain kept taken next mid has are brings unknown dark is none says left) = unknown
 unknown_found told d s fails said new line (FindsNoRvg kept taken lost next why has are brings unknown free notes says left) = unknown
 
@@ -224,6 +228,8 @@ module _ (told : Type 0) (d : Doubted) (s : ℕ) (fails : Fails) (said : Said) (
   pub finds_stops : (line : ScriptLine) → new.strayed ≡ false → RvgFinds told d line s fails said new → RvgStops d new
   finds_stops line calm (FindsRvg kept taken next mid n k row c units are brings unknown dark is same comes config fits lies says left) =
       absurd (let e : true ≡ false = sym left.strayed ∙ calm in cc)
+  finds_stops line calm (FindsLost site kept taken disk next mid n k row c units has cut is are failed unknown dark rests same comes config fits lies says left) =
+      absurd (let e : true ≡ false = sym left.strayed ∙ calm in cc)
   finds_stops line calm (FindsPlain kept taken next mid has are brings unknown dark is none says left) = absurd (let e : true ≡ false = sym left.strayed ∙ calm in cc)
   finds_stops line calm (FindsNoRvg kept taken lost next why has are brings unknown free notes says left) = fall_stops d s line kept taken lost next new left
 
@@ -238,6 +244,7 @@ module _ (told : Type 0) (d : Doubted) (s : ℕ) (fails : Fails) (said : Said) (
   -- the line ended as events do, or found something on disks of which nothing is known
   pub stops_or_finds : (line : ScriptLine) → OpensFor d.world line → OverRvg told d line s fails said new → RvgStops d new ⊎ RvgFinds told d line s fails said new
   stops_or_finds (GroupDeport site) opens ends = inl (below_stops told d (GroupDeport site) s fails said new ends)
+  stops_or_finds (Volume site volume blocks mirrors layout log map policy) opens ends = inl (below_stops told d (Volume site volume blocks mirrors layout log map policy) s fails said new ends)
   stops_or_finds (PlexDetach site volume plex) opens ends = inl (below_stops told d (PlexDetach site volume plex) s fails said new ends)
   stops_or_finds (PlexAttach site volume plex) opens ends = inl (below_stops told d (PlexAttach site volume plex) s fails said new ends)
   stops_or_finds (GroupImport site) opens ends = takes_or (GroupImport site) ends

@@ -7,7 +7,7 @@ use Rattle.vx_script.specs.declared.line.ScriptLine.{ScriptLine}
 use Rattle.vx_script.specs.declared.line.ScriptLine.TheVariants.{Rvg}
 use Rattle.vx_events.specs.Fails.{Fails}
 use Rattle.vx_events.specs.GroupEnds.{BringsUp}
-use Rattle.vx_events.specs.RvgBack.{FindsNoRvg, FindsPlain, FindsRvg, RvgFinds}
+use Rattle.vx_events.specs.RvgBack.{FindsLost, FindsNoRvg, FindsPlain, FindsRvg, RvgFinds}
 use Rattle.vx_events.proofs.Opens.{for_none, open_none}
 use Rattle.vx_events.proofs.StrayFinds.{finds_plain}
 use Rattle.vx_events.specs.RvgSteps.{AsBefore, FoundOne, FoundPlain, FullBy, HasNoRvgs, MakesNoRvg, StepFull, WorksAbove, WorksBeside, WorksFull, is_for_rvg}
@@ -18,6 +18,8 @@ use Rattle.vx_events.specs.declared.said.Said.{Said}
 -- what finds a replicated volume group brings a group up
 pub brings_found : (told : Type 0) (d : Doubted) (line : ScriptLine) (s : ℕ) (fails : Fails) (said : Said) (new : Doubted) → RvgFinds told d line s fails said new → BringsUp line
 brings_found told d line s fails said new (FindsRvg kept taken next mid n k row c units are brings unknown dark is same comes config fits lies says left) = brings
+brings_found told d line s fails said new (FindsLost site kept taken disk next mid n k row c units has cut is are failed unknown dark rests same comes config fits lies says left) =
+    subst BringsUp (sym is) tt
 brings_found told d line s fails said new (FindsPlain kept taken next mid has are brings unknown dark is none says left) = brings
 brings_found told d line s fails said new (FindsNoRvg kept taken lost next why has are brings unknown free notes says left) = brings
 

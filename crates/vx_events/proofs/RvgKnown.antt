@@ -10,7 +10,7 @@ use Rattle.vx_history.specs.World.{NoFuse, Node, World}
 use Rattle.vx_config.specs.declared.config.Config.{Config}
 use Rattle.vx_model.specs.declared.units.Units.{Units}
 use Rattle.vx_script.specs.declared.line.ScriptLine.{ScriptLine}
-use Rattle.vx_script.specs.declared.line.ScriptLine.TheVariants.{Apply, GroupDeport, GroupImport, PlexAttach, PlexDetach, Put, Read, Recover, Show, Write}
+use Rattle.vx_script.specs.declared.line.ScriptLine.TheVariants.{Apply, GroupDeport, GroupImport, PlexAttach, PlexDetach, Put, Read, Recover, Show, Volume, Write}
 use Rattle.vx_order.specs.Calls.{is_data}
 use Rattle.vx_events.proofs.ReadsLeave.{read_by, read_note}
 use Rattle.vx_events.proofs.WritesBelow.{write_by}
@@ -22,7 +22,7 @@ use Rattle.vx_events.specs.GroupEnds.{BringsUp}
 use Rattle.vx_events.specs.GroupLines.{noting}
 use Rattle.vx_events.specs.GroupNotes.{Reconfigures, no_note, note_at}
 use Rattle.vx_events.specs.Known.{MayDarken}
-use Rattle.vx_events.specs.RvgBack.{FindsNoRvg, FindsPlain, FindsRvg, GroupHeld, GroupUnfound, IsLeftBack, LogFails, LogLacks, RvgBack, RvgFinds, RvgUp, fuse_left}
+use Rattle.vx_events.specs.RvgBack.{FindsLost, FindsNoRvg, FindsPlain, FindsRvg, GroupHeld, GroupUnfound, IsLeftBack, KeptLost, LogFails, LogLacks, RvgBack, RvgFinds, RvgUp, fuse_left}
 use Rattle.vx_events.specs.RvgMakes.{IsLeftRvg, MakesRvg, RvgCut, RvgDone, RvgFails, RvgLacks, units_at}
 use Rattle.vx_events.specs.RvgNotes.{NotesNarrowed}
 use Rattle.vx_events.specs.RvgOver.{BelowEnds, EndsOver, NotesLine, OverRvg, kind_named, missed_world, noting_over, fuse_behind}
@@ -104,12 +104,15 @@ module _ (told : Type 0) (tells : told) (d : Doubted) (s : ℕ) (known : (note_a
   back_known_too line free (LogFails site kept taken disk middle next left has is are failed back keeps works begun says leads) =
       absurd (no_rise here line said _ says free (subst BringsUp (sym is) tt))
   back_known_too line free (LogLacks site kept taken middle next has is are back keeps works lacks says left) = absurd (no_rise here line said _ says free (subst BringsUp (sym is) tt))
+  back_known_too line free (KeptLost site kept taken disk middle next has cut is are failed back keeps works says left) = absurd (no_rise here line said _ says free (subst BringsUp (sym is) tt))
   back_known_too line free (GroupUnfound site kept taken lost why next has is are not leaves says left) = absurd (no_rise here line said why says free (subst BringsUp (sym is) tt))
   back_known_too line free (GroupHeld site kept taken lost disk next has is are failed notes says left) = absurd (no_rise here line said _ says free (subst BringsUp (sym is) tt))
 
   finds_known : (line : ScriptLine) → (MayDarken here line said → ⊥) → RvgFinds told d line s fails said new → ⊥
   finds_known line free (FindsRvg kept taken next mid n k row c units are brings unknown dark is same comes config fits lies says left) =
       finds_none told tells here known (λ loose. free (brings, inl loose)) unknown
+  finds_known line free (FindsLost site kept taken disk next mid n k row c units has cut is are failed unknown dark rests same comes config fits lies says left) =
+      finds_none told tells here known (λ loose. free (subst BringsUp (sym is) tt, inl loose)) unknown
   finds_known line free (FindsPlain kept taken next mid has are brings unknown dark is none says left) =
       finds_none told tells here known (λ loose. free (brings, inl loose)) unknown
   finds_known line free (FindsNoRvg kept taken lost next why has are brings unknown device notes says left) =
@@ -158,6 +161,7 @@ module _ (told : Type 0) (tells : told) (d : Doubted) (s : ℕ) (known : (note_a
 
   pub over_known : (line : ScriptLine) → (MayDarken here line said → ⊥) → OverRvg told d line s fails said new → (note_at (new.world.nodes s)).dark ≡ false
   over_known (GroupDeport site) free ends = below_known (GroupDeport site) free ends
+  over_known (Volume site volume blocks mirrors layout log map policy) free ends = below_known (Volume site volume blocks mirrors layout log map policy) free ends
   over_known (PlexDetach site volume plex) free ends = below_known (PlexDetach site volume plex) free ends
   over_known (PlexAttach site volume plex) free ends = below_known (PlexAttach site volume plex) free ends
   over_known (GroupImport site) free ends = takes_or_known (GroupImport site) free ends

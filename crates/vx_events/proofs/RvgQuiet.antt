@@ -1,6 +1,6 @@
 -- Where no call of a line failed, and no fuse ran out in it, imports of a group of disks with a replicated volume group agree behind it as before.
 use Rattle.std.proofs.Common.{◌≡◌, ◌∙◌, ◌⊎◌, inl, inr, ℕ, Bool, true, false, List, Option, Some, ap, refl, subst, sym}
-use Rattle.std.specs.Prelude.{◌||◌, unwrap_or}
+use Rattle.std.specs.Prelude.{unwrap_or}
 use Rattle.vx_model.specs.declared.no.Counted.TheVariants.{Number}
 use Rattle.vx_model.specs.declared.no.No.{No}
 use Rattle.vx_model.specs.declared.no.No.TheVariants.{Limit}
@@ -9,8 +9,9 @@ use Rattle.vx_history.specs.Groups.{GroupNode, MissedNote, NoteSettles}
 use Rattle.vx_history.specs.World.{Node, World}
 use Rattle.vx_model.specs.Content.{Write as BlockWrite}
 use Rattle.vx_config.specs.declared.config.Config.{Config}
+use Rattle.vx_layout.specs.declared.shape.Shape.{Shape}
 use Rattle.vx_script.specs.declared.line.ScriptLine.{ScriptLine}
-use Rattle.vx_script.specs.declared.line.ScriptLine.TheVariants.{Apply, GroupDeport, GroupImport, PlexAttach, PlexDetach, Put, Read, Recover, Show, Write}
+use Rattle.vx_script.specs.declared.line.ScriptLine.TheVariants.{Apply, GroupDeport, GroupImport, PlexAttach, PlexDetach, Put, Read, Recover, Show, Volume, Write}
 use Rattle.vx_events.proofs.KnownLaws.{left_note}
 use Rattle.vx_events.proofs.RvgEnding.{never_found}
 use Rattle.vx_events.proofs.RvgMissed.{loosened_group, missed_agrees, missed_node}
@@ -18,8 +19,8 @@ use Rattle.vx_events.proofs.RvgStays.{back_group, but_group}
 use Rattle.vx_events.specs.Fails.{Fails}
 use Rattle.vx_events.specs.GroupEnds.{BringsUp, FindsGroup, FindsNoGroup, GroupCut, GroupDoes, GroupDone, GroupEnds, GroupFails, GroupLacks, GroupNotFound, ImportFails, InitFails, KeptUnread, NotFoundLeaves}
 use Rattle.vx_events.specs.GroupMaps.{WithMaps}
-use Rattle.vx_events.specs.GroupNotes.{NotesBack, NotesRefused, NotesWrite, Reconfigures, no_note, note_at}
-use Rattle.vx_events.specs.RvgBack.{GroupHeld, GroupUnfound, LogFails, LogLacks, RvgBack, RvgFinds, RvgUp}
+use Rattle.vx_events.specs.GroupNotes.{NotesBack, NotesRefused, NotesVolume, NotesWrite, Reconfigures, no_note, note_at}
+use Rattle.vx_events.specs.RvgBack.{GroupHeld, GroupUnfound, KeptLost, LogFails, LogLacks, RvgBack, RvgFinds, RvgUp}
 use Rattle.vx_order.specs.Calls.{is_data}
 use Rattle.vx_events.proofs.ReadsLeave.{read_by, read_note}
 use Rattle.vx_events.proofs.WritesBelow.{write_by}
@@ -57,6 +58,12 @@ settled_maps note next x a =
 -- a write that was done
 written_agrees : (s : ℕ) (fails : Fails) (x : BlockWrite) (note next : GroupNode) → NotesWrite s fails x note next → NoteAgrees note → NoteAgrees next
 written_agrees s fails x note next w a = agrees_same w.middle next (ap (λ (g : GroupNode). g.loose) w.is) (ap (λ (g : GroupNode). g.begun) w.is) (settled_maps note w.middle w.moves a)
+
+-- a volume that was made
+volume_agrees : (s : ℕ) (fails : Fails) (name : List ℕ) (want : Shape) (note next : GroupNode) → NotesVolume s fails name want note next → NoteAgrees note → NoteAgrees next
+volume_agrees s fails name want note next x a =
+    let rests = x.settles.tight a.loose a.begun in
+    agrees_same x.middle next (ap (λ (g : GroupNode). g.loose) x.zeros.same) (ap (λ (g : GroupNode). g.begun) x.zeros.same) (record { loose = rests.1; begun = rests.0 })
 
 -- ---- a line on the group alone
 
@@ -97,6 +104,7 @@ module _ (told : Type 0) (tells : told) (d : Doubted) (s : ℕ) (fails : Fails) 
   back_agrees line (LogLacks site kept taken middle next has is are back keeps works lacks says left) =
       agrees_at (new.world.nodes s) next (but_group true s line taken next d _ new left)
       (agrees_same works.worked next (ap (λ (g : GroupNode). g.loose) works.is) (ap (λ (g : GroupNode). g.begun) works.is) (came_agrees middle works.worked back works.works))
+  back_agrees line (KeptLost site kept taken disk middle next has cut is are failed back keeps works says left) = absurd (none disk failed)
   back_agrees line (GroupUnfound site kept taken lost why next has is are not leaves says left) =
       agrees_at (new.world.nodes s) next (but_group lost s line taken next d _ new left) (agrees_unfound why here next leaves a)
   back_agrees line (GroupHeld site kept taken lost disk next has is are failed notes says left) = absurd (none disk failed)
@@ -146,6 +154,7 @@ module _ (told : Type 0) (tells : told) (d : Doubted) (s : ℕ) (fails : Fails) 
 
   pub over_agrees : (line : ScriptLine) → OverRvg told d line s fails said new → NoteAgrees (note_at (new.world.nodes s))
   over_agrees (GroupDeport site) ends = below_agrees (GroupDeport site) (λ brings. brings) (λ n note next done. settled_maps note next done.0) ends
+  over_agrees (Volume site volume blocks mirrors layout log map policy) ends = below_agrees (Volume site volume blocks mirrors layout log map policy) (λ brings. brings) (λ n note next done. volume_agrees s fails volume _ note next done.0) ends
   over_agrees (PlexDetach site volume plex) ends = below_agrees (PlexDetach site volume plex) (λ brings. brings) (λ n note next done. settled_maps note next done.0) ends
   over_agrees (PlexAttach site volume plex) ends = below_agrees (PlexAttach site volume plex) (λ brings. brings) (λ n note next done. settled_maps note next done.0) ends
   over_agrees (GroupImport site) ends = takes_or (GroupImport site) ends

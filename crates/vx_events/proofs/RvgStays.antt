@@ -11,10 +11,10 @@ use Rattle.vx_model.specs.Content.{Write as BlockWrite}
 use Rattle.vx_config.specs.declared.config.Config.{Config}
 use Rattle.vx_model.specs.declared.site.PlexState.TheVariants.{Active, Stale}
 use Rattle.vx_script.specs.declared.line.ScriptLine.{ScriptLine}
-use Rattle.vx_script.specs.declared.line.ScriptLine.TheVariants.{Apply, GroupDeport, GroupImport, PlexAttach, PlexDetach, Put, Read, Recover, Show, Write}
+use Rattle.vx_script.specs.declared.line.ScriptLine.TheVariants.{Apply, GroupDeport, GroupImport, PlexAttach, PlexDetach, Put, Read, Recover, Show, Volume, Write}
 use Rattle.vx_events.proofs.KnownLaws.{group_stays, left_note, never}
 use Rattle.vx_events.proofs.Places.{some_same}
-use Rattle.vx_events.proofs.PlexKeeps.{puts_or}
+use Rattle.vx_events.proofs.PlexKeeps.{puts_or, volume_keeps}
 use Rattle.vx_events.proofs.RvgConfigs.{again_keeps, closed_keeps, keeps_self, keeps_then, loses_keeps, stayed}
 use Rattle.vx_events.proofs.RvgKnown.{back_dark, lost_group, noted_here, noted_over_here}
 use Rattle.vx_events.proofs.RvgMissed.{loosened_note, missed_keeps}
@@ -29,7 +29,7 @@ use Rattle.vx_events.specs.GroupLines.{group_noted, noting, plain_number}
 use Rattle.vx_events.specs.GroupMaps.{WithMaps}
 use Rattle.vx_events.specs.GroupNotes.{IsKnown, NotesBack, NotesCut, NotesDoubt, NotesRefused, NotesUnfound, NotesWrite, Reconfigures, no_note, note_at}
 use Rattle.vx_events.specs.GroupViews.{config_of}
-use Rattle.vx_events.specs.RvgBack.{FindsNoRvg, FindsPlain, FindsRvg, GroupHeld, GroupUnfound, IsLeftBack, IsLeftBut, LogFails, LogLacks, RvgBack, RvgFinds, RvgUp}
+use Rattle.vx_events.specs.RvgBack.{FindsLost, FindsNoRvg, FindsPlain, FindsRvg, GroupHeld, GroupUnfound, IsLeftBack, IsLeftBut, KeptLost, LogFails, LogLacks, RvgBack, RvgFinds, RvgUp}
 use Rattle.vx_events.specs.RvgFits.{KeepsRvg, KeptConfig, NoteKeepsRvg, config_rvg, rvg_noted}
 use Rattle.vx_events.specs.RvgOver.{BelowEnds, NotesLine, OverRvg, EndsOver, kind_named, missed_world}
 use Rattle.vx_events.specs.RvgViews.{is_over_rvg}
@@ -202,6 +202,7 @@ module _ (told : Type 0) (d : Doubted) (line : ScriptLine) (s : ℕ) (fails : Fa
   back_stays (RvgUp site kept taken middle next shown has is are back keeps works says shows left) = left_keeps taken next d _ left (works_keeps ⊥ middle next keeps works)
   back_stays (LogFails site kept taken disk middle next events has is are failed back keeps works begun says left) = but_keeps true taken next d _ left (left_cut ⊥ middle next keeps works)
   back_stays (LogLacks site kept taken middle next has is are back keeps works lacks says left) = but_keeps true taken next d _ left (left_cut ⊥ middle next keeps works)
+  back_stays (KeptLost site kept taken disk middle next has cut is are failed back keeps works says left) = left_keeps taken next d _ left (left_cut ⊥ middle next keeps works)
   back_stays (GroupUnfound site kept taken lost why next has is are not leaves says left) =
       but_keeps lost taken next d _ left (same_config here next (unfound_config why here next leaves))
   back_stays (GroupHeld site kept taken lost disk next has is are failed notes says left) =
@@ -223,6 +224,8 @@ module _ (told : Type 0) (d : Doubted) (line : ScriptLine) (s : ℕ) (fails : Fa
   -- what is found on disks of which nothing is known may be another one, and stays unknown
   finds_stays : told → RvgFinds told d line s fails said new → (note_at (new.world.nodes s)).dark ≡ false → NoteKeepsRvg here (note_at (new.world.nodes s))
   finds_stays tells (FindsRvg kept taken next mid n k row c units are brings unknown dark is same comes config fits lies says left) known =
+      absurd (never (sym known ∙ back_dark s line taken next d _ new left ∙ dark tells))
+  finds_stays tells (FindsLost site kept taken disk next mid n k row c units has cut is are failed unknown dark rests same comes config fits lies says left) known =
       absurd (never (sym known ∙ back_dark s line taken next d _ new left ∙ dark tells))
   finds_stays tells (FindsPlain kept taken next mid has are brings unknown dark is none says left) known =
       absurd (never (sym known ∙ back_dark s line taken next d _ new left ∙ dark tells))
@@ -258,6 +261,9 @@ module _ (told : Type 0) (d : Doubted) (s : ℕ) (fails : Fails) (said : Said) (
   -- the line left it noted so, or found something on disks of which nothing is known
   pub stays_or_finds : (line : ScriptLine) → OverRvg told d line s fails said new → Stays ⊎ RvgFinds told d line s fails said new
   stays_or_finds (GroupDeport site) ends = inl (below_stays told d site s fails said new ends)
+  stays_or_finds (Volume site volume blocks mirrors layout log map policy) ends =
+      inl (below_keeps told d (Volume site volume blocks mirrors layout log map policy) s fails said new (λ brings. brings) (λ n note next does. volume_keeps s fails volume _ note next does.0)
+      (λ note next spoils. mapped_by note next (λ c e. loses_keeps (λ _. false) s fails c e) spoils) (λ note next cuts. mapped_by note next (λ c e. loses_keeps (λ _. false) s fails c e) cuts) ends)
   stays_or_finds (PlexDetach site volume plex) ends =
       inl (below_keeps told d (PlexDetach site volume plex) s fails said new (λ brings. brings)
       (λ n note next does. mapped_by note next (λ c e x. puts_or (λ _. false) s fails (plain_number note volume) plex Stale c e (inr x)) does.0)

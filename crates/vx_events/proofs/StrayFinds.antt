@@ -14,7 +14,7 @@ use Rattle.vx_events.specs.Ends.{found_linked}
 use Rattle.vx_events.specs.Fails.{Fails}
 use Rattle.vx_events.specs.GroupNotes.{no_note, note_at}
 use Rattle.vx_events.specs.Plain.{HasNoGroups}
-use Rattle.vx_events.specs.RvgBack.{FindsNoRvg, FindsPlain, FindsRvg, RvgFinds, fall_first, unmade_site}
+use Rattle.vx_events.specs.RvgBack.{FindsLost, FindsNoRvg, FindsPlain, FindsRvg, RvgFinds, fall_first, found_fallen, unmade_site}
 use Rattle.vx_events.specs.RvgFits.{config_rvg, rvg_noted}
 use Rattle.vx_events.specs.RvgSteps.{HasNoRvgs, StepFull}
 use Rattle.vx_events.specs.RvgViews.{is_over_rvg}
@@ -26,6 +26,8 @@ module _ (told : Type 0) (d : Doubted) (line : ScriptLine) (s : ℕ) (fails : Fa
   finds_apart : RvgFinds told d line s fails said new → (new.world.nodes s).group ≡ None → StraysAs d new
   finds_apart (FindsRvg kept taken next mid n k row c units are brings unknown dark is same comes config fits lies says left) none =
       absurd (let e : Some next ≡ None = sym (back_group s line taken next d (gone_astray (found_linked mid s k row)) new left) ∙ none in cc)
+  finds_apart (FindsLost site kept taken disk next mid n k row c units has cut is are failed unknown dark rests same comes config fits lies says left) none =
+      absurd (let e : Some next ≡ None = sym (back_group s line taken next d (gone_astray (found_fallen mid s k row)) new left) ∙ none in cc)
   finds_apart (FindsPlain kept taken next mid has are brings unknown dark is plain says left) none =
       absurd
       (let e : Some next ≡ None = sym (back_group s line taken next d (gone_astray (found_linked mid s (group_set s (unmade_site (mid.world.nodes s))) (λ k. no_link))) new left) ∙ none in
@@ -41,6 +43,8 @@ module _ (told : Type 0) (d : Doubted) (line : ScriptLine) (s : ℕ) (fails : Fa
       (let e : Some units ≡ None =
       sym (ap (λ (o : Option GroupNode). rvg_noted (unwrap_or o no_note)) noted ∙ ap config_rvg config ∙ fits.rvg) ∙ none in
       cc)
+  finds_plain (FindsLost site kept taken disk next mid n k row c units has cut is are failed unknown dark rests same comes config fits lies says left) off none =
+      absurd (let e : true ≡ false = sym has ∙ off in cc)
   finds_plain (FindsPlain kept taken next mid has are brings unknown dark is plain says left) off none = absurd (let e : true ≡ false = sym has ∙ off in cc)
   finds_plain (FindsNoRvg kept taken lost next why has are brings unknown device notes says left) off none = absurd (let e : true ≡ false = sym has ∙ off in cc)
 

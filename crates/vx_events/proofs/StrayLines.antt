@@ -8,7 +8,7 @@ use Rattle.vx_history.specs.World.{Node, World}
 use Rattle.vx_history.specs.declared.event.Event.{Event}
 use Rattle.vx_history.specs.declared.event.Event.TheVariants.{Crash as CrashAt, Fault, Recover as RecoverAt, Fall as FallAt}
 use Rattle.vx_script.specs.declared.line.ScriptLine.{ScriptLine}
-use Rattle.vx_script.specs.declared.line.ScriptLine.TheVariants.{GroupDeport, GroupImport, PlexAttach, PlexDetach, Put, Read, Recover, Rvg, Show, Write}
+use Rattle.vx_script.specs.declared.line.ScriptLine.TheVariants.{GroupDeport, GroupImport, PlexAttach, PlexDetach, Put, Read, Recover, Rvg, Show, Volume, Write}
 use Rattle.vx_events.proofs.Straying.{run_strays, runs_strays}
 use Rattle.vx_events.specs.Doubts.{IsAs}
 use Rattle.vx_events.specs.Ends.{AllDone, DiskFails, Ends, FindsLinks, FindsNone, FromBare, FromDown, FromUp, FuseRunsOut, HeaderFails, NoNumber, Recovering, ShowsReceived, place_of as site_of}
@@ -23,7 +23,7 @@ use Rattle.vx_events.specs.LinkLists.{link_events}
 use Rattle.vx_events.specs.Lists.{Choice, crash_count, events_of}
 use Rattle.vx_events.specs.OpenLines.{is_open}
 use Rattle.vx_events.specs.Parts.{PartLeft, ReadFirst, StopsBetween, StopsDown, StopsInPart, StopsRead, StopsShort}
-use Rattle.vx_events.specs.RvgBack.{FindsNoRvg, FindsPlain, FindsRvg, GroupHeld, GroupUnfound, LogFails, LogLacks, RvgBack, RvgFinds, RvgUp, fall_first}
+use Rattle.vx_events.specs.RvgBack.{FindsLost, FindsNoRvg, FindsPlain, FindsRvg, GroupHeld, GroupUnfound, KeptLost, LogFails, LogLacks, RvgBack, RvgFinds, RvgUp, fall_first}
 use Rattle.vx_events.specs.RvgMakes.{MakesRvg, RvgCut, RvgDone, RvgFails, RvgLacks, noting_in, units_at}
 use Rattle.vx_events.specs.RvgNotes.{volume_events}
 use Rattle.vx_events.specs.GroupNotes.{IsKnown, note_at}
@@ -128,6 +128,8 @@ back_strays told d line s fails said new (LogFails site kept taken disk middle n
     left.strayed ∙ run_strays taken d (fall_first (d.world.nodes s).state s kept ++ begun)
 back_strays told d line s fails said new (LogLacks site kept taken middle next has is are back keeps works lacks says left) =
     left.strayed ∙ run_strays taken d (fall_first (d.world.nodes s).state s kept)
+back_strays told d line s fails said new (KeptLost site kept taken disk middle next has cut is are failed back keeps works says left) =
+    left.strayed ∙ run_strays taken d (fall_first (d.world.nodes s).state s kept ++ RecoverAt s None ∷ CrashAt s 0 ∷ [])
 back_strays told d line s fails said new (GroupUnfound site kept taken lost why next has is are not leaves says left) =
     left.strayed ∙ run_strays taken d (fall_first (d.world.nodes s).state s kept)
 back_strays told d line s fails said new (GroupHeld site kept taken lost disk next has is are failed notes says left) =
@@ -167,6 +169,7 @@ module _ (told : Type 0) (d : Doubted) (fails : Fails) (said : Said) (new : Doub
 
   over_found : (line : ScriptLine) (s : ℕ) → OverRvg told d line s fails said new → CalmOrFinds s line
   over_found (GroupDeport site) s ends = inl (below_strays told d (GroupDeport site) s fails said new ends)
+  over_found (Volume site volume blocks mirrors layout log map policy) s ends = inl (below_strays told d (Volume site volume blocks mirrors layout log map policy) s fails said new ends)
   over_found (PlexDetach site volume plex) s ends = inl (below_strays told d (PlexDetach site volume plex) s fails said new ends)
   over_found (PlexAttach site volume plex) s ends = inl (below_strays told d (PlexAttach site volume plex) s fails said new ends)
   over_found (GroupImport site) s ends = takes_found (GroupImport site) s ends
@@ -215,6 +218,8 @@ step_found told files d line fails said new step = by_found told d fails said ne
 module _ (told : Type 0) (d : Doubted) (line : ScriptLine) (s : ℕ) (fails : Fails) (said : Said) (new : Doubted) where
   finds_calm : RvgFinds told d line s fails said new → new.strayed ≡ false → d.strayed ≡ false
   finds_calm (FindsRvg kept taken next mid n k row c units are brings unknown dark is same comes config fits lies says left) calm =
+      absurd (let e : true ≡ false = sym left.strayed ∙ calm in cc)
+  finds_calm (FindsLost site kept taken disk next mid n k row c units has cut is are failed unknown dark rests same comes config fits lies says left) calm =
       absurd (let e : true ≡ false = sym left.strayed ∙ calm in cc)
   finds_calm (FindsPlain kept taken next mid has are brings unknown dark is none says left) calm = absurd (let e : true ≡ false = sym left.strayed ∙ calm in cc)
   finds_calm (FindsNoRvg kept taken lost next why has are brings unknown device notes says left) calm =

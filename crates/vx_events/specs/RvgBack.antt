@@ -10,7 +10,9 @@ use Rattle.vx_model.specs.declared.site.SiteState.TheVariants.{Bare, Up, Deporte
 use Rattle.vx_model.specs.declared.units.Units.{Units}
 use Rattle.vx_history.specs.Doubts.{Doubted}
 use Rattle.vx_history.specs.Groups.{GroupNode}
-use Rattle.vx_history.specs.Steps.{group_set}
+use Rattle.vx_history.specs.Events.{lost_touch}
+use Rattle.vx_history.specs.Gatherings.{emptied}
+use Rattle.vx_history.specs.Steps.{crashed, group_set}
 use Rattle.vx_history.specs.World.{Link, Node, World, bare_site, no_link}
 use Rattle.vx_history.specs.declared.event.Event.{Event}
 use Rattle.vx_history.specs.declared.event.Event.TheVariants.{Crash as CrashAt, Recover as RecoverAt}
@@ -93,6 +95,11 @@ pub data RvgBack (told : Type 0) (d : Doubted) (line : ScriptLine) (s : ℕ) (fa
       → NotesBack told s (d.world.nodes s) fails (note_at (d.world.nodes s)) middle → NoteKeepsRvg (note_at (d.world.nodes s)) middle
       → WorksCut ⊥ s fails (note_at (d.world.nodes s)).cut middle next → LacksSession told (run_as taken d (fall_first (d.world.nodes s).state s kept)).world s
       → said ≡ Refused (Limit Number MOST_NUMBER) → IsLeftBut true s line taken next d (run_as taken d (fall_first (d.world.nodes s).state s kept)) new → RvgBack told d line s fails said new
+  -- the site came up, and what is kept of a write that was cut could not be read: it is down again
+  KeptLost : (site : List ℕ) (kept : ℕ) (taken : Bool) (disk : ℕ) (middle next : GroupNode) → is_over_rvg (d.world.nodes s) ≡ true → ((note_at (d.world.nodes s)).cut ≡ None → ⊥) → line ≡ Recover site → AreOf s fails
+      → Contains fails (s, disk) → NotesBack told s (d.world.nodes s) fails (note_at (d.world.nodes s)) middle → NoteKeepsRvg (note_at (d.world.nodes s)) middle
+      → WorksCut ⊥ s fails (note_at (d.world.nodes s)).cut middle next → said ≡ Refused (Device disk)
+      → IsLeftBack s line taken next d (run_as taken d (fall_first (d.world.nodes s).state s kept ++ RecoverAt s None ∷ CrashAt s 0 ∷ [])) new → RvgBack told d line s fails said new
   -- no group was found, and a site that is up crashed all the same
   GroupUnfound : (site : List ℕ) (kept : ℕ) (taken lost : Bool) (why : No) (next : GroupNode) → is_over_rvg (d.world.nodes s) ≡ true → line ≡ Recover site → AreOf s fails
       → NotFound s (note_at (d.world.nodes s)) fails why → NotFoundLeaves why (note_at (d.world.nodes s)) next → said ≡ Refused why
@@ -119,6 +126,18 @@ abbrev pub FailsOrNone : Fails → (s : ℕ) → No → Type 0
 FailsOrNone fails s (Device disk) = Contains fails (s, disk)
 FailsOrNone fails s other = IsNoDevice other
 
+-- what came up and crashed at once, with all its writes
+abbrev pub fallen : Node → Node
+fallen n = crashed n n.safe
+
+-- its links
+abbrev pub fallen_row : (ℕ → Link) → ℕ → Link
+fallen_row row = λ i. lost_touch (row i)
+
+-- it is down, and puts nothing together
+abbrev pub found_fallen : Doubted → (s : ℕ) → Node → (row : ℕ → Link) → Doubted
+found_fallen d s k row = let e : Doubted = found_linked d s (fallen k) (fallen_row row) in record e { world = emptied e.world s }
+
 -- What stood on disks of which nothing is known came up with the links that the header of its log keeps, and the world has strayed; or it was refused.
 pub data RvgFinds (told : Type 0) (d : Doubted) (line : ScriptLine) (s : ℕ) (fails : Fails) (said : Said) (new : Doubted) : Type 0 where
   FindsRvg : (kept : ℕ) (taken : Bool) (next : GroupNode) (mid : Doubted) (n k : Node) (row : ℕ → Link) (c : Config) (units : Units) → AreOf s fails → BringsUp line
@@ -126,6 +145,12 @@ pub data RvgFinds (told : Type 0) (d : Doubted) (line : ScriptLine) (s : ℕ) (f
       → n ≡ record (mid.world.nodes s) { volumes = k.volumes; group = k.group } → ComesUpAs s mid.world.sites n k row → config_of next.config ≡ Some c → FitsRvg k c units → HasUnits c.volumes units
       → SaysFoundUp line s next (found_linked mid s k row).world said
       → IsLeftBack s line taken next d (gone_astray (found_linked mid s k row)) new → RvgFinds told d line s fails said new
+  -- one came up at a site that had one, and what is kept of a write that was cut could not be read: it is down again
+  FindsLost : (site : List ℕ) (kept : ℕ) (taken : Bool) (disk : ℕ) (next : GroupNode) (mid : Doubted) (n k : Node) (row : ℕ → Link) (c : Config) (units : Units) → is_over_rvg (d.world.nodes s) ≡ true
+      → ((note_at (d.world.nodes s)).cut ≡ None → ⊥) → line ≡ Recover site → AreOf s fails → Contains fails (s, disk) → KnowsNothing told (note_at (d.world.nodes s)) → (told → next.dark ≡ true)
+      → mid ≡ run_as taken d (fall_first (d.world.nodes s).state s kept) → n ≡ record (mid.world.nodes s) { volumes = k.volumes; group = k.group } → ComesUpAs s mid.world.sites n k row
+      → config_of next.config ≡ Some c → FitsRvg k c units → HasUnits c.volumes units → said ≡ Refused (Device disk)
+      → IsLeftBack s line taken next d (gone_astray (found_fallen mid s k row)) new → RvgFinds told d line s fails said new
   -- a site that had one came up without, as one that was made anew
   FindsPlain : (kept : ℕ) (taken : Bool) (next : GroupNode) (mid : Doubted) → is_over_rvg (d.world.nodes s) ≡ true → AreOf s fails → BringsUp line
       → KnowsNothing told (note_at (d.world.nodes s)) → (told → next.dark ≡ true) → mid ≡ run_as taken d (fall_first (d.world.nodes s).state s kept)

@@ -14,7 +14,7 @@ use Rattle.vx_order.specs.declared.facts.VolumeFacts.{VolumeFacts}
 use Rattle.vx_order.specs.declared.facts.VolumeKind.{VolumeKind}
 use Rattle.vx_order.specs.declared.facts.VolumeKind.TheVariants.{Data, Srl, Map, Plain}
 use Rattle.vx_script.specs.declared.line.ScriptLine.{ScriptLine}
-use Rattle.vx_script.specs.declared.line.ScriptLine.TheVariants.{Apply, Disk, Fuse as FuseLine, GroupDeport, PlexAttach, PlexDetach, Put, Read, Recover, Show, Status, Write, GroupImport}
+use Rattle.vx_script.specs.declared.line.ScriptLine.TheVariants.{Apply, Disk, Fuse as FuseLine, GroupDeport, PlexAttach, PlexDetach, Put, Read, Recover, Show, Status, Volume, Write, GroupImport}
 use Rattle.vx_events.specs.Doubts.{IsAs}
 use Rattle.vx_events.specs.Ends.{Ends, place_of as site_of}
 use Rattle.vx_events.specs.Facts.{place_of, site_number}
@@ -150,6 +150,7 @@ EndsWrite false told d line s fails said new = BelowEnds told d line s fails sai
 -- a line at site s over a group with a replicated volume group, but for those on links: a deport, one on a plex, a recovery, a write, a read, or another
 abbrev pub OverRvg : Type 0 → Doubted → ScriptLine → ℕ → Fails → Said → Doubted → Type 0
 OverRvg told d (GroupDeport site) s fails said new = BelowEnds told d (GroupDeport site) s fails said new
+OverRvg told d (Volume site volume blocks mirrors layout log map policy) s fails said new = BelowEnds told d (Volume site volume blocks mirrors layout log map policy) s fails said new
 OverRvg told d (PlexDetach site volume plex) s fails said new = BelowEnds told d (PlexDetach site volume plex) s fails said new
 OverRvg told d (PlexAttach site volume plex) s fails said new = BelowEnds told d (PlexAttach site volume plex) s fails said new
 OverRvg told d (GroupImport site) s fails said new = RvgTakes told d (GroupImport site) s fails said new ⊎ RvgFinds told d (GroupImport site) s fails said new

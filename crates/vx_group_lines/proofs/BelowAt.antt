@@ -84,13 +84,13 @@ module _ {R : Type 0} {g : Ghosts R} where
       below_here d y name s e stands seat (subst (λ (i : ℕ). is_over_rvg (d.world.nodes i) ≡ true) (place_at d y name s stands seat).number over) there
 
   -- a group that is up has the configuration that is noted, and each volume the blocks that are noted
-  record SizedUp (note : GroupNode) (e : GroupSite R g) : Type 0 where
-    config : Config
-    has : site_config e ≡ Some config
-    noted : NotesConfig note config
-    size : (v : ℕ) → note.bytes.size v ≡ blocks_of config.volumes v
+  pub record SizedUp (note : GroupNode) (e : GroupSite R g) : Type 0 where
+    pub config : Config
+    pub has : site_config e ≡ Some config
+    pub noted : NotesConfig note config
+    pub size : (v : ℕ) → note.bytes.size v ≡ blocks_of config.volumes v
 
-  sized_up : (n : Node) (note : GroupNode) (e : GroupSite R g) → UpNoted n note e → SizedUp note e
+  pub sized_up : (n : Node) (note : GroupNode) (e : GroupSite R g) → UpNoted n note e → SizedUp note e
   sized_up n note (SiteUp laid) it = record {
     config = laid.core.inner.config;
     has = refl;
@@ -110,6 +110,10 @@ module _ {R : Type 0} {g : Ghosts R} where
     pub kind : is_data (kind_named (d.world.nodes s) volume) ≡ false
     pub asks : UpNoted (below_rvg (d.world.nodes s)) (note_at (d.world.nodes s)) (site_in at.set)
     pub volume_is : plain_number (note_at (d.world.nodes s)) volume ≡ place
+    pub placed : place ≡ number_in at.named.0.volumes volume
+    pub found : VolumeFacts
+    pub finds : find (λ (v : VolumeFacts). bytes_eq v.name volume) (table_at (d.world.nodes s)) ≡ Some found
+    pub off : is_data found.kind ≡ false
     pub some : 1 ≤ count
     pub within : start + count ≤ (note_at (d.world.nodes s)).bytes.size place
 
@@ -149,6 +153,10 @@ module _ {R : Type 0} {g : Ghosts R} where
         asks = asks;
         volume_is =
             ap (λ (vs : List VolumeFacts). unwrap_or (place_of vs volume) 0) (notes_table note sized.config sized.noted) ∙ numbered volume sized.config.volumes ∙ sym (number sized.config has);
+        placed = number sized.config has ∙ ap (λ (x : Config). number_in x.volumes volume) (sym same);
+        found = may.found;
+        finds = finds;
+        off = off;
         some = may.some;
         within = omega (arith, may.range, size, blocks, entry.blocks);
       }

@@ -302,13 +302,13 @@ module _ {R : Type 0} {g : Ghosts R} where
     abbrev many_of : Config → ℕ → ℕ
     many_of was disk = (site_disks (site_in it.call.at.set)).units + length was.disks + logs_bound was.volumes + disk + 1
 
-    names : (many : ℕ) → o.units ≤ many → Names s many (calls s old new many) o e
+    pub names : (many : ℕ) → o.units ≤ many → Names s many (calls s old new many) o e
     names many enough = names_below old new s before after it.call.changed o e (λ j. ap (λ (x : DiskSet R g). faults_at x j) it.call.at.is_set) (λ j. ap (λ (x : DiskSet R g). faults_at x j) it.call.is) many enough
 
-    are : (many : ℕ) → AreOf s (calls s old new many)
+    pub are : (many : ℕ) → AreOf s (calls s old new many)
     are many = calls_of s (count_of old s) (count_of new s) many
 
-    rose : (many : ℕ) → RoseAll (calls s old new many) (count_of old) (count_of new)
+    pub rose : (many : ℕ) → RoseAll (calls s old new many) (count_of old) (count_of new)
     rose many = rose_below old new s before after it.call.changed many
 
     module _ (k : GroupNode) (keeps : NoteKeepsRvg (note_at (d.world.nodes s)) k) (cut : k.cut ≡ (note_at (d.world.nodes s)).cut) (inside : k.inside ≡ (note_at (d.world.nodes s)).inside)

@@ -10,13 +10,14 @@ use Rattle.vx_model.specs.declared.units.Units.{Units}
 use Rattle.vx_grouped.proofs.MapNoteLemmas.{away_with_maps, down_with_maps, site_maps, up_with_maps}
 use Rattle.vx_grouped.specs.declared.group_site.GroupSite.{GroupSite}
 use Rattle.vx_grouped.specs.declared.group_site.GroupSite.TheVariants.{Up as SiteUp, Deported as SiteAway, Down as SiteDown, Marked, Gone as SiteGone}
+use Rattle.vx_diskset.proofs.NotedLikes.{cut_stays}
 use Rattle.vx_diskset.proofs.OverLikes.{over_like}
 use Rattle.vx_diskset.specs.Aboves.{site_in}
 use Rattle.vx_diskset.specs.Asked.{FailsAs, FusedAs}
 use Rattle.vx_diskset.specs.Blames.{IsGroupDisk}
 use Rattle.vx_diskset.specs.Holds.{beside_of}
 use Rattle.vx_diskset.specs.Layouts.{units_by, units_of}
-use Rattle.vx_diskset.specs.Noted.{NotedOn, NotedOver, RestsNamed, SiteNoted, below_rvg}
+use Rattle.vx_diskset.specs.Noted.{IsNamed, NotedOn, NotedOver, RestsNamed, SiteNoted, below_rvg}
 use Rattle.vx_diskset.specs.Stands.{SiteStands}
 use Rattle.vx_diskset.specs.declared.disk_set.DiskSet.{DiskSet}
 use Rattle.vx_diskset.specs.declared.disk_set.DiskSet.TheVariants.{Over}
@@ -88,6 +89,11 @@ module _ {R : Type 0} {g : Ghosts R} where
       subst (λ (us : Units). RestsNamed us (length (entries_noted note)) (site_in at.set)) (sym same_units) at.noted.4,
     )
 
+    missed_named : IsNamed (missed_site w (d.world.nodes s))
+    missed_named =
+        let it = at.named in
+        (it.0, it.1, it.2, it.3, it.4, it.5, cut_stays n m (with_maps w note) refl refl (λ v low. refl) (λ up. up) it.6)
+
     comes : Comes d (missed_world w d s) s (Over at.set)
     comes = comes_one d s m (Over at.set) refl stands.links stood fails fused (stands.roles.each s (Over at.set) at.seat.below here_set)
 
@@ -96,7 +102,7 @@ module _ {R : Type 0} {g : Ghosts R} where
         stands_still d (missed_world w d s) y y s (Over at.set) (Over at.set) stands at.seat.below
         (record { there = here_set; later = record { counts = λ k. omega arith; told = λ told. told }; disk_sets = sym (set_same y.disk_sets.items s (Over at.set) here_set); racks = refl }) comes
         (λ _. subst (λ (x : Node). BeginsFirst s x) (sym here) (begins_apart s (beside_of d s) m (Over at.set) stood (rvg_apart m (over_again n m (with_maps w note) at.over refl refl))))
-        (λ _. subst (λ (x : Node). NotedOver x (Over at.set)) (sym here) ((λ other is. subst (λ (k : GroupNode). SiteNoted m k (Over at.set)) (some_same is) missed_noted), at.named))
+        (λ _. subst (λ (x : Node). NotedOver x (Over at.set)) (sym here) ((λ other is. subst (λ (k : GroupNode). SiteNoted m k (Over at.set)) (some_same is) missed_noted), missed_named))
         (fact_noted n (with_maps w note) n.fuse at.over (over_again n m (with_maps w note) at.over refl refl) refl d s refl ∙ sym (fact_apart d.world s (rvg_apart n at.over))) refl
 
     pub missed_carries : Carries d y → Carries (missed_world w d s) y

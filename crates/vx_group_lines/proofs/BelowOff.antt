@@ -1,6 +1,7 @@
 -- What calls on the group below a replicated volume group lead the yard of a site to whose fuse ran out in them: it crashed, and keeps all its writes.
 use Rattle.std.proofs.Common.{◌≡◌, ◌∙◌, ◌⊎◌, inl, inr, ℕ, ◌<◌, ◌≤◌, Bool, true, false, List, length, map, ap, sym, subst, refl, arith}
 use Rattle.std.specs.Prelude.{Some, None, if◌then◌else◌, slice_set}
+use Rattle.vx_model.specs.Content.{Write}
 use Rattle.vx_model.specs.Sites.{is_origin}
 use Rattle.vx_model.specs.declared.site.SiteState.TheVariants.{Up as IsUp, Down as IsDown}
 use Rattle.vx_model.specs.declared.units.Units.{Units}
@@ -16,12 +17,11 @@ use Rattle.vx_history.specs.Step.{done, headers_counted}
 use Rattle.vx_history.specs.Steps.{burned, crashed}
 use Rattle.vx_history.specs.World.{Fuse, Node, NoFuse}
 use Rattle.vx_history.specs.declared.event.Event.TheVariants.{Crash as CrashAt}
-use Rattle.vx_grouped.specs.GroupSites.{DownNoted, idle_below, idle_disks, with_note}
+use Rattle.vx_grouped.specs.GroupSites.{DownNoted, FitsPlain, idle_below, idle_disks, with_note}
 use Rattle.vx_grouped.specs.SetFuses.{HasFuse}
 use Rattle.vx_grouped.specs.declared.group_site.GroupSite.{GroupSite}
 use Rattle.vx_grouped.specs.declared.group_site.GroupSite.TheVariants.{Up as SiteUp, Deported as SiteAway, Down as SiteDown, Marked, Gone as SiteGone}
 use Rattle.vx_diskset.proofs.GroupStands.{IsLikeGroup, down_like}
-use Rattle.vx_diskset.proofs.NotedLikes.{cut_none}
 use Rattle.vx_diskset.proofs.OverLikes.{over_like}
 use Rattle.vx_diskset.specs.Aboves.{site_in}
 use Rattle.vx_diskset.specs.Asked.{FailsAs, FusedAs, SameFailing}
@@ -78,11 +78,11 @@ all_kept : (n : Node) (count : ℕ) → length n.log ≤ n.safe → n.safe ≤ c
 all_kept n count durable least most = omega (arith, durable, least, most)
 
 -- so many writes are kept of those of the site
-record FellSo {R : Type 0} {g : Ghosts R} (beside : KeptBeside) (n : Node) (p : OverSet R g) : Type 0 where
-  count : ℕ
-  least : n.safe ≤ count
-  most : count ≤ length n.log
-  stands : SiteStands (sure_of (itself beside n)) (fell_to n n count) (Over p)
+pub record FellSo {R : Type 0} {g : Ghosts R} (beside : KeptBeside) (n : Node) (p : OverSet R g) : Type 0 where
+  pub count : ℕ
+  pub least : n.safe ≤ count
+  pub most : count ≤ length n.log
+  pub stands : SiteStands (sure_of (itself beside n)) (fell_to n n count) (Over p)
 
 -- of a crash nothing but the disks of the group is noted
 fell_like : (n : Node) (k : GroupNode) (m : Node) → m.state ≡ IsDown → m.disks ≡ n.disks → m.blocks ≡ n.blocks → m.group ≡ Some k → m.fuse ≡ NoFuse → IsLikeGroup (crashed (with_note k (below_rvg n)) 0) (below_rvg m)
@@ -118,7 +118,7 @@ module _ {R : Type 0} {g : Ghosts R} where
       subst (λ (x : KeptSite). (count : ℕ) → x.node.safe ≤ count → count ≤ length x.node.log → SiteStands (sure_of x) (fell_to n x.node count) (Over p) → FellSo beside n p) (sym own)
       (λ count least most stands. record { count = count; least = least; most = most; stands = stands })
 
-  fell_so : (beside : KeptBeside) (n : Node) (p : OverSet R g) → beside.doubt ≡ None → CrashedAt beside n (Over p) → FellSo beside n p
+  pub fell_so : (beside : KeptBeside) (n : Node) (p : OverSet R g) → beside.doubt ≡ None → CrashedAt beside n (Over p) → FellSo beside n p
   fell_so beside n p sure fell = fell_itself beside n p fell.kept (by fell.is) fell.count fell.least fell.most fell.stands
     where
       by : (fell.kept ≡ itself beside n) ⊎ (beside.doubt ≡ Some fell.kept) → fell.kept ≡ itself beside n
@@ -134,7 +134,7 @@ module _ {R : Type 0} {g : Ghosts R} where
 
   module _ (d : Doubted) (old new : Yard R g) (name : List ℕ) (s : ℕ) (before after : DiskSet R g) (p : OverSet R g) (stands : StandsFor d old) (call : BelowAs d old new name s before after p)
       (k : GroupNode) (noted : DownNoted (crashed (with_note k (below_rvg (d.world.nodes s))) 0) k (site_in p)) (notes : NotesStill (note_at (d.world.nodes s)) k)
-      (cut : cut_value p.cut ≡ k.cut) (clear : k.cut ≡ None)
+      (cut : cut_value p.cut ≡ k.cut) (fits_cut : (x : Write) → k.cut ≡ Some x → FitsPlain k x.volume x.start (length x.bytes))
       (rests : (units : Units) → rvg_noted k ≡ Some units → RestsNamed units (length (entries_noted k)) (site_in p)) (table : over_table (with_note k (d.world.nodes s)) k ≡ over_table (d.world.nodes s) (note_at (d.world.nodes s))) where
     abbrev n : Node
     n = d.world.nodes s
@@ -227,7 +227,7 @@ module _ {R : Type 0} {g : Ghosts R} where
     )
 
     noted_now : NotedOver m (Over p)
-    noted_now = ((λ other there. subst (λ (x : GroupNode). SiteNoted m x (Over p)) (some_same there) site_now), named_again n m k refl refl notes.keeps (cut_none m k refl clear) call.at.named)
+    noted_now = ((λ other there. subst (λ (x : GroupNode). SiteNoted m x (Over p)) (some_same there) site_now), named_again n m k refl refl notes.keeps (λ up. absurd (down_up up), fits_cut) call.at.named)
 
     seen : down_fact (fact_from n (d.world.links s) d.world.sites) ≡ fact_from m ((world_up e s k).world.links s) (world_up e s k).world.sites
     seen = facts_is (down_fact (fact_from n (d.world.links s) d.world.sites)) (fact_from m ((world_up e s k).world.links s) (world_up e s k).world.sites) refl refl refl refl
@@ -262,4 +262,4 @@ module _ {R : Type 0} {g : Ghosts R} where
     pub below_fell : new.facts.items ≡ slice_set old.facts.items s (down_fact (fact_from (d.world.nodes s) (d.world.links s) d.world.sites)) → LetsGo old new s → Follows d (world_off d s k) old new
     below_fell =
         fell_by d old new name s before after p stands (below_as d old new name s before after p call) k noted (notes_still (note_at (d.world.nodes s)) k notes) (same_cut d old new name s before after p stands call k notes.cut)
-        clear rests table
+        (λ x is. absurd (never_some (sym clear ∙ is))) rests table

@@ -50,13 +50,13 @@ pub record BelowPlex (note : GroupNode) (volume : List ℕ) (plex place : ℕ) :
 
 module _ {R : Type 0} {g : Ghosts R} where
   -- a group that is up has the configuration that is noted, which is sound
-  record SoundUp (note : GroupNode) (e : GroupSite R g) : Type 0 where
-    config : Config
-    has : site_config e ≡ Some config
-    noted : NotesConfig note config
-    sound : is_sound config ≡ true
+  pub record SoundUp (note : GroupNode) (e : GroupSite R g) : Type 0 where
+    pub config : Config
+    pub has : site_config e ≡ Some config
+    pub noted : NotesConfig note config
+    pub sound : is_sound config ≡ true
 
-  sound_up : (n : Node) (note : GroupNode) (e : GroupSite R g) → UpNoted n note e → SoundUp note e
+  pub sound_up : (n : Node) (note : GroupNode) (e : GroupSite R g) → UpNoted n note e → SoundUp note e
   sound_up n note (SiteUp laid) it = record {
     config = laid.core.inner.config;
     has = refl;

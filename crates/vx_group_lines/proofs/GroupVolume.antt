@@ -124,7 +124,7 @@ or_first : (a b : Bool) → a ≡ false → (not a || b) ≡ true
 or_first true b off = absurd (let no_one : true ≡ false = off in cc)
 or_first false b off = refl
 
-shape_fits : (blocks mirrors : ℕ) (layout : Layout) (log : VolumeLog) (map : VolumeMap) (policy : ReadPolicy) → is_volume_shape blocks mirrors layout ≡ true → is_shape (shape_of blocks mirrors layout log map policy) ≡ true
+pub shape_fits : (blocks mirrors : ℕ) (layout : Layout) (log : VolumeLog) (map : VolumeMap) (policy : ReadPolicy) → is_volume_shape blocks mirrors layout ≡ true → is_shape (shape_of blocks mirrors layout log map policy) ≡ true
 shape_fits blocks mirrors Concat log map policy it =
     let first = (and_parts (nat_le 1 blocks && nat_le blocks (2 ^ 40) && nat_le 1 mirrors) true it).0 in
     ap (λ (b : Bool). b && true && true && true) first
@@ -151,7 +151,7 @@ none_named name (v ∷ vs) none =
     none_by name v (find (λ (v : VolumeFacts). bytes_eq v.name name) (map plain_fact vs)) (list_any (has_name name) vs) (none_named name vs) (bytes_eq v.name name) refl none
 
 -- what is left of the tests of a volume that those of the line let through: want of a serial
-volume_why : (c : Config) (name : List ℕ) (want : Shape) (why : No) → list_any (has_name name) c.volumes ≡ false → length c.volumes < MOST_VOLUMES → want.mirrors ≤ MOST_PLEXES → is_shape want ≡ true
+pub volume_why : (c : Config) (name : List ℕ) (want : Shape) (why : No) → list_any (has_name name) c.volumes ≡ false → length c.volumes < MOST_VOLUMES → want.mirrors ≤ MOST_PLEXES → is_shape want ≡ true
     → make_refusal c name want ≡ Some why → (why ≡ Limit Numbers MOST_NUMBER) × (nat_lt (greatest - margin) c.serial ≡ true)
 volume_why c name want why free few plexes shape is = ⊎_elim
     (λ first. absurd (both_ways (list_any (has_name name) c.volumes) free first.0))
@@ -183,7 +183,7 @@ many_runs [] is = absurd (let no_one : true ≡ false = is in cc)
 many_runs (x ∷ xs) is = many_by x xs (list_all is_few xs) (nat_le (length x) 255) refl is (λ rest. many_runs xs rest)
 
 module _ (note : GroupNode) (c : Config) (noted : NotesConfig note c) (name volume : List ℕ) (blocks mirrors : ℕ) (layout : Layout) (log : VolumeLog) (map : VolumeMap) (policy : ReadPolicy) (want : Shape) (is_want : want ≡ shape_of blocks mirrors layout log map policy) where
-  room_wants : (why : No) → IsRoomShort c volume want why → GroupWants note (Volume name volume blocks mirrors layout log map policy) why
+  pub room_wants : (why : No) → IsRoomShort c volume want why → GroupWants note (Volume name volume blocks mirrors layout log map policy) why
   room_wants (Space need have) short = record {
     config = at_serial 0 c;
     is = notes_config note c noted;
@@ -211,12 +211,12 @@ unburned (FuseSet calls) y left = left
 unburned (FuseLit most) y left = left
 
 -- the volume begins as zeros
-adds_zeros : (v volume blocks : ℕ) (note : GroupNode) → v ≡ volume → AddsZeros volume blocks note (note_added v blocks note)
+pub adds_zeros : (v volume blocks : ℕ) (note : GroupNode) → v ≡ volume → AddsZeros volume blocks note (note_added v blocks note)
 adds_zeros v volume blocks note same =
     subst (λ (k : ℕ). AddsZeros k blocks note (note_added v blocks note)) same (record { size = λ k. refl; block = λ k b. refl; others = λ k b. refl; same = refl })
 
 module _ {R : Type 0} {g : Ghosts R} where
-  config_now : (c : Config) (n : Node) (note : GroupNode) (e : GroupSite R g) → UpNoted n note e → HasNow c e → site_config e ≡ Some c
+  pub config_now : (c : Config) (n : Node) (note : GroupNode) (e : GroupSite R g) → UpNoted n note e → HasNow c e → site_config e ≡ Some c
   config_now c n note (SiteUp group) up has = ap (λ (x : Config). Some x) has
   config_now c n note (SiteAway idle) up has = absurd up
   config_now c n note (SiteDown idle) up has = absurd up

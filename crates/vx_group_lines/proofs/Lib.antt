@@ -26,6 +26,7 @@ pub mod BelowMissed
 pub mod BelowUp
 pub mod BelowOff
 pub mod BelowDone
+pub mod BelowWrites
 pub mod NoMaps
 pub mod BelowUnmapped
 pub mod BelowLoosened
@@ -36,6 +37,10 @@ pub mod PlexPlaces
 pub mod BelowPlex
 pub mod BelowDetach
 pub mod BelowAttach
+pub mod VolumePlaces
+pub mod BelowVolume
+pub mod BelowShort
+pub mod BelowMakes
 pub mod BareSites
 pub mod GroupInit
 pub mod GroupEnding
@@ -70,10 +75,12 @@ pub mod RvgComing
 pub mod RvgWorlds
 pub mod RvgReturns
 pub mod RvgRose
+pub mod RvgKept
 pub mod RvgRests
 pub mod RvgLost
 pub mod RvgHeld
 pub mod RvgFound
+pub mod FoundLost
 pub mod ImportBeside
 pub mod RvgAtRest
 pub mod RecoverFound

@@ -3,6 +3,8 @@ use Rattle.std.proofs.Common.{◌≡◌, ◌∙◌, ⊎_elim, ℕ, Bool, false, 
 use Rattle.std.specs.Prelude.{Option, Some, None, Result, Ok, Err, slice_get, slice_set, unwrap_or}
 use Rattle.vx_model.specs.declared.errors.OutOfMemory.{OutOfMemory}
 use Rattle.vx_model.specs.declared.errors.Stop.{Stop}
+use Rattle.vx_model.specs.declared.errors.Stop.TheVariants.{No as StopsBy, OutOfMemory as MemoryStop}
+use Rattle.vx_model.specs.declared.no.No.TheVariants.{Device}
 use Rattle.vx_model.specs.declared.site.SiteState.{SiteState}
 use Rattle.vx_model.specs.declared.site.SiteState.TheVariants.{Up as IsUp, Down as IsDown}
 use Rattle.vx_disk.specs.declared.shelf.Shelf.{Ghosts}
@@ -15,6 +17,7 @@ use Rattle.vx_order.specs.declared.facts.SiteFacts.{SiteFacts}
 use Rattle.vx_report.specs.declared.view.Kept.{Kept}
 use Rattle.vx_report.specs.declared.view.SiteView.{SiteView}
 use Rattle.vx_script.specs.declared.line.ScriptLine.TheVariants.{Recover}
+use Rattle.vx_effects.specs.Facts.{down_fact}
 use Rattle.vx_grouped.specs.GroupSites.{DownNoted, site_below, site_config}
 use Rattle.vx_diskset.specs.Aboves.{site_in}
 use Rattle.vx_diskset.specs.Asked.{SameFailing}
@@ -42,18 +45,20 @@ use Rattle.vx_yard.proofs.Carrying.{SameLoad}
 use Rattle.vx_yard.proofs.FuseStays.{fused_none}
 use Rattle.vx_yard.proofs.OneSite.{Changed}
 use Rattle.vx_yard.proofs.OverGroup.{over_rvg}
+use Rattle.vx_yard.specs.Loads.{LetGo}
 use Rattle.vx_yard.specs.Standing.{StandsFor}
 use Rattle.vx_yard.specs.declared.yard.Yard.{Yard}
 use Rattle.vx_group_lines.specs.Noting.{made_facts}
 use Rattle.vx_group_lines.specs.Rises.{ComesDown, FindsAbove, StandsOver, StoodUp, kept_shown}
 use Rattle.vx_group_lines.specs.RvgRises.{RaisesIs, RestsSo, rests_as, rests_world}
 use Rattle.vx_group_lines.proofs.Arriving.{Arrives}
+use Rattle.vx_group_lines.proofs.FoundLost.{found_lost}
 use Rattle.vx_group_lines.proofs.GroupAt.{GroupAt, down_noted, group_by}
 use Rattle.vx_group_lines.proofs.GroupCalls.{Called}
 use Rattle.vx_group_lines.proofs.Raising.{Begins, RaisedTo}
 use Rattle.vx_group_lines.proofs.Recovering.{changed_up, failing_up, same_between}
 use Rattle.vx_group_lines.proofs.Rising.{unfused_down}
-use Rattle.vx_group_lines.proofs.RvgAtRest.{AtRest, LookedAt, called_over, first_fact, looked_at, never_lost, rest_set, stood_changed, stood_failing, stood_load, stood_looks, stood_same}
+use Rattle.vx_group_lines.proofs.RvgAtRest.{AtRest, LookedAt, called_over, first_fact, looked_at, never_lost, rest_set, stood_changed, stood_failing, stood_load, stood_looks, stood_same, stood_told}
 use Rattle.vx_group_lines.proofs.RvgComing.{DownCall, down_made, none_after, rest_links, rest_sure, rest_unfused}
 use Rattle.vx_group_lines.proofs.RvgFacts.{up_seen}
 use Rattle.vx_group_lines.proofs.RvgFound.{FoundCall, found_arrives, found_carries, found_ends, found_fails, found_left, found_raises, found_rose, found_says, found_stands_by, found_worked}
@@ -113,17 +118,17 @@ module _ {R : Type 0} {g : Ghosts R} where
         fused = fused_none here.node (Over q) (here.same.fuse ∙ none);
       }
 
-  -- ---- what came up, behind the look at a write that was cut, of which there is none
+  -- ---- what came up, behind the look at a write that was cut
 
   -- what is known of the disks behind calls on them
   less_on : (note next : GroupNode) (x q : OverSet R g) → (IsTrue (site_below (site_in q)).tells → IsTrue (site_below (site_in x)).tells) → KnowsLess note next (site_in x) → KnowsLess note next (site_in q)
   less_on note next x q told less = record { was = λ it. less.was (told it); dark = λ it. less.dark (told it) }
 
   pub found_stood : (d : Doubted) (name : List ℕ) (s kept : ℕ) (taken : Bool) (old mid new : Yard R g) (before between : DiskSet R g) (first : RaisedTo old mid s before between) (at : AtRest d s kept taken old)
-      (cut : Option CutWrite) (result : Result Said OutOfMemory) (st : StoodUp s cut mid new result) (x : OverSet R g) → between ≡ Over x → cut ≡ None
+      (cut : Option CutWrite) (result : Result Said OutOfMemory) (st : StoodUp s cut mid new result) (x : OverSet R g) → between ≡ Over x → cut ≡ (rest_set d s kept taken old mid new before between first at).cut
       → FoundAgain (beside_of (rests_as d s kept taken) s) ((rests_as d s kept taken).world.nodes s) (note_at ((rests_as d s kept taken).world.nodes s)) (site_in (rest_set d s kept taken old mid new before between first at)) x
       → RaisesIs d (Recover name) s kept taken old new result
-  found_stood d name s kept taken old mid new before between first at cut result st x is none again = by st.answer refl looks
+  found_stood d name s kept taken old mid new before between first at cut result st x is cut_is again = by st.answer refl looks
     where
       b : Doubted
       b = rests_as d s kept taken
@@ -134,8 +139,8 @@ module _ {R : Type 0} {g : Ghosts R} where
       o : OverSet R g
       o = rest_set d s kept taken old mid new before between first at
 
-      looked : LookedAt None x st.after st.answer
-      looked = stood_looks d s kept taken old mid new before between first at cut result st x is none
+      looked : LookedAt cut x st.after st.answer
+      looked = stood_looks d s kept taken old mid new before between first at cut result st x is
 
       p : OverSet R g
       p = looked.set
@@ -143,7 +148,7 @@ module _ {R : Type 0} {g : Ghosts R} where
       here : FoundOver (beside_of (rests_as d s kept taken) s) ((rests_as d s kept taken).world.nodes s) (burned ((rests_as d s kept taken).world.nodes s).fuse) x
       here = again.over
 
-      looks : LookedOver (beside_of (rests_as d s kept taken) s) here.node here.next None x p st.answer
+      looks : LookedOver (beside_of (rests_as d s kept taken) s) here.node here.next cut x p st.answer
       looks = looked.looked (beside_of b s) here.node here.next here.stands here.same.up here.same.running here.noted here.clear
 
       at_before : st.before ≡ Over x
@@ -169,8 +174,28 @@ module _ {R : Type 0} {g : Ghosts R} where
           (ap (λ (fs : List SiteFacts). slice_get fs s) first.facts ∙ first_fact d s kept taken old mid new before between first at)
           (subst (λ (e : DiskSet R g). AtSite (λ y. site_config y ≡ Some sits.config) e) (sym at_before) sits.has) (subst (λ (e : DiskSet R g). core_in e ≡ Some sits.core) (sym at_before) sits.has_core)
 
-      by : (answer : Result (Option KeptWrite) Stop) → st.answer ≡ answer → LookedOver (beside_of (rests_as d s kept taken) s) here.node here.next None x p st.answer → RaisesIs d (Recover name) s kept taken old new result
-      by (Err stop) ends it = absurd (never_lost (beside_of b s) here.node here.next x p stop (subst (λ (a : Result (Option KeptWrite) Stop). LookedOver (beside_of b s) here.node here.next None x p a) ends it))
+      tells : IsTrue (site_below (site_in p)).tells → IsTrue (site_below (site_in x)).tells
+      tells = stood_told d s kept taken old mid new before between first at cut result st x p is looked.is
+
+      -- a disk failed in it
+      lost_kept : (stop : Stop) → st.answer ≡ Err stop → LookedOver (beside_of (rests_as d s kept taken) s) here.node here.next cut x p (Err stop) → RaisesIs d (Recover name) s kept taken old new result
+      lost_kept (StopsBy (Device disk)) ends it =
+          let done : StandsOver s (linked_fact (rests_as d s kept taken).world s) sits.config sits.core st.after (Err (StopsBy (Device disk))) mid new result =
+          subst (λ (a : Result (Option KeptWrite) Stop). StandsOver s f sits.config sits.core st.after a mid new result) ends so in
+          subst (λ (r : Result Said OutOfMemory). RaisesIs d (Recover name) s kept taken old new r) (sym done.2)
+          (found_lost d name s kept taken at.rests old new o p call x again tells cut cut_is disk it sits.core sits.config sits.noted
+          (up_seen (beside_of b s) here.node sits.core (set_volumes (Over x)) sits.stands here.same.running here.whole)
+          (done.0 ∙ ap (λ (fs : List SiteFacts). slice_set fs s (down_fact (made_facts sits.core sits.config f))) first.facts)
+          (record {
+            flight = st.flight ∙ first.load.flight;
+            assemblies = subst (λ a. LetGo s a new.assemblies.items) first.load.assemblies done.1;
+            feeders = ap (λ xs. xs.items) st.feeders ∙ first.load.feeders;
+          }))
+      lost_kept (StopsBy other) ends it = absurd it
+      lost_kept MemoryStop ends it = absurd it
+
+      by : (answer : Result (Option KeptWrite) Stop) → st.answer ≡ answer → LookedOver (beside_of (rests_as d s kept taken) s) here.node here.next cut x p st.answer → RaisesIs d (Recover name) s kept taken old new result
+      by (Err stop) ends it = lost_kept stop ends (subst (λ (a : Result (Option KeptWrite) Stop). LookedOver (beside_of b s) here.node here.next cut x p a) ends it)
       by (Ok read) ends it = subst (λ (r : Result Said OutOfMemory). RaisesIs d (Recover name) s kept taken old new r) (sym replied)
           (found_raises d name s kept taken old new (Over o) p lit found (Resumed view shown) shown refl stands (stood_load d s kept taken old mid new before between first at cut result st done.1))
         where
@@ -180,14 +205,11 @@ module _ {R : Type 0} {g : Ghosts R} where
           done : StandsOver s (linked_fact (rests_as d s kept taken).world s) sits.config sits.core st.after (Ok read) mid new result
           done = subst (λ (a : Result (Option KeptWrite) Stop). StandsOver s f sits.config sits.core st.after a mid new result) ends so
 
-          now : LookedOver (beside_of (rests_as d s kept taken) s) here.node here.next None x p (Ok read)
-          now = subst (λ (a : Result (Option KeptWrite) Stop). LookedOver (beside_of b s) here.node here.next None x p a) ends it
+          now : LookedOver (beside_of (rests_as d s kept taken) s) here.node here.next cut x p (Ok read)
+          now = subst (λ (a : Result (Option KeptWrite) Stop). LookedOver (beside_of b s) here.node here.next cut x p a) ends it
 
           came : FoundOver (beside_of (rests_as d s kept taken) s) ((rests_as d s kept taken).world.nodes s) lit p
           came = found_worked (beside_of b s) n (burned n.fuse) x p here now.0 now.1
-
-          tells : IsTrue (site_below (site_in p)).tells → IsTrue (site_below (site_in x)).tells
-          tells told = subst (λ (e : DiskSet R g). IsRackTold e) at_before (st.later.told (subst (λ (e : DiskSet R g). IsRackTold e) (sym looked.is) told))
 
           found : FoundCall d (rests_world d s kept taken) (Recover name) s taken old new (Over o) p lit
           found =

@@ -1,6 +1,6 @@
 -- A site whose group has a replicated volume group, at rest before its disks are imported, and what is looked at behind that.
-use Rattle.std.proofs.Common.{◌≡◌, ◌∙◌, ◌<◌, ℕ, Bool, true, [], ap, sym, subst, refl}
-use Rattle.std.specs.Prelude.{Option, Some, None, slice_get, Result, Err}
+use Rattle.std.proofs.Common.{◌≡◌, ◌∙◌, ◌<◌, ◌≤◌, ℕ, Bool, true, [], ap, arith, sym, subst, refl}
+use Rattle.std.specs.Prelude.{IsTrue, Option, Some, None, slice_get, Result, Err}
 use Rattle.vx_model.specs.declared.errors.OutOfMemory.{OutOfMemory}
 use Rattle.vx_model.specs.declared.errors.Stop.{Stop}
 use Rattle.vx_model.specs.declared.errors.Stop.TheVariants.{No as StopsBy, OutOfMemory as MemoryStop}
@@ -12,11 +12,13 @@ use Rattle.vx_history.specs.Doubts.{Doubted}
 use Rattle.vx_history.specs.Groups.{GroupNode}
 use Rattle.vx_history.specs.World.{Node}
 use Rattle.vx_order.specs.declared.facts.SiteFacts.{SiteFacts}
+use Rattle.vx_grouped.specs.GroupSites.{site_below, site_disks}
 use Rattle.vx_diskset.specs.Asked.{SameFailing}
 use Rattle.vx_diskset.specs.Holds.{KeptBeside, beside_of}
-use Rattle.vx_diskset.specs.Noted.{IsNamed, SiteNoted}
+use Rattle.vx_diskset.specs.Aboves.{site_in}
+use Rattle.vx_diskset.specs.Noted.{SiteNoted}
 use Rattle.vx_diskset.specs.OverRises.{LookedOver, LooksOver, RaisedOver, RaisesAbove}
-use Rattle.vx_diskset.specs.Stands.{SiteStands}
+use Rattle.vx_diskset.specs.Stands.{IsRackTold, SiteStands, faults_at}
 use Rattle.vx_diskset.specs.declared.disk_set.DiskSet.{DiskSet}
 use Rattle.vx_diskset.specs.declared.disk_set.DiskSet.TheVariants.{Bare, Spoiled, Up as RaisedSet, Receives, Down as DownSet, OfGroup, Over, Gone as GoneSet}
 use Rattle.vx_diskset.specs.declared.group_set.CutWrite.{CutWrite}
@@ -33,10 +35,9 @@ use Rattle.vx_yard.proofs.NamedSite.{fact_of}
 use Rattle.vx_yard.proofs.OneSite.{Changed}
 use Rattle.vx_yard.specs.Standing.{StandsFor}
 use Rattle.vx_yard.specs.declared.yard.Yard.{Yard}
-use Rattle.vx_above.proofs.OverSites.{OverIs, note_is, over_set, site_named, site_noted}
+use Rattle.vx_above.proofs.OverSites.{OverIs, note_is, over_set, site_noted}
 use Rattle.vx_group_lines.specs.Rises.{StoodUp}
 use Rattle.vx_group_lines.specs.RvgRises.{RestsSo, rests_as}
-use Rattle.vx_group_lines.proofs.GroupAt.{no_value}
 use Rattle.vx_group_lines.proofs.Raising.{RaisedTo}
 use Rattle.vx_group_lines.proofs.Recovering.{changed_up, failing_up, same_between}
 use Rattle.vx_group_lines.proofs.RvgComing.{DownCall}
@@ -105,18 +106,11 @@ module _ {R : Type 0} {g : Ghosts R} where
     noted : SiteNoted n note (Over rest_set)
     noted = site_noted b old s rest_set at.stands at.below there_over at.over
 
-    named : IsNamed n
-    named = site_named b old s rest_set at.stands at.below there_over
-
     pub first_fact : slice_get old.facts.items s ≡ Some rest_seen_fact
     first_fact = fact_of b old s at.stands at.below ∙ ap (λ (x : SiteFacts). Some x) (fact_apart b.world s (rvg_apart n at.over))
 
     pub unlinked : rest_seen_fact.links ≡ []
     unlinked = ap (λ (t : SiteState). links_by t (links_of_site b.world s)) at.down
-
-    -- no write is cut
-    pub rest_uncut : rest_set.cut ≡ None
-    rest_uncut = no_value rest_set.cut (noted.1 ∙ named.6)
 
     -- such a call on its disks
     pub called_rest : (after : DiskSet R g) → Changed old new s before after → SameFailing before after → DownCall (rests_as d s kept taken) old new s rest_set after
@@ -156,8 +150,14 @@ module _ {R : Type 0} {g : Ghosts R} where
         feeders = ap (λ xs. xs.items) st.feeders ∙ first.load.feeders;
       }
 
-      -- no write that was cut
-      pub stood_looks : (x : OverSet R g) → between ≡ Over x → cut ≡ None → LookedAt None x st.after st.answer
-      stood_looks x is none =
-          looked_at None x st.after st.answer
-          (subst (λ (c : Option CutWrite). LooksOver c (Over x) st.after st.answer) none (subst (λ (e : DiskSet R g). LooksOver cut e st.after st.answer) (sym stood_same ∙ is) st.over))
+      pub stood_looks : (x : OverSet R g) → between ≡ Over x → LookedAt cut x st.after st.answer
+      stood_looks x is = looked_at cut x st.after st.answer (subst (λ (e : DiskSet R g). LooksOver cut e st.after st.answer) (sym stood_same ∙ is) st.over)
+
+      -- its rack tells no more than that of the group that came up
+      pub stood_told : (x p : OverSet R g) → between ≡ Over x → st.after ≡ Over p → IsTrue (site_below (site_in p)).tells → IsTrue (site_below (site_in x)).tells
+      stood_told x p is to told =
+          subst (λ (e : DiskSet R g). IsRackTold e) (sym stood_same ∙ is) (st.later.told (subst (λ (e : DiskSet R g). IsRackTold e) (sym to) told))
+
+      -- no call on its disks goes back
+      pub stood_later : (x p : OverSet R g) → between ≡ Over x → st.after ≡ Over p → (k : ℕ) → (site_disks (site_in x)).disk_faults k ≤ (site_disks (site_in p)).disk_faults k
+      stood_later x p is to k = omega (arith, st.later.counts k, ap (λ (e : DiskSet R g). faults_at e k) (sym stood_same ∙ is), ap (λ (e : DiskSet R g). faults_at e k) to)

@@ -57,7 +57,7 @@ abbrev seen_with : Node → SiteState → List VolumeFacts → Option RvgFacts �
 seen_with k state volumes rvg links = record { name = k.name; state = state; disks = k.disks; blocks = k.blocks; grouped = true; volumes = volumes; rvg = rvg; links = links }
 
 -- the data volumes of the site are those of the configuration
-data_same : (vs : List VolumeEntry) (places : List ℕ) → data_facts vs places (map as_volume (map (data_at vs) places)) ≡ map (data_seen vs) places
+pub data_same : (vs : List VolumeEntry) (places : List ℕ) → data_facts vs places (map as_volume (map (data_at vs) places)) ≡ map (data_seen vs) places
 data_same vs [] = refl
 data_same vs (p ∷ places) = ap (λ (fs : List VolumeFacts). data_seen vs p ∷ fs) (data_same vs places)
 

@@ -18,6 +18,7 @@ use Rattle.vx_script.specs.declared.line.ScriptLine.TheVariants.{Recover}
 use Rattle.vx_grouped.proofs.ReadyLemmas.{imported_same}
 use Rattle.vx_grouped.specs.GroupSites.{DownNoted, site_below, site_disks}
 use Rattle.vx_grouped.specs.SiteReturns.{KnownAway, SomeRose, as_imported, stops_early}
+use Rattle.vx_diskset.proofs.NotedLikes.{cut_stays}
 use Rattle.vx_diskset.specs.Aboves.{site_in}
 use Rattle.vx_diskset.specs.Holds.{beside_of}
 use Rattle.vx_diskset.specs.Noted.{IsNamed, below_rvg}
@@ -95,7 +96,7 @@ module _ {R : Type 0} {g : Ghosts R} (d : Doubted) (s kept : ℕ) (taken : Bool)
   left = left_world d s kept taken rests old new o p call next
 
   named : IsNamed m
-  named = let w = rest_named b old new s o (Over p) call in (w.0, w.1, w.2, w.3, w.4, w.5, w.6)
+  named = let w = rest_named b old new s o (Over p) call in (w.0, w.1, w.2, w.3, w.4, w.5, cut_stays n m next refl refl (λ v low. refl) (λ up. up) w.6)
 
   table : over_table m next ≡ over_table n note
   table = refl

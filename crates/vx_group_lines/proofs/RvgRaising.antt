@@ -1,6 +1,6 @@
 -- What the calls of a recovery lead a yard to, at a site whose group has a replicated volume group.
-use Rattle.std.proofs.Common.{◌≡◌, ◌∙◌, ◌≤◌, ℕ, Bool, List, ap, sym, subst, refl, arith}
-use Rattle.std.specs.Prelude.{Option, Some, None, slice_get, slice_set, Result, Ok, Err}
+use Rattle.std.proofs.Common.{◌≡◌, ◌∙◌, ◌≤◌, ℕ, Bool, List, ap, sym, subst, refl}
+use Rattle.std.specs.Prelude.{Option, Some, slice_get, slice_set, Result, Ok, Err}
 use Rattle.vx_model.specs.declared.errors.OutOfMemory.{OutOfMemory}
 use Rattle.vx_model.specs.declared.errors.Stop.{Stop}
 use Rattle.vx_model.specs.declared.errors.Stop.TheVariants.{No as StopsBy, OutOfMemory as MemoryStop}
@@ -13,13 +13,13 @@ use Rattle.vx_history.specs.Steps.{burned}
 use Rattle.vx_history.specs.World.{Node}
 use Rattle.vx_order.specs.declared.facts.SiteFacts.{SiteFacts}
 use Rattle.vx_script.specs.declared.line.ScriptLine.TheVariants.{Recover}
-use Rattle.vx_grouped.specs.GroupSites.{site_config}
+use Rattle.vx_effects.specs.Facts.{down_fact}
+use Rattle.vx_grouped.specs.GroupSites.{site_config, site_disks}
 use Rattle.vx_diskset.specs.Aboves.{site_in}
-use Rattle.vx_diskset.specs.GroupCalls.{AtSite, config_in, core_in}
+use Rattle.vx_diskset.specs.GroupCalls.{AtSite, config_in, core_in, cut_above}
 use Rattle.vx_diskset.specs.Holds.{beside_of}
 use Rattle.vx_diskset.specs.OverRises.{HeldStill, LookedOver, LostAgain, OverRises, RaisesAbove, RisesAgain, RisesFound, RisesHeld, RisesLost, RisesPlain, RoseAgain, came_with}
 use Rattle.vx_diskset.specs.OverStarts.{HandsOut}
-use Rattle.vx_diskset.specs.Stands.{faults_at}
 use Rattle.vx_diskset.specs.declared.disk_set.DiskSet.{DiskSet}
 use Rattle.vx_diskset.specs.declared.disk_set.DiskSet.TheVariants.{Over}
 use Rattle.vx_diskset.specs.declared.group_set.CutWrite.{CutWrite}
@@ -34,6 +34,7 @@ use Rattle.vx_events.specs.declared.said.Said.{Said}
 use Rattle.vx_events.specs.declared.said.Said.TheVariants.{Resumed}
 use Rattle.vx_yard.proofs.Carrying.{SameLoad}
 use Rattle.vx_yard.proofs.Lists.{set_same}
+use Rattle.vx_yard.specs.Loads.{LetGo}
 use Rattle.vx_yard.specs.Writes.{below_facts}
 use Rattle.vx_yard.specs.declared.yard.Yard.{Yard}
 use Rattle.vx_group_lines.specs.Noting.{IsNotedRefusal, KeepsRest, made_facts, reply_noted}
@@ -41,12 +42,14 @@ use Rattle.vx_group_lines.specs.Rises.{StandsOver, StoodUp, kept_shown}
 use Rattle.vx_group_lines.specs.RvgRises.{RaisesIs, rests_as}
 use Rattle.vx_group_lines.proofs.Raising.{RaisedTo}
 use Rattle.vx_group_lines.proofs.Recovering.{changed_down}
-use Rattle.vx_group_lines.proofs.RvgAtRest.{AtRest, LookedAt, called_over, first_fact, never_lost, raised, rest_set, rest_uncut, stood_changed, stood_failing, stood_load, stood_looks, stood_same, unlinked}
+use Rattle.vx_group_lines.proofs.RvgAtRest.{AtRest, LookedAt, called_over, first_fact, raised, rest_set, stood_changed, stood_failing, stood_later, stood_load, stood_looks, stood_same, stood_told, unlinked}
 use Rattle.vx_group_lines.proofs.RvgComing.{DownCall}
 use Rattle.vx_group_lines.proofs.RvgHeld.{held_device, held_limit, held_memory, held_missing, held_none, held_strange}
 use Rattle.vx_group_lines.proofs.RvgLost.{lost_device, lost_limit, lost_memory}
 use Rattle.vx_group_lines.proofs.RvgPlain.{plain_stood}
-use Rattle.vx_group_lines.proofs.RvgRose.{came_first, over_risen, risen_below, risen_stands, risen_world, rose_raises}
+use Rattle.vx_group_lines.proofs.RvgRose.{came_first, over_risen, risen, risen_below, risen_stands, risen_world, rose_raises}
+use Rattle.vx_group_lines.proofs.RvgKept.{kept_lost}
+use Rattle.vx_group_lines.proofs.RvgStanding.{RvgOver}
 use Rattle.vx_group_lines.proofs.RecoverFound.{found_stood}
 
 handed : {A : Type 0} {a b : A} → (let x : Result A Stop = Ok a in x ≡ Ok b) → a ≡ b
@@ -81,11 +84,11 @@ module _ {R : Type 0} {g : Ghosts R} (d : Doubted) (name : List ℕ) (s kept : �
     same = stood_same d s kept taken old mid new before between first at cut result st
 
     -- with the replicated volume group that the site had
-    rose : (x : OverSet R g) → between ≡ Over x → cut ≡ None → RoseAgain (beside_of b s) n note (site_in o) x → RaisesIs d (Recover name) s kept taken old new result
-    rose x is none r = by st.answer refl
+    rose : (x : OverSet R g) → between ≡ Over x → cut ≡ o.cut → RoseAgain (beside_of b s) n note (site_in o) x → RaisesIs d (Recover name) s kept taken old new result
+    rose x is cut_is r = by st.answer refl
       where
-        looks : LookedAt None x st.after st.answer
-        looks = stood_looks d s kept taken old mid new before between first at cut result st x is none
+        looks : LookedAt cut x st.after st.answer
+        looks = stood_looks d s kept taken old mid new before between first at cut result st x is
 
         p : OverSet R g
         p = looks.set
@@ -98,47 +101,73 @@ module _ {R : Type 0} {g : Ghosts R} (d : Doubted) (name : List ℕ) (s kept : �
         m : Node
         m = came_with (burned n.fuse) r.over.next n
 
-        looked : (answer : Result (Option KeptWrite) Stop) → st.answer ≡ answer → LookedOver (beside_of b s) m r.over.next None x p answer
+        looked : (answer : Result (Option KeptWrite) Stop) → st.answer ≡ answer → LookedOver (beside_of b s) m r.over.next cut x p answer
         looked answer so =
-            subst (λ (q : Result (Option KeptWrite) Stop). LookedOver (beside_of b s) m r.over.next None x p q) so
+            subst (λ (q : Result (Option KeptWrite) Stop). LookedOver (beside_of b s) m r.over.next cut x p q) so
             (looks.looked (beside_of b s) m r.over.next r.over.stands refl refl r.over.noted (r.over.works.same.cut ∙ r.group.returns.cut))
 
-        last : (k : ℕ) → faults_at (Over x) k ≤ faults_at (Over p) k
-        last k = omega (arith, st.later.counts k, ap (λ (e : DiskSet R g). faults_at e k) (sym same ∙ is), ap (λ (e : DiskSet R g). faults_at e k) looks.is)
+        last : (k : ℕ) → (site_disks (site_in x)).disk_faults k ≤ (site_disks (site_in p)).disk_faults k
+        last = stood_later d s kept taken old mid new before between first at cut result st x p is looks.is
 
-        by : (answer : Result (Option KeptWrite) Stop) → st.answer ≡ answer → RaisesIs d (Recover name) s kept taken old new result
-        by (Err stop) so = absurd (never_lost (beside_of b s) m r.over.next x p stop (looked (Err stop) so))
-        by (Ok read) so =
-            let it = looked (Ok read) so in
-            let came = came_first d s kept taken at.rests old new o p call x r it.0 it.1 last in
-            let shown : StandsOver s f came.config came.core st.after (Ok read) mid new result =
+        came : RvgOver (beside_of b s) (risen d s kept taken at.rests old new o p call x r last) r.over.next (Over x)
+        came = came_first d s kept taken at.rests old new o p call x r last
+
+        shown : (answer : Result (Option KeptWrite) Stop) → st.answer ≡ answer → StandsOver s f came.config came.core st.after answer mid new result
+        shown answer so =
             subst (λ (q : Result (Option KeptWrite) Stop). StandsOver s f came.config came.core st.after q mid new result) so
             (st.above f came.config came.core (ap (λ (fs : List SiteFacts). slice_get fs s) first.facts ∙ first_fact d s kept taken old mid new before between first at)
             (subst (λ (e : DiskSet R g). AtSite (λ y. site_config y ≡ Some came.config) e) (sym is ∙ same) came.has)
-            (subst (λ (e : DiskSet R g). core_in e ≡ Some came.core) (sym is ∙ same) came.has_core)) in
+            (subst (λ (e : DiskSet R g). core_in e ≡ Some came.core) (sym is ∙ same) came.has_core))
+
+        -- what is kept of the write was read
+        read_kept : (read : Option KeptWrite) → st.answer ≡ Ok read → RaisesIs d (Recover name) s kept taken old new result
+        read_kept read so =
+            let it = looked (Ok read) so in
+            let stands = shown (Ok read) so in
             let facts : new.facts.items ≡ slice_set old.facts.items s (made_facts came.core came.config f) =
-            shown.0 ∙ ap (λ (fs : List SiteFacts). slice_set fs s (made_facts came.core came.config f)) first.facts in
-            let e : Doubted = risen_world d s kept taken at.rests old new o p call x r it.0 it.1 last in
-            let says : result ≡ Ok (Resumed (over_disks (e.world.nodes s) (note_at (e.world.nodes s)) (linked_view e.world s)) None) =
-            shown.2 e (risen_stands d s kept taken at.rests old new o p call x r it.0 it.1 last facts) (risen_below d s kept taken at.rests old new o p call x r it.0 it.1 last)
-            (over_risen d s kept taken at.rests old new o p call x r it.0 it.1 last) (unlinked d s kept taken old mid new before between first at)
-            ∙ ap (λ (k : Option KeptWrite). Ok (Resumed (over_disks (e.world.nodes s) (note_at (e.world.nodes s)) (linked_view e.world s)) (kept_shown (volumes_of (config_in st.after)) k))) it.2 in
+            stands.0 ∙ ap (λ (fs : List SiteFacts). slice_set fs s (made_facts came.core came.config f)) first.facts in
+            let e : Doubted = risen_world d s kept taken at.rests old new o p call x r last in
+            let says : result ≡ Ok (Resumed (over_disks (e.world.nodes s) (note_at (e.world.nodes s)) (linked_view e.world s)) (kept_shown (volumes_of (config_in (Over p))) read)) =
+            stands.2 e (risen_stands d s kept taken at.rests old new o p call x r last it.0 it.1 facts) (risen_below d s kept taken at.rests old new o p call x r last)
+            (over_risen d s kept taken at.rests old new o p call x r last) (unlinked d s kept taken old mid new before between first at)
+            ∙ ap (λ (q : DiskSet R g). Ok (Resumed (over_disks (e.world.nodes s) (note_at (e.world.nodes s)) (linked_view e.world s)) (kept_shown (volumes_of (config_in q)) read))) looks.is in
             subst (λ (q : Result Said OutOfMemory). RaisesIs d (Recover name) s kept taken old new q) (sym says)
-            (rose_raises d s kept taken at.rests old new o p call x r it.0 it.1 last name (Resumed (over_disks (e.world.nodes s) (note_at (e.world.nodes s)) (linked_view e.world s)) None) facts
-            (stood_load d s kept taken old mid new before between first at cut result st shown.1) refl)
+            (rose_raises d s kept taken at.rests old new o p call x r last it.0 it.1 cut read cut_is it.2 (stood_told d s kept taken old mid new before between first at cut result st x p is looks.is) name
+            (Resumed (over_disks (e.world.nodes s) (note_at (e.world.nodes s)) (linked_view e.world s)) (kept_shown (volumes_of (config_in (Over p))) read)) facts
+            (stood_load d s kept taken old mid new before between first at cut result st stands.1) refl)
+
+        -- or a disk failed in that
+        lost_kept : (stop : Stop) → st.answer ≡ Err stop → RaisesIs d (Recover name) s kept taken old new result
+        lost_kept (StopsBy (Device disk)) so =
+            let stands = shown (Err (StopsBy (Device disk))) so in
+            subst (λ (q : Result Said OutOfMemory). RaisesIs d (Recover name) s kept taken old new q) (sym stands.2)
+            (kept_lost d s kept taken at.rests old new o p call x r last cut cut_is disk (looked (Err (StopsBy (Device disk))) so) name
+            (stands.0 ∙ ap (λ (fs : List SiteFacts). slice_set fs s (down_fact (made_facts came.core came.config f))) first.facts)
+            (record {
+              flight = st.flight ∙ first.load.flight;
+              assemblies = subst (λ a. LetGo s a new.assemblies.items) first.load.assemblies stands.1;
+              feeders = ap (λ xs. xs.items) st.feeders ∙ first.load.feeders;
+            }))
+        lost_kept (StopsBy other) so = absurd (looked (Err (StopsBy other)) so)
+        lost_kept MemoryStop so = absurd (looked (Err MemoryStop) so)
+
+        by : (answer : Result (Option KeptWrite) Stop) → st.answer ≡ answer → RaisesIs d (Recover name) s kept taken old new result
+        by (Err stop) so = lost_kept stop so
+        by (Ok read) so = read_kept read so
 
     pub came_above : RaisesAbove before between (Ok cut) → RaisesIs d (Recover name) s kept taken old new result
     came_above above = let it = raised d s kept taken old mid new before between first at (Ok cut) above in by it.answer it.hands it.rises
       where
-        rises : (done : Unit {0}) → cut ≡ None → OverRises (beside_of b s) n note (site_in o) between (Ok done) → RaisesIs d (Recover name) s kept taken old new result
-        rises done none (RisesAgain x is ok again) = rose x is none again
-        rises done none (RisesFound x is ok found) = found_stood d name s kept taken old mid new before between first at cut result st x is none found
-        rises done none (RisesPlain x is ok plain) = plain_stood d name s kept taken old mid new before between first at cut result st x is none plain
-        rises done none (RisesLost x stop is err lost) = absurd (never_both err)
-        rises done none (RisesHeld x stop is err held) = absurd (never_both err)
+        rises : (done : Unit {0}) → cut ≡ cut_above between o.cut → OverRises (beside_of b s) n note (site_in o) between (Ok done) → RaisesIs d (Recover name) s kept taken old new result
+        rises done handed_is (RisesAgain x is ok again) = rose x is (handed_is ∙ ap (λ (e : DiskSet R g). cut_above e o.cut) is) again
+        rises done handed_is (RisesFound x is ok found) =
+            found_stood d name s kept taken old mid new before between first at cut result st x is (handed_is ∙ ap (λ (e : DiskSet R g). cut_above e o.cut) is) found
+        rises done handed_is (RisesPlain x is ok plain) = plain_stood d name s kept taken old mid new before between first at cut result st x is (handed_is ∙ ap (λ (e : DiskSet R g). cut_above e o.cut) is) plain
+        rises done handed_is (RisesLost x stop is err lost) = absurd (never_both err)
+        rises done handed_is (RisesHeld x stop is err held) = absurd (never_both err)
 
-        by : (answer : Result (Unit {0}) Stop) → HandsOut o.cut answer (Ok cut) → OverRises (beside_of b s) n note (site_in o) between answer → RaisesIs d (Recover name) s kept taken old new result
-        by (Ok done) hands it = rises done (handed hands ∙ rest_uncut d s kept taken old mid new before between first at) it
+        by : (answer : Result (Unit {0}) Stop) → HandsOut (cut_above between o.cut) answer (Ok cut) → OverRises (beside_of b s) n note (site_in o) between answer → RaisesIs d (Recover name) s kept taken old new result
+        by (Ok done) hands it = rises done (handed hands) it
         by (Err stop) hands it = absurd (never_both hands)
 
   -- ---- it did not
@@ -222,6 +251,6 @@ module _ {R : Type 0} {g : Ghosts R} (d : Doubted) (name : List ℕ) (s kept : �
       rises why same (RisesHeld p end is err left) =
           held p is stop result reply (subst (λ (q : Stop). HeldStill (beside_of b s) n note (site_in o) p q) (sym (same ∙ stopped_by err)) left)
 
-      by : (answer : Result (Unit {0}) Stop) → HandsOut o.cut answer (Err stop) → OverRises (beside_of b s) n note (site_in o) between answer → RaisesIs d (Recover name) s kept taken old new result
+      by : (answer : Result (Unit {0}) Stop) → HandsOut (cut_above between o.cut) answer (Err stop) → OverRises (beside_of b s) n note (site_in o) between answer → RaisesIs d (Recover name) s kept taken old new result
       by (Ok done) hands it = absurd (never_both (sym hands))
       by (Err why) hands it = rises why (stopped_by hands) it

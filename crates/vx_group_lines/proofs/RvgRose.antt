@@ -1,7 +1,8 @@
 -- What a recovery of a site whose group has a replicated volume group leads its yard to, where both come up.
-use Rattle.std.proofs.Common.{◌≡◌, ◌∙◌, ◌++◌, ◌<◌, ◌≤◌, ℕ, Bool, true, false, List, [], ◌∷◌, map, ap, sym, subst, refl, arith, inl}
-use Rattle.std.specs.Prelude.{Option, Some, None, slice_set, unwrap_or}
-use Rattle.vx_model.specs.Content.{Write}
+use Rattle.std.proofs.Common.{◌≡◌, ◌∙◌, ◌++◌, ◌<◌, ◌≤◌, ℕ, Bool, true, false, List, [], ◌∷◌, length, map, ap, sym, subst, refl, arith, inl}
+use Rattle.std.proofs.lemmas.Option.{slice_get_within}
+use Rattle.std.specs.Prelude.{IsTrue, Option, Some, None, slice_get, slice_set, unwrap_or}
+use Rattle.vx_model.specs.Content.{Content, Write}
 use Rattle.vx_model.specs.Sites.{is_origin}
 use Rattle.vx_model.specs.declared.site.SiteState.{SiteState}
 use Rattle.vx_disk.specs.declared.shelf.Shelf.{Ghosts}
@@ -13,17 +14,26 @@ use Rattle.vx_history.specs.Steps.{burned, recovered, worked}
 use Rattle.vx_history.specs.Volumes.{as_volume}
 use Rattle.vx_history.specs.World.{Fuse, Node, NoFuse, World}
 use Rattle.vx_history.specs.declared.event.Event.TheVariants.{Recover as RecoverAt}
+use Rattle.vx_report.specs.declared.view.Kept.{Kept}
 use Rattle.vx_report.specs.declared.view.SiteView.{SiteView}
 use Rattle.vx_script.specs.declared.line.ScriptLine.TheVariants.{Recover}
-use Rattle.vx_grouped.specs.GroupSites.{site_disks}
-use Rattle.vx_diskset.proofs.NotedLikes.{cut_none}
+use Rattle.vx_grouped.specs.Ends.{plain_write}
+use Rattle.vx_grouped.specs.GroupSites.{FitsPlain, UpNoted, site_below, site_disks}
+use Rattle.vx_diskset.proofs.NotedLikes.{cut_none, same_size}
+use Rattle.vx_diskset.proofs.OverNoted.{note_read, noted_up}
 use Rattle.vx_diskset.proofs.Roles.{role_origin}
 use Rattle.vx_diskset.specs.Aboves.{site_in}
 use Rattle.vx_diskset.specs.Holds.{KeptBeside, beside_of, header_links}
-use Rattle.vx_diskset.specs.Noted.{IsNamed, NotedOver, SiteNoted}
+use Rattle.vx_diskset.specs.GroupCalls.{config_in}
+use Rattle.vx_diskset.specs.GroupSets.{cut_value}
+use Rattle.vx_diskset.specs.Noted.{CutRests, IsNamed, NotedOver, SiteNoted, below_rvg}
 use Rattle.vx_diskset.specs.OverRises.{RoseAgain, came_with}
+use Rattle.vx_diskset.specs.Recovers.{KeptIs}
 use Rattle.vx_diskset.specs.Stands.{SiteStands}
+use Rattle.vx_diskset.specs.declared.disk_set.DiskSet.{DiskSet}
 use Rattle.vx_diskset.specs.declared.disk_set.DiskSet.TheVariants.{Over}
+use Rattle.vx_diskset.specs.declared.group_set.CutWrite.{CutWrite}
+use Rattle.vx_diskset.specs.declared.group_set.KeptWrite.{KeptWrite}
 use Rattle.vx_diskset.specs.declared.over_set.OverSet.{OverSet}
 use Rattle.vx_events.proofs.Places.{some_same}
 use Rattle.vx_events.proofs.RvgEvents.{rvg_apart}
@@ -31,9 +41,9 @@ use Rattle.vx_events.proofs.RvgStays.{loses, then_keeps}
 use Rattle.vx_events.specs.Doubts.{run_as}
 use Rattle.vx_events.specs.Fails.{Fails}
 use Rattle.vx_events.specs.GroupLines.{is_over_group}
-use Rattle.vx_events.specs.GroupNotes.{NotesBack, no_note, note_at}
+use Rattle.vx_events.specs.GroupNotes.{IsKnown, NotesBack, no_note, note_at}
 use Rattle.vx_events.specs.GroupReplies.{ShowsKept}
-use Rattle.vx_events.specs.GroupViews.{config_of, noted_disks, noted_volumes, shown_up}
+use Rattle.vx_events.specs.GroupViews.{config_of, noted_disks, noted_volumes, shown_up, volumes_of}
 use Rattle.vx_events.specs.LinkViews.{linked_view}
 use Rattle.vx_events.specs.LinkedFacts.{linked_fact}
 use Rattle.vx_events.specs.RvgBack.{IsLeftBack, RvgBack, RvgUp, fall_first, rvg_view}
@@ -44,6 +54,7 @@ use Rattle.vx_events.specs.StepsOver.{fact_over}
 use Rattle.vx_events.specs.declared.said.Said.{Said}
 use Rattle.vx_events.specs.declared.said.Said.TheVariants.{Resumed}
 use Rattle.vx_yard.proofs.Carrying.{SameLoad}
+use Rattle.vx_yard.proofs.Lists.{get-set_same}
 use Rattle.vx_yard.specs.Standing.{StandsFor}
 use Rattle.vx_yard.specs.Yards.{IsTold}
 use Rattle.vx_yard.specs.declared.yard.Yard.{Yard}
@@ -52,9 +63,13 @@ use Rattle.vx_above.proofs.OverSites.{over_again}
 use Rattle.vx_above.proofs.RiseWorlds.{own_sites, own_view, view_noted}
 use Rattle.vx_above.specs.OwnDisks.{own_disks}
 use Rattle.vx_group_lines.specs.Noting.{made_facts}
+use Rattle.vx_group_lines.specs.Rises.{kept_shown}
 use Rattle.vx_group_lines.specs.RvgRises.{RaisesFor, RestsSo, rests_as, rests_world}
+use Rattle.vx_group_lines.proofs.BelowAt.{SizedUp, sized_up}
+use Rattle.vx_group_lines.proofs.GroupAt.{lit_up}
+use Rattle.vx_group_lines.proofs.Rising.{shows_cut}
 use Rattle.vx_group_lines.proofs.Arriving.{Arrives, arrives_noted, noted_at}
-use Rattle.vx_group_lines.proofs.RvgComing.{DownCall, carries_so, down_made, never_receives, rest_links, rest_named, rest_origin, rest_some, rest_sure, rest_unfused, stands_so}
+use Rattle.vx_group_lines.proofs.RvgComing.{DownCall, carries_so, down_made, never_receives, rest_links, rest_named, rest_noted, rest_origin, rest_some, rest_sure, rest_unfused, stands_so}
 use Rattle.vx_group_lines.proofs.RvgFacts.{gained_fact, up_seen}
 use Rattle.vx_group_lines.proofs.RvgReturns.{calls_are_of, calls_at, calls_rose, extra_at, group_back, group_keeps, group_works, many_at, named_again}
 use Rattle.vx_group_lines.proofs.RvgStanding.{RvgOver, rvg_over, set_volumes}
@@ -99,11 +114,9 @@ module _ {R : Type 0} {g : Ghosts R} (d : Doubted) (s kept : ℕ) (taken : Bool)
   pub unfused_rest : ((rests_as d s kept taken).world.nodes s).fuse ≡ NoFuse
   unfused_rest = rest_unfused (rests_as d s kept taken) old new s o (Over p) call
 
-  -- ---- the site is up
+  -- ---- the group came up, and its replicated volume group
 
   module _ (x : OverSet R g) (r : RoseAgain (beside_of (rests_as d s kept taken) s) ((rests_as d s kept taken).world.nodes s) (note_at ((rests_as d s kept taken).world.nodes s)) (site_in o) x)
-      (stood : SiteStands (beside_of (rests_as d s kept taken) s) (worked (came_with (burned ((rests_as d s kept taken).world.nodes s).fuse) r.over.next ((rests_as d s kept taken).world.nodes s))) (Over p))
-      (noted : SiteNoted (worked (came_with (burned ((rests_as d s kept taken).world.nodes s).fuse) r.over.next ((rests_as d s kept taken).world.nodes s))) r.over.next (Over p))
       (last : (k : ℕ) → (site_disks (site_in x)).disk_faults k ≤ (site_disks (site_in p)).disk_faults k) where
     abbrev next : GroupNode
     next = r.over.next
@@ -123,24 +136,24 @@ module _ {R : Type 0} {g : Ghosts R} (d : Doubted) (s kept : ℕ) (taken : Bool)
 
     -- ---- the note
 
-    abbrev extra : ℕ
+    abbrev pub extra : ℕ
     extra = extra_at b old new s o p call r.laid r.group x r.to last next r.over.works r.over.goes r.over.agrees
 
-    abbrev fails : Fails
+    abbrev pub fails : Fails
     fails = calls_at b old new s o p call (many_at b old new s o p call r.laid r.group x r.to last extra)
 
-    back : NotesBack (IsTold new) s (d.world.nodes s) fails (note_at (d.world.nodes s)) r.group.middle
+    pub back : NotesBack (IsTold new) s (d.world.nodes s) fails (note_at (d.world.nodes s)) r.group.middle
     back =
         subst (λ (k : GroupNode). NotesBack (IsTold new) s (d.world.nodes s) fails k r.group.middle) note_before
         (group_back b old new s o p call r.laid r.group x r.to last (d.world.nodes s) extra rests.disks rests.blocks (λ _. r.told))
 
-    keeps_back : NoteKeepsRvg note r.group.middle
+    pub keeps_back : NoteKeepsRvg note r.group.middle
     keeps_back = group_keeps b old new s o p call r.laid r.group x r.to last r.told r.named
 
-    works : NotesWork ⊥ s fails r.group.middle next
+    pub works : NotesWork ⊥ s fails r.group.middle next
     works = group_works b old new s o p call r.laid r.group x r.to last next r.over.works r.over.goes r.over.agrees extra (omega arith)
 
-    keeps_next : NoteKeepsRvg note next
+    pub keeps_next : NoteKeepsRvg note next
     keeps_next = then_keeps note r.group.middle next keeps_back (loses s fails r.group.middle next works)
 
     clear : next.cut ≡ None
@@ -151,27 +164,18 @@ module _ {R : Type 0} {g : Ghosts R} (d : Doubted) (s kept : ℕ) (taken : Bool)
 
     -- ---- the world
 
-    arrives : Arrives b risen_world s risen (b.world.gathering s)
+    pub arrives : Arrives b risen_world s risen (b.world.gathering s)
     arrives = arrives_noted b up_world s (recovered n) next (b.world.gathering s) (back_arrives d s kept taken rests.fits below_rest sure_rest links_rest origin_rest some_rest call.down r.over.session)
 
     same_beside : beside_of risen_world s ≡ beside_of b s
     same_beside =
         beside_as b risen_world s links_rest arrives.links (back_headers d s kept taken rests.fits below_rest sure_rest links_rest origin_rest some_rest call.down r.over.session) sure_rest arrives.sure
 
-    over : is_over_rvg risen ≡ true
+    pub over : is_over_rvg risen ≡ true
     over = over_again n risen next call.over refl refl
 
     apart : is_over_group risen ≡ false
     apart = rvg_apart risen over
-
-    here : SiteStands (beside_of b s) risen (Over p)
-    here = subst (λ (k : Node). SiteStands (beside_of b s) k (Over p)) (worked_is n next unfused_rest) stood
-
-    noted_here : SiteNoted risen next (Over p)
-    noted_here = subst (λ (k : Node). SiteNoted k next (Over p)) (worked_is n next unfused_rest) noted
-
-    noted_at_last : NotedOver risen (Over p)
-    noted_at_last = ((λ k is. subst (λ (y : GroupNode). SiteNoted risen y (Over p)) (some_same is) noted_here), named)
 
     -- what came up
     pub came_first : RvgOver (beside_of (rests_as d s kept taken) s) risen r.over.next (Over x)
@@ -185,7 +189,7 @@ module _ {R : Type 0} {g : Ghosts R} (d : Doubted) (s kept : ℕ) (taken : Bool)
     same_config : named.0 ≡ at_serial 0 came_first.config
     same_config = some_same (sym named.2 ∙ first_config)
 
-    seen : made_facts came_first.core came_first.config (linked_fact b.world s) ≡ fact_over risen_world.world s
+    pub seen : made_facts came_first.core came_first.config (linked_fact b.world s) ≡ fact_over risen_world.world s
     seen =
         down_made came_first.core came_first.config b.world s note call.down
         ∙ gained_fact risen_world.world s n risen note next came_first.core came_first.config named.1 arrives.node refl first_config refl over apart
@@ -193,11 +197,6 @@ module _ {R : Type 0} {g : Ghosts R} (d : Doubted) (s kept : ℕ) (taken : Bool)
         (subst (λ (c : Config). risen.volumes ≡ map as_volume (data_of c.volumes named.1)) same_config named.4)
         arrives.links refl refl refl
         (up_seen (beside_of b s) risen came_first.core (set_volumes (Over x)) came_first.stands refl (omega (arith, came_first.stands.logged, came_first.stands.durable refl)))
-
-    pub risen_stands : new.facts.items ≡ slice_set old.facts.items s (made_facts came_first.core came_first.config (linked_fact (rests_as d s kept taken).world s)) → StandsFor risen_world new
-    risen_stands facts =
-        stands_so b old new s o (Over p) call risen_world risen (b.world.gathering s) arrives (subst (λ (q : KeptBeside). SiteStands q risen (Over p)) (sym same_beside) here) refl unfused_rest
-        (role_origin risen (Over p) origin_rest) (made_facts came_first.core came_first.config (linked_fact b.world s)) noted_at_last seen facts
 
     -- ---- what is shown
 
@@ -215,30 +214,84 @@ module _ {R : Type 0} {g : Ghosts R} (d : Doubted) (s kept : ℕ) (taken : Bool)
         ∙ ap (λ (t : SiteState). let q : SiteView = record (linked_view last_world s) { disks = shown_up t (noted_disks next); volumes = shown_up t (noted_volumes next) } in q)
         (sym (back_up d s kept taken rests.fits below_rest sure_rest links_rest origin_rest some_rest call.down r.over.session))
 
-    says : rvg_view last_world s next None ≡ rvg_view (run_as taken d (fall_first (d.world.nodes s).state s kept ++ RecoverAt s None ∷ [])).world s next None
-    says = ap (λ (e : Doubted). rvg_view e.world s next None) (sym (rest_then d s kept taken (RecoverAt s None ∷ [])))
+    -- ---- and so the site stands behind the look at a write that was cut
 
-    -- nothing was cut
-    shows : ShowsKept (IsTold new) (note_at (d.world.nodes s)).cut next None
-    shows =
-        subst (λ (w : Option Write). ShowsKept (IsTold new) w next None)
-        (sym (rest_named b old new s o (Over p) call).6 ∙ ap (λ (k : GroupNode). k.cut) note_before) refl
+    module _ (stood : SiteStands (beside_of (rests_as d s kept taken) s) (worked (came_with (burned ((rests_as d s kept taken).world.nodes s).fuse) r.over.next ((rests_as d s kept taken).world.nodes s))) (Over p))
+        (noted : SiteNoted (worked (came_with (burned ((rests_as d s kept taken).world.nodes s).fuse) r.over.next ((rests_as d s kept taken).world.nodes s))) r.over.next (Over p)) where
+      here : SiteStands (beside_of b s) risen (Over p)
+      here = subst (λ (k : Node). SiteStands (beside_of b s) k (Over p)) (worked_is n next unfused_rest) stood
 
-    -- ---- the line
+      noted_here : SiteNoted risen next (Over p)
+      noted_here = subst (λ (k : Node). SiteNoted k next (Over p)) (worked_is n next unfused_rest) noted
 
-    ends : (name : List ℕ) (said : Said) → said ≡ rvg_view last_world s next None → RvgBack (IsTold new) d (Recover name) s fails said risen_world
-    ends name said is =
-        RvgUp name kept taken r.group.middle next None rests.over refl (calls_are_of b old new s o p call (many_at b old new s o p call r.laid r.group x r.to last extra)) back
-        (subst (λ (k : GroupNode). NoteKeepsRvg k r.group.middle) note_before keeps_back) works (is ∙ says) shows
-        (subst (λ (e : Doubted). IsLeftBack s (Recover name) taken next d e risen_world) (sym (rest_then d s kept taken (RecoverAt s None ∷ []))) (record { world = refl; after = λ i. refl; strayed = refl }))
+      noted_at_last : NotedOver risen (Over p)
+      noted_at_last = ((λ k is. subst (λ (y : GroupNode). SiteNoted risen y (Over p)) (some_same is) noted_here), named)
 
-    pub rose_raises : (name : List ℕ) (said : Said) → new.facts.items ≡ slice_set old.facts.items s (made_facts came_first.core came_first.config (linked_fact (rests_as d s kept taken).world s)) → SameLoad old new
-        → said ≡ Resumed (over_disks (risen_world.world.nodes s) (note_at (risen_world.world.nodes s)) (linked_view risen_world.world s)) None → RaisesFor d (Recover name) s kept taken said old new
-    rose_raises name said facts load is = record {
-      next = risen_world;
-      fails = fails;
-      works = inl (ends name said (is ∙ ap (λ (q : SiteView). Resumed q None) shown_view));
-      stands = risen_stands facts;
-      carries = λ was. carries_so b old new s o (Over p) call risen_world risen arrives (never_receives b old new s o (Over p) call risen origin_rest) load was;
-      rose = calls_rose b old new s o p call (many_at b old new s o p call r.laid r.group x r.to last extra);
-    }
+      pub risen_stands : new.facts.items ≡ slice_set old.facts.items s (made_facts came_first.core came_first.config (linked_fact (rests_as d s kept taken).world s)) → StandsFor risen_world new
+      risen_stands facts =
+          stands_so b old new s o (Over p) call risen_world risen (b.world.gathering s) arrives (subst (λ (q : KeptBeside). SiteStands q risen (Over p)) (sym same_beside) here) refl unfused_rest
+          (role_origin risen (Over p) origin_rest) (made_facts came_first.core came_first.config (linked_fact b.world s)) noted_at_last seen facts
+
+      -- what is kept of that
+
+      module _ (cut : Option CutWrite) (read : Option KeptWrite) (same : cut ≡ o.cut) (kept_is : KeptIs r.over.next (site_disks (site_in x)) cut read) (less : IsTrue (site_below (site_in p)).tells → IsTrue (site_below (site_in x)).tells) where
+        up_last : UpNoted (below_rvg risen) next (site_in p)
+        up_last = noted_up (beside_of b s) risen next p.site here.1 refl noted_here.0
+
+        sized : SizedUp next (site_in p)
+        sized = sized_up (below_rvg risen) next (site_in p) up_last
+
+        abbrev shown : Option Kept
+        shown = kept_shown sized.config.volumes read
+
+        shown_is : kept_shown (volumes_of (config_in (Over p))) read ≡ shown
+        shown_is = ap (λ (c : Option Config). kept_shown (volumes_of c) read) sized.has
+
+        there : slice_get new.disk_sets.items s ≡ Some (Over p)
+        there = ap (λ (es : List (DiskSet R g)). slice_get es s) call.changed.disk_sets ∙ get-set_same old.disk_sets.items s (Over p) (slice_get_within old.disk_sets.items s (Over o) call.changed.there)
+
+        -- contents that are known were told of its disks
+        tells : IsKnown (IsTold new) next → IsTrue (site_disks (site_in x)).tells
+        tells known =
+            lit_up (below_rvg (came_with (burned n.fuse) next n)) next (site_in x) (noted_up (beside_of b s) (came_with (burned n.fuse) next n) next x.site r.over.stands.1 refl r.over.noted.0) known.1
+            (less (known.0.each s (Over p) there))
+
+        sizes : (v : ℕ) → 0 < note.bytes.size v → next.bytes.size v ≡ note.bytes.size v
+        sizes v low = ap (λ (c : Content). c.size v) r.over.works.same.bytes ∙ r.group.returns.size r.told v low
+
+        cut_note : cut_value cut ≡ note.cut
+        cut_note = ap (λ (c : Option CutWrite). cut_value c) same ∙ (rest_noted b old new s o (Over p) call).1
+
+        fits : (y : CutWrite) → cut ≡ Some y → FitsPlain next y.volume y.block (length y.bytes)
+        fits y is =
+            let rests_cut : CutRests n = (rest_named b old new s o (Over p) call).6 in
+            let w : Write = plain_write y.volume y.block y.bytes in
+            same_size note next w sizes (rests_cut.1 w (sym cut_note ∙ ap (λ (c : Option CutWrite). cut_value c) is))
+
+        shows : ShowsKept (IsTold new) (note_at (d.world.nodes s)).cut next shown
+        shows =
+            subst (λ (w : Option Write). ShowsKept (IsTold new) w next shown) (cut_note ∙ ap (λ (k : GroupNode). k.cut) note_before)
+            (shows_cut (IsTold new) next (site_disks (site_in x)) sized.config tells (note_read next sized.config sized.noted) sized.size cut read fits kept_is)
+
+        -- ---- the line
+
+        says_kept : rvg_view last_world s next shown ≡ rvg_view (run_as taken d (fall_first (d.world.nodes s).state s kept ++ RecoverAt s None ∷ [])).world s next shown
+        says_kept = ap (λ (e : Doubted). rvg_view e.world s next shown) (sym (rest_then d s kept taken (RecoverAt s None ∷ [])))
+
+        ends : (name : List ℕ) (said : Said) → said ≡ rvg_view last_world s next shown → RvgBack (IsTold new) d (Recover name) s fails said risen_world
+        ends name said is =
+            RvgUp name kept taken r.group.middle next shown rests.over refl (calls_are_of b old new s o p call (many_at b old new s o p call r.laid r.group x r.to last extra)) back
+            (subst (λ (k : GroupNode). NoteKeepsRvg k r.group.middle) note_before keeps_back) works (is ∙ says_kept) shows
+            (subst (λ (e : Doubted). IsLeftBack s (Recover name) taken next d e risen_world) (sym (rest_then d s kept taken (RecoverAt s None ∷ []))) (record { world = refl; after = λ i. refl; strayed = refl }))
+
+        pub rose_raises : (name : List ℕ) (said : Said) → new.facts.items ≡ slice_set old.facts.items s (made_facts came_first.core came_first.config (linked_fact (rests_as d s kept taken).world s)) → SameLoad old new
+            → said ≡ Resumed (over_disks (risen_world.world.nodes s) (note_at (risen_world.world.nodes s)) (linked_view risen_world.world s)) (kept_shown (volumes_of (config_in (Over p))) read) → RaisesFor d (Recover name) s kept taken said old new
+        rose_raises name said facts load is = record {
+          next = risen_world;
+          fails = fails;
+          works = inl (ends name said (is ∙ ap (λ (q : SiteView). Resumed q (kept_shown (volumes_of (config_in (Over p))) read)) shown_view
+              ∙ ap (λ (k : Option Kept). Resumed (over_disks (last_world.nodes s) next (linked_view last_world s)) k) shown_is));
+          stands = risen_stands facts;
+          carries = λ was. carries_so b old new s o (Over p) call risen_world risen arrives (never_receives b old new s o (Over p) call risen origin_rest) load was;
+          rose = calls_rose b old new s o p call (many_at b old new s o p call r.laid r.group x r.to last extra);
+        }

@@ -1,34 +1,35 @@
 -- What the events make of a site by which its log comes up in its next session, where it keeps no link and writes of its line arise there.
-use Rattle.std.proofs.Common.{◌≡◌, ◌∙◌, ◌++◌, ◌+◌, ◌<◌, ℕ, Bool, true, false, List, [], ap, sym, refl, arith}
+use Rattle.std.proofs.Common.{◌≡◌, ◌∙◌, ◌++◌, ◌+◌, ◌<◌, ◌≤◌, ℕ, Bool, true, false, List, [], length, ap, sym, subst, refl, arith}
 use Rattle.std.proofs.lemmas.List.{append-nil}
-use Rattle.std.specs.Prelude.{Some, None, if◌then◌else◌}
+use Rattle.std.specs.Prelude.{Option, Some, None, if◌then◌else◌}
 use Rattle.vx_model.specs.Sites.{is_origin}
 use Rattle.vx_model.specs.declared.limits.TheConstants.{MOST_NUMBER}
 use Rattle.vx_model.specs.declared.site.Role.{Role}
 use Rattle.vx_model.specs.declared.site.SiteState.{SiteState}
 use Rattle.vx_model.specs.declared.site.SiteState.TheVariants.{Bare as IsBare, Up as IsUp, Deported as IsAway, Down as IsDown}
-use Rattle.vx_history.specs.Doubts.{Doubted, happened}
-use Rattle.vx_history.specs.Events.{come_back, recovery_greeting, restarted_link}
+use Rattle.vx_history.specs.Doubts.{After, Doubted, happened, resolved_at, taken_up}
+use Rattle.vx_history.specs.Events.{come_back, kept_of, lost_touch, recovery_greeting, restarted_link}
 use Rattle.vx_history.specs.Sends.{greeting}
-use Rattle.vx_history.specs.Steps.{recovered}
+use Rattle.vx_history.specs.Steps.{crashed, recovered}
 use Rattle.vx_history.specs.World.{Link, Node, Packet, World}
 use Rattle.vx_history.specs.declared.event.Event.{Event}
 use Rattle.vx_history.specs.declared.event.Event.TheVariants.{Crash as CrashAt, Recover as RecoverAt}
 use Rattle.vx_diskset.specs.Holds.{beside_of, header_links, row_links}
+use Rattle.vx_effects.proofs.Effects.{crash_effect}
 use Rattle.vx_effects.proofs.Fitting.{fit_happened}
 use Rattle.vx_effects.proofs.Leaving.{fit_disks}
 use Rattle.vx_effects.proofs.Rises.{recover_effect, session_effect}
-use Rattle.vx_effects.proofs.Rows.{restarted_kept}
+use Rattle.vx_effects.proofs.Rows.{restarted_kept, touch_kept}
 use Rattle.vx_events.specs.Doubts.{run_as}
 use Rattle.vx_events.specs.Effects.{EffectAt}
-use Rattle.vx_events.specs.LinksFit.{LinksFit}
+use Rattle.vx_events.specs.LinksFit.{LinksFit, RowFits}
 use Rattle.vx_events.specs.RvgBack.{fall_first}
 use Rattle.vx_above.proofs.RiseWorlds.{behind_disks, come_quiet, own_gathering, own_headers, own_is, own_links, own_node, own_packets, own_recovered, own_session, own_sites}
 use Rattle.vx_above.specs.OwnDisks.{own_disks}
 use Rattle.vx_yard.proofs.CrashSite.{beside_sure}
 use Rattle.vx_yard.proofs.Rows.{row_links_same}
 use Rattle.vx_group_lines.specs.RvgRises.{rests_as, rests_world}
-use Rattle.vx_group_lines.proofs.Arriving.{Arrives}
+use Rattle.vx_group_lines.proofs.Arriving.{Arrives, arrives_then}
 
 -- ---- lists of events
 
@@ -68,9 +69,22 @@ own_number : (b : Bool) (was n : Node) → (own_node b was n).session ≡ n.sess
 own_number true was n = refl
 own_number false was n = refl
 
+-- so much of what crashed is kept
+pub kept_at : (n : Node) → n.safe ≤ length n.log → kept_of n 0 ≡ n.safe
+kept_at n most = omega (arith, most)
+
+own_crashed : (b : Bool) (was n : Node) → own_node b was (crashed n (kept_of n 0)) ≡ crashed (own_node b was n) (kept_of (own_node b was n) 0)
+own_crashed true was n = refl
+own_crashed false was n = refl
+
 -- what comes up has the role that it had
 back_role : (n : Node) → is_origin n.role ≡ true → come_back n ≡ recovered n → is_origin (come_back n).role ≡ true
 back_role n origin is = ap (λ (k : Node). is_origin k.role) is ∙ origin
+
+-- a world in which a site is in no doubt is as it is, whatever is kept
+sure_world : (d : Doubted) (s : ℕ) → d.after s ≡ None → (taken : Bool) → (resolved_at d s taken).world ≡ d.world
+sure_world d s sure true = ap (λ (o : Option After). taken_up d.world s o) sure
+sure_world d s sure false = refl
 
 -- ---- the links of a row
 
@@ -195,3 +209,57 @@ module _ (d : Doubted) (s kept : ℕ) (taken : Bool) (fit : LinksFit (rests_worl
 
       pub begun_headers : (world_begun disk).world.headers s ≡ e.world.headers s
       begun_headers = begun_effect.is.headers ∙ sym (own_headers s w h taken)
+
+    -- ---- it crashes again
+
+    abbrev up_h : Doubted
+    up_h = happened (rests_world d s kept taken) (RecoverAt s None) taken
+
+    abbrev pub world_fell_back : Doubted
+    world_fell_back = own_disks taken s d.world (happened (happened (rests_world d s kept taken) (RecoverAt s None) taken) (CrashAt s 0) taken)
+
+    abbrev up_node : Node
+    up_node = up_h.world.nodes s
+
+    abbrev row_fell : ℕ → Link
+    row_fell = λ k. lost_touch ((happened (rests_world d s kept taken) (RecoverAt s None) taken).world.links s k)
+
+    up_effect : EffectAt s h up_h (come_back at_h) row_back (h.world.headers s) (h.after s) (h.world.packets ++ recovery_greeting s (come_back at_h)) (h.world.gathering s)
+    up_effect = recover_effect h s taken below down_h less_h
+
+    up_fits : LinksFit up_h
+    up_fits = fit_happened h (RecoverAt s None) taken tt fit
+
+    same_world : (resolved_at up_h s taken).world ≡ up_h.world
+    same_world = sure_world up_h s (up_effect.is.after ∙ sure) taken
+
+    -- its node and its row
+    abbrev crashed_from : World → Doubted → Type 0
+    crashed_from v x = EffectAt s up_h x (crashed (v.nodes s) (kept_of (v.nodes s) 0)) (λ k. lost_touch (v.links s k)) (up_h.world.headers s) None up_h.world.packets None
+
+    fell_effect : crashed_from up_h.world (happened up_h (CrashAt s 0) taken)
+    fell_effect =
+        subst (λ (v : World). crashed_from v (happened up_h (CrashAt s 0) taken)) same_world
+        (crash_effect up_h s 0 taken (subst (λ (v : World). RowFits s v.sites (v.links s)) (sym same_world) (up_fits.rows s))
+        (subst (λ (v : World). s < v.sites) (sym same_world) (omega (arith, below, up_effect.site.sites)))
+        (subst (λ (v : World). (v.nodes s).state ≡ IsUp) (sym same_world) (ap (λ (k : Node). k.state) (up_effect.is.node ∙ back_is))))
+
+    own_fell : own_node taken was (crashed up_node (kept_of up_node 0)) ≡ crashed (recovered n) (kept_of (recovered n) 0)
+    own_fell =
+        own_crashed taken was up_node
+        ∙ ap (λ (k : Node). crashed k (kept_of k 0)) (ap (λ (k : Node). own_node taken was k) up_effect.is.node ∙ back_node)
+
+    fell_back_effect : EffectAt s world_back world_fell_back (crashed (recovered n) (kept_of (recovered n) 0)) row_fell (up_h.world.headers s) None up_h.world.packets None
+    fell_back_effect =
+        subst (λ (k : Node). EffectAt s world_back world_fell_back k row_fell (up_h.world.headers s) None up_h.world.packets None) own_fell
+        (behind_disks s w up_h (happened up_h (CrashAt s 0) taken) (crashed up_node (kept_of up_node 0)) row_fell (up_h.world.headers s) None up_h.world.packets None taken fell_effect)
+
+    pub fell_back_arrives : Arrives (rests_as d s kept taken) world_fell_back s (crashed (recovered ((rests_as d s kept taken).world.nodes s)) (kept_of (recovered ((rests_as d s kept taken).world.nodes s)) 0)) None
+    fell_back_arrives =
+        arrives_then e world_back world_fell_back s (recovered n) (crashed (recovered n) (kept_of (recovered n) 0)) row_fell (up_h.world.headers s) None up_h.world.packets (e.world.gathering s) None back_arrives
+        fell_back_effect (fit_disks taken s w (happened up_h (CrashAt s 0) taken) (fit_happened up_h (CrashAt s 0) taken tt up_fits)) refl (sym (own_packets s w up_h taken))
+        (touch_kept (up_h.world.links s) world_back.world.sites ∙ row_links_same (world_back.world.links s) (up_h.world.links s) (λ k. sym (own_links s w up_h taken k)) world_back.world.sites ∙ back_arrives.links)
+        (λ _ made none. absurd (some none))
+
+    pub fell_back_headers : world_fell_back.world.headers s ≡ e.world.headers s
+    fell_back_headers = fell_back_effect.is.headers ∙ up_effect.is.headers ∙ sym (own_headers s w h taken)

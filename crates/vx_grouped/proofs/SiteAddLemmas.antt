@@ -119,7 +119,7 @@ module _ (name : List ℕ) (want : Shape) (c d : GroupCore) (m m' : Meaning) (r 
   made_volume vol is = made_in (make_refusal c.inner.config name want) refl vol is
 
 -- a crash raises no count
-failed_since : (m m' r : Meaning) {before after : List DiskEntry} → Stopped m' r → MoreFailed m m' before after → MoreFailed m r before after
+pub failed_since : (m m' r : Meaning) {before after : List DiskEntry} → Stopped m' r → MoreFailed m m' before after → MoreFailed m r before after
 failed_since m m' r stopped it = record {
   count = it.count;
   blocks = it.blocks;
@@ -137,7 +137,7 @@ room_by c name want m m' rest other it = absurd it
 
 module _ {R : Type 0} {g : Ghosts R} (n : Node) (note : GroupNode) (name : List ℕ) (want : Shape) (group new : Laid R g) (up : GroupUp n note (laid_below group).tells group.core (laid_disks group)) (since : CalledSince (laid_disks group) (laid_disks new)) (less : TellsLess (laid_below group) (laid_below new)) (has : HasSpelling new.core.inner.config)
     (racks : (s : Shade R) → IsRack (shade_meaning g.meaning s)) where
-  spells : HasSpelling (at_serial 0 new.core.inner.config)
+  pub spells : HasSpelling (at_serial 0 new.core.inner.config)
   spells = spells_zero new.core.inner.config has
 
   fuse : HasFuse (burned n.fuse) (laid_disks new)
@@ -168,14 +168,14 @@ module _ {R : Type 0} {g : Ghosts R} (n : Node) (note : GroupNode) (name : List 
   made_done vol works = made_by vol works (works.leaves n note up.at)
 
   module _ (stop : Stop) (works : MakesVolume name want group.core (laid_disks group) new.core (laid_disks new) (Err stop)) where
-    ended : make_refusal group.core.inner.config name want ≡ None → (which : No) → stop ≡ Refused which → MakeEnds name want group.core.inner new.core.inner (laid_disks group) (laid_disks new) (Err (Refused which))
+    pub ended : make_refusal group.core.inner.config name want ≡ None → (which : No) → stop ≡ Refused which → MakeEnds name want group.core.inner new.core.inner (laid_disks group) (laid_disks new) (Err (Refused which))
     ended none which is = subst (λ (x : Stop). MakeEnds name want group.core.inner new.core.inner (laid_disks group) (laid_disks new) (Err x)) is (works.ends none)
 
-    not_made : (s : Shade R) → (new.core.inner.config.volumes ≡ group.core.inner.config.volumes) → MoreFailed (laid_disks group) (shade_meaning g.meaning s) group.core.inner.config.disks new.core.inner.config.disks
+    pub not_made : (s : Shade R) → (new.core.inner.config.volumes ≡ group.core.inner.config.volumes) → MoreFailed (laid_disks group) (shade_meaning g.meaning s) group.core.inner.config.disks new.core.inner.config.disks
         → LosesSome (laid_disks group) (shade_meaning g.meaning s) group.core.inner.config new.core.inner.config
     not_made s volumes failing = fails_alone group.core.inner.config group.core.inner.config new.core.inner.config (laid_disks group) (shade_meaning g.meaning s) (racks group.shelf).counts (racks s).counts refl works.parts failing volumes
 
-    none_of : (which : No) → stop ≡ Refused which → blames_device which ≡ true → make_refusal group.core.inner.config name want ≡ None
+    pub none_of : (which : No) → stop ≡ Refused which → blames_device which ≡ true → make_refusal group.core.inner.config name want ≡ None
     none_of = none_refused ℕ (make_refusal group.core.inner.config name want) stop (Err stop) refl works.refused (never_off group.core.inner.config name want) (never_device group.core.inner.config name want)
 
     fails : (which : No) → stop ≡ Refused which → blames_device which ≡ true → LosesSome (laid_disks group) (laid_disks new) group.core.inner.config new.core.inner.config

@@ -153,7 +153,7 @@ impl<R: Rack> Laid<R> {
     }
 
     /// Its configuration is spelled in bytes, and so it can be read back from them.
-    pub(crate) fn spelled(&self)
+    pub fn spelled(&self)
         ensures { HasSpelling self.now.core.inner.config }
     {
         let config = &self.core.inner.config;

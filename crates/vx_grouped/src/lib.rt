@@ -37,6 +37,7 @@ pub use leaving::deport_group;
 pub use making::make_volume_of;
 pub use plain::{read_plain, write_plain};
 pub use plexes::{att_plex, det_plex};
+pub use site_making::make_watched;
 pub use site_plain::is_off;
 pub use site_plexes::is_down_stop;
 pub use tracing::{trace, traced, untrace, untraced};

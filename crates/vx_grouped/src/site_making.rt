@@ -90,8 +90,8 @@ fn make_traced<C: Begun, R: Rack>(
     (untrace(group), answer)
 }
 
-// Makes a volume in a group that is up.
-fn make_watched<R: Rack>(
+/// Makes a volume in a group that is up.
+pub fn make_watched<R: Rack>(
     alloc: Global,
     laid: Laid<R>,
     name: &Name,

@@ -21,3 +21,7 @@ mod open;
 mod over_groups;
 #[cfg(test)]
 mod plexes;
+#[cfg(test)]
+mod vols;
+#[cfg(test)]
+mod writes;

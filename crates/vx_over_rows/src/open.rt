@@ -2,43 +2,25 @@
 use crate::done::ends_at;
 use std::test::Fail;
 
-// Five lines make the group, and a sixth one its replicated volume group.
+// A line on a plex is one where the site is halted, and one that makes a volume. Five lines make the group, and two its replicated volume group.
 #[test]
-fn a_run_ends_at_an_open_line(rt: HostRuntime) -> Result<(), Fail> {
-    let made = "rvg a srl=log1 dcm=maps vols=v\n";
-    let wanted = "done\ndone\ndone\ndone\ndone\ndone\nbad 7 1\n";
-    for line in ["vol a w 64 mirrors=1 layout=concat log=none fmr=off rdpol=round\n"] {
-        assert!(rt; ends_at(&rt, rt.alloc(), made, line, 7, wanted)?, "{line}");
-    }
-    Ok(())
-}
-
-// A line on a plex is one where the site is halted.
-#[test]
-fn a_run_ends_at_a_plex_of_a_halted_site(rt: HostRuntime) -> Result<(), Fail> {
+fn a_run_ends_at_a_line_on_the_group_of_a_halted_site(rt: HostRuntime) -> Result<(), Fail> {
     let made =
         "vol a w 64 mirrors=1 layout=concat log=none fmr=off rdpol=round\nrvg a srl=log1 dcm=maps vols=w\nwrite a w 0 1 11\ndisk a 0 fail\napply a 1\n";
     let wanted =
         "done\ndone\ndone\ndone\ndone\ndone\ndone\ndone 1\ndone\nno 7 device 0\nbad 11 1\n";
-    for line in ["plex a v 1 det\n", "plex a v 1 att\n", "plex a w 0 att\n"] {
+    for line in [
+        "plex a v 1 det\n",
+        "plex a v 1 att\n",
+        "plex a w 0 att\n",
+        "vol a u 64 mirrors=1 layout=concat log=none fmr=off rdpol=round\n",
+    ] {
         assert!(rt; ends_at(&rt, rt.alloc(), made, line, 11, wanted)?, "{line}");
     }
     Ok(())
 }
 
-// A run ends at a write to a volume that the replicated volume group does not have.
-#[test]
-fn a_run_ends_at_a_write_to_another_volume(rt: HostRuntime) -> Result<(), Fail> {
-    let made =
-        "vol a w 64 mirrors=1 layout=concat log=none fmr=off rdpol=round\nrvg a srl=log1 dcm=maps vols=v\n";
-    let wanted = "done\ndone\ndone\ndone\ndone\ndone\ndone\nbad 8 1\n";
-    for line in ["write a w 0 1 11\n", "write a w 63 1 00\n"] {
-        assert!(rt; ends_at(&rt, rt.alloc(), made, line, 8, wanted)?, "{line}");
-    }
-    Ok(())
-}
-
-// And at a link from the site or to it. The other site has one volume of the same size, and a log of the same.
+// A run ends at a link from the site or to it. The other site has one volume of the same size, and a log of the same.
 #[test]
 fn a_run_ends_at_a_link(rt: HostRuntime) -> Result<(), Fail> {
     let made = "rvg a srl=log1 dcm=maps vols=v\nsite b 3 256\nraw b\n";
@@ -55,17 +37,10 @@ fn a_run_ends_at_a_link(rt: HostRuntime) -> Result<(), Fail> {
 // What was done before such a line is answered, and what stands behind it is not read.
 #[test]
 fn lines_before_it_are_done(rt: HostRuntime) -> Result<(), Fail> {
-    let made = "rvg a srl=log1 dcm=maps vols=v\nwrite a v 0 1 11\nread a v 0 1\n";
-    let wanted = "done\ndone\ndone\ndone\ndone\ndone\ndone 1\n11\nbad 9 1\n";
-    assert!(rt;
-        ends_at(
-            &rt,
-            rt.alloc(),
-            made,
-            "vol a w 64 mirrors=1 layout=concat log=none fmr=off rdpol=round\nfoo\n",
-            9,
-            wanted
-        )?
-    );
+    let made =
+        "vol a w 64 mirrors=1 layout=concat log=none fmr=off rdpol=round\nrvg a srl=log1 dcm=maps vols=w\nwrite a w 0 1 11\nread a w 0 1\ndisk a 0 fail\napply a 1\n";
+    let wanted =
+        "done\ndone\ndone\ndone\ndone\ndone\ndone\ndone 1\n11\ndone\nno 7 device 0\nbad 12 1\n";
+    assert!(rt; ends_at(&rt, rt.alloc(), made, "plex a v 1 det\nfoo\n", 12, wanted)?);
     Ok(())
 }

@@ -10,7 +10,7 @@ use Rattle.vx_history.specs.declared.event.Event.{Event}
 use Rattle.vx_history.specs.declared.event.Event.TheVariants.{Crash as CrashAt, Recover as RecoverAt}
 use Rattle.vx_history.specs.Steps.{worked, worked_on}
 use Rattle.vx_script.specs.declared.line.ScriptLine.{ScriptLine}
-use Rattle.vx_script.specs.declared.line.ScriptLine.TheVariants.{GroupDeport, GroupImport, PlexAttach, PlexDetach, Put, Read, Recover, Rvg, Show, Write}
+use Rattle.vx_script.specs.declared.line.ScriptLine.TheVariants.{GroupDeport, GroupImport, PlexAttach, PlexDetach, Put, Read, Recover, Rvg, Show, Volume, Write}
 use Rattle.vx_events.proofs.KnownLaws.{group_known, left_note}
 use Rattle.vx_events.proofs.RvgEnding.{never_found}
 use Rattle.vx_events.proofs.RvgFull.{brings_found}
@@ -27,7 +27,7 @@ use Rattle.vx_events.specs.GroupLines.{cut_events, group_events, group_noted, no
 use Rattle.vx_events.specs.GroupNotes.{IsKnown, no_note, note_at}
 use Rattle.vx_events.specs.Known.{MayDarken, SaysNo}
 use Rattle.vx_events.specs.Lines.{is_of_links}
-use Rattle.vx_events.specs.RvgBack.{GroupHeld, GroupUnfound, IsLeftBack, LogFails, LogLacks, RvgBack, RvgUp, fall_first}
+use Rattle.vx_events.specs.RvgBack.{GroupHeld, GroupUnfound, IsLeftBack, KeptLost, LogFails, LogLacks, RvgBack, RvgUp, fall_first}
 use Rattle.vx_events.specs.Brights.{AllBright, IsBright, IsBrightNote}
 use Rattle.vx_events.specs.RvgMakes.{IsLeftRvg, MakesRvg, RvgCut, RvgDone, RvgFails, RvgLacks, noting_in, units_at}
 use Rattle.vx_events.specs.RvgNotes.{volume_events}
@@ -113,6 +113,7 @@ module _ (told : Type 0) (tells : told) (d : Doubted) (b : AllBright d) (fails :
   rises_bright line s held here (LogFails site kept taken disk middle next events has is are failed back keeps works begun says left) =
       absurd (loud said line _ held says (subst BringsUp (sym is) tt))
   rises_bright line s held here (LogLacks site kept taken middle next has is are back keeps works lacks says left) = absurd (loud said line _ held says (subst BringsUp (sym is) tt))
+  rises_bright line s held here (KeptLost site kept taken disk middle next has cut is are failed back keeps works says left) = absurd (loud said line _ held says (subst BringsUp (sym is) tt))
   rises_bright line s held here (GroupUnfound site kept taken lost why next has is are not leaves says left) = absurd (loud said line why held says (subst BringsUp (sym is) tt))
   rises_bright line s held here (GroupHeld site kept taken lost disk next has is are failed notes says left) = absurd (loud said line _ held says (subst BringsUp (sym is) tt))
 
@@ -160,6 +161,7 @@ module _ (told : Type 0) (tells : told) (d : Doubted) (b : AllBright d) (fails :
   place_or : (line : ScriptLine) (s : ℕ) → (IsHeldDown line said → ⊥) → (BringsUp line → (note_at (d.world.nodes s)).loose ≡ false)
       → IsBright (new.world.nodes s) → OverRvg told d line s fails said new → AllBright new
   place_or (GroupDeport site) s held agree here below = below_bright (GroupDeport site) s held here below
+  place_or (Volume site volume blocks mirrors layout log map policy) s held agree here below = below_bright (Volume site volume blocks mirrors layout log map policy) s held here below
   place_or (PlexDetach site volume plex) s held agree here below = below_bright (PlexDetach site volume plex) s held here below
   place_or (PlexAttach site volume plex) s held agree here below = below_bright (PlexAttach site volume plex) s held here below
   place_or (GroupImport site) s held agree here (inl takes) = takes_bright (GroupImport site) s held here takes

@@ -17,7 +17,7 @@ use Rattle.vx_events.specs.GroupLines.{is_over_group}
 use Rattle.vx_events.specs.GroupNotes.{no_note, note_at}
 use Rattle.vx_events.specs.Lines.{is_of_links}
 use Rattle.vx_events.specs.OpenLines.{HasNoOpen, is_open}
-use Rattle.vx_events.specs.RvgBack.{FindsNoRvg, FindsPlain, FindsRvg, RvgFinds}
+use Rattle.vx_events.specs.RvgBack.{FindsLost, FindsNoRvg, FindsPlain, FindsRvg, RvgFinds}
 use Rattle.vx_events.specs.RvgSteps.{AsBefore, FoundOne, FullBy, HasNoRvgs, MakesNoRvg, StepFull, WorksAbove, WorksBeside, WorksFull, is_for_rvg}
 use Rattle.vx_events.specs.StepsOver.{MakesNoGroup, WorksOver, group_place, is_for_group, refused_over}
 use Rattle.vx_events.specs.declared.said.Said.{Said}
@@ -63,6 +63,7 @@ module _ (d : Doubted) (b : NotesNone d) where
   module _ (calm : d.strayed ≡ false) (fails : Fails) (said : Said) (new : Doubted) where
     finds_nothing : (line : ScriptLine) (s : ℕ) → RvgFinds (Unit {0}) d line s fails said new → ⊥
     finds_nothing line s (FindsRvg kept taken next mid n k row c units are brings unknown dark is same comes config fits lies says left) = known s unknown
+    finds_nothing line s (FindsLost site kept taken disk next mid n k row c units has cut is are failed unknown dark rests same comes config fits lies says left) = known s unknown
     finds_nothing line s (FindsPlain kept taken next mid has are brings unknown dark is plain says left) = known s unknown
     finds_nothing line s (FindsNoRvg kept taken lost next why has are brings unknown device notes says left) = known s unknown
 

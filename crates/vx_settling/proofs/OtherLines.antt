@@ -29,7 +29,7 @@ use Rattle.vx_events.specs.LinkEnds.{AppliesCut, AppliesPart, AreLeft, LinkEnds,
 use Rattle.vx_events.specs.Lists.{Choice, crash_count, events_of}
 use Rattle.vx_events.specs.LinkFinds.{ApplyCut, ApplyHalts, EndsBetween, FindsOther, GivesUp, HeaderCut, HeaderHalts, IsStored, IsUnread, KeepsOther, LosesOther, MovesBetween, ReadsNone, SendsOther, SettlesOther, TakesOther}
 use Rattle.vx_events.specs.LinkLists.{link_events}
-use Rattle.vx_events.specs.RvgBack.{FindsNoRvg, FindsPlain, FindsRvg, GroupHeld, GroupUnfound, IsLeftBack, IsLeftBut, LogFails, LogLacks, RvgBack, RvgFinds, RvgUp, fall_first, fuse_left, unmade_site}
+use Rattle.vx_events.specs.RvgBack.{FindsLost, FindsNoRvg, FindsPlain, FindsRvg, GroupHeld, GroupUnfound, IsLeftBack, IsLeftBut, KeptLost, LogFails, LogLacks, RvgBack, RvgFinds, RvgUp, fall_first, fallen, fallen_row, found_fallen, fuse_left, unmade_site}
 use Rattle.vx_events.specs.RvgMakes.{IsLeftRvg, MakesRvg, RvgCut, RvgDone, RvgFails, RvgLacks, noting_in, units_at}
 use Rattle.vx_events.specs.RvgNotes.{volume_events}
 use Rattle.vx_events.specs.OpenLines.{is_open}
@@ -301,6 +301,8 @@ module _ (i : ℕ) (o : Option GroupNode) where
           fell line s apart taken true next (fall_first (d.world.nodes s).state s kept ++ leaves) left
       rises_notes line s apart (LogLacks site kept taken middle next has is are back keeps works lacks says left) =
           fell line s apart taken true next (fall_first (d.world.nodes s).state s kept) left
+      rises_notes line s apart (KeptLost site kept taken disk middle next has cut is are failed back keeps works says left) =
+          rose line s apart taken next (fall_first (d.world.nodes s).state s kept ++ RecoverAt s None ∷ CrashAt s 0 ∷ []) left
       rises_notes line s apart (GroupUnfound site kept taken lost why next has is are not leaves says left) =
           fell line s apart taken lost next (fall_first (d.world.nodes s).state s kept) left
       rises_notes line s apart (GroupHeld site kept taken lost disk next has is are failed notes says left) =
@@ -328,6 +330,9 @@ module _ (i : ℕ) (o : Option GroupNode) where
       finds_notes : (line : ScriptLine) (s : ℕ) → eqb i s ≡ false → RvgFinds told d line s fails said new → HasNote i o new
       finds_notes line s apart (FindsRvg kept taken next mid n k row c units are brings unknown dark is same comes config fits lies says left) =
           came line s taken next mid k row apart (at_rest s kept taken mid is) left
+      finds_notes line s apart (FindsLost site kept taken disk next mid n k row c units has cut is are failed unknown dark rests same comes config fits lies says left) =
+          let linked : HasNote i o (found_linked mid s (fallen k) (fallen_row row)) = linked_notes mid s (fallen k) (fallen_row row) apart (at_rest s kept taken mid rests) in
+          back_notes s line taken next d (gone_astray (found_fallen mid s k row)) new apart left x.has (record { note = linked.note; doubt = linked.doubt })
       finds_notes line s apart (FindsPlain kept taken next mid has are brings unknown dark is none says left) =
           came line s taken next mid (group_set s (unmade_site (mid.world.nodes s))) (λ _. no_link) apart (at_rest s kept taken mid is) left
       finds_notes line s apart (FindsNoRvg kept taken lost next why has are brings unknown device notes says left) =
@@ -354,6 +359,7 @@ module _ (i : ℕ) (o : Option GroupNode) where
 
       place_or : (line : ScriptLine) (s : ℕ) → may_note d.world line i ≡ false → eqb i s ≡ false → OverRvg told d line s fails said new → HasNote i o new
       place_or (GroupDeport site) s off apart below = below_notes (GroupDeport site) s apart below
+      place_or (Volume site volume blocks mirrors layout log map policy) s off apart below = below_notes (Volume site volume blocks mirrors layout log map policy) s apart below
       place_or (PlexDetach site volume plex) s off apart below = below_notes (PlexDetach site volume plex) s apart below
       place_or (PlexAttach site volume plex) s off apart below = below_notes (PlexAttach site volume plex) s apart below
       place_or (GroupImport site) s off apart (inl takes) = takes_notes (GroupImport site) s apart takes

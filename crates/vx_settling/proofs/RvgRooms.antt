@@ -22,7 +22,7 @@ use Rattle.vx_events.specs.Ends.{found_linked}
 use Rattle.vx_events.specs.Fails.{Fails}
 use Rattle.vx_events.specs.GroupNotes.{note_at}
 use Rattle.vx_events.specs.GroupViews.{config_of}
-use Rattle.vx_events.specs.RvgBack.{FindsNoRvg, FindsPlain, FindsRvg, IsLeftBack, RvgFinds, unmade_site}
+use Rattle.vx_events.specs.RvgBack.{FindsLost, FindsNoRvg, FindsPlain, FindsRvg, IsLeftBack, RvgFinds, fallen, found_fallen, unmade_site}
 use Rattle.vx_events.specs.RvgFits.{FitsNoted, FitsRvg, HasUnits, NoteKeepsRvg}
 use Rattle.vx_events.specs.RvgMakes.{RvgStops}
 use Rattle.vx_events.specs.RvgOver.{OpensFor, OverRvg}
@@ -57,28 +57,41 @@ stops_room d new good alike x =
 -- ---- what is found on disks of which nothing is known
 
 module _ (told : Type 0) (d : Doubted) (line : ScriptLine) (s : ℕ) (fails : Fails) (said : Said) (new : Doubted) where
-  -- the site as it came up
-  came_as : (taken : Bool) (next : GroupNode) (mid : Doubted) (k : Node) (row : ℕ → Link) → IsLeftBack s line taken next d (gone_astray (found_linked mid s k row)) new
-      → SameRoom k (new.world.nodes s)
-  came_as taken next mid k row left =
-      let like : IsLikeDoubted (gone_astray (found_linked mid s k row)) new = back_like s line taken next d (gone_astray (found_linked mid s k row)) new left in
-      let here : (found_linked mid s k row).world.nodes s ≡ k = at_place mid.world.nodes s k in
+  -- the site as the world had it behind the line
+  left_as : (taken : Bool) (next : GroupNode) (last : Doubted) (k : Node) → last.world.nodes s ≡ k → IsLeftBack s line taken next d (gone_astray last) new → SameRoom k (new.world.nodes s)
+  left_as taken next last k here left =
+      let like : IsLikeDoubted (gone_astray last) new = back_like s line taken next d (gone_astray last) new left in
       record {
         ring = ap (λ (n : Node). n.ring) (like.worlds.nodes s) ∙ ap (λ (n : Node). n.ring) here;
         volumes = ap (λ (n : Node). n.volumes) (like.worlds.nodes s) ∙ ap (λ (n : Node). n.volumes) here;
       }
 
+  -- the site as it came up
+  came_as : (taken : Bool) (next : GroupNode) (mid : Doubted) (k : Node) (row : ℕ → Link) → IsLeftBack s line taken next d (gone_astray (found_linked mid s k row)) new
+      → SameRoom k (new.world.nodes s)
+  came_as taken next mid k row left = left_as taken next (found_linked mid s k row) k (at_place mid.world.nodes s k) left
+
   -- with the replicated volume group of the configuration that was found
+  room_fits : (next : GroupNode) (k : Node) (c : Config) (units : Units) → config_of next.config ≡ Some c → FitsRvg k c units → HasUnits c.volumes units → (new.world.nodes s).group ≡ Some next → SameRoom k (new.world.nodes s)
+      → FitsNoted (new.world.nodes s)
+  room_fits next k c units config fits has noted same = fits_found k (new.world.nodes s) c units next noted same.ring same.volumes config fits has
+
   found_fits : (taken : Bool) (next : GroupNode) (mid : Doubted) (k : Node) (row : ℕ → Link) (c : Config) (units : Units) → config_of next.config ≡ Some c
       → FitsRvg k c units → HasUnits c.volumes units → IsLeftBack s line taken next d (gone_astray (found_linked mid s k row)) new → FitsNoted (new.world.nodes s)
   found_fits taken next mid k row c units config fits has left =
-      let same : SameRoom k (new.world.nodes s) = came_as taken next mid k row left in
-      fits_found k (new.world.nodes s) c units next (back_group s line taken next d (gone_astray (found_linked mid s k row)) new left) same.ring same.volumes config fits has
+      room_fits next k c units config fits has (back_group s line taken next d (gone_astray (found_linked mid s k row)) new left) (came_as taken next mid k row left)
+
+  fallen_fits : (taken : Bool) (next : GroupNode) (mid : Doubted) (k : Node) (row : ℕ → Link) (c : Config) (units : Units) → config_of next.config ≡ Some c
+      → FitsRvg k c units → HasUnits c.volumes units → IsLeftBack s line taken next d (gone_astray (found_fallen mid s k row)) new → FitsNoted (new.world.nodes s)
+  fallen_fits taken next mid k row c units config fits has left =
+      let same : SameRoom (fallen k) (new.world.nodes s) = left_as taken next (found_fallen mid s k row) (fallen k) (at_place mid.world.nodes s (fallen k)) left in
+      room_fits next k c units config fits has (back_group s line taken next d (gone_astray (found_fallen mid s k row)) new left) (record { ring = same.ring; volumes = same.volumes })
 
   -- a site that had none
   pub finds_gained : (is_over_rvg (d.world.nodes s) ≡ true → ⊥) → RvgFinds told d line s fails said new → FitsNoted (new.world.nodes s)
   finds_gained none (FindsRvg kept taken next mid n k row c units are brings unknown dark is same comes config fits lies says left) =
       found_fits taken next mid k row c units config fits lies left
+  finds_gained none (FindsLost site kept taken disk next mid n k row c units has cut is are failed unknown dark rests same comes config fits lies says left) = absurd (none has)
   finds_gained none (FindsPlain kept taken next mid has are brings unknown dark is bare says left) = absurd (none has)
   finds_gained none (FindsNoRvg kept taken lost next why has are brings unknown device notes says left) = absurd (none has)
 
@@ -98,6 +111,8 @@ module _ (told : Type 0) (d : Doubted) (good : GoodDoubted d) (alike : DoubtsAli
       → RvgFinds told d line s fails said new → FitsNoted (new.world.nodes s)
   finds_fits s made over fits still (FindsRvg kept taken next mid n k row c units are brings unknown dark is same comes config rvg lies says left) =
       found_fits told d line s fails said new taken next mid k row c units config rvg lies left
+  finds_fits s made over fits still (FindsLost site kept taken disk next mid n k row c units has cut is are failed unknown dark rests same comes config rvg lies says left) =
+      fallen_fits told d line s fails said new taken next mid k row c units config rvg lies left
   finds_fits s made over fits still (FindsPlain kept taken next mid has are brings unknown dark is none says left) =
       let same : SameRoom (group_set s (unmade_site (mid.world.nodes s))) (new.world.nodes s) =
       came_as told d line s fails said new taken next mid (group_set s (unmade_site (mid.world.nodes s))) (λ k. no_link) left in

@@ -204,8 +204,9 @@ volume_line-requires-clause-prefer g c = λ κs lives.
 
 pub returns-in-Volume-clause-leads : goal.returns-in-Volume-clause-leads
 returns-in-Volume-clause-leads g c = λ d stands goes closed.
-    works_closed d c.args.yard.now c.volume_line.new.yard c.args.words.now _ c.volume_line.result c.in-Volume.is tt stands c.requires.kept c.requires.free goes closed
+    works_both d c.args.yard.now c.volume_line.new.yard c.args.words.now _ _ c.volume_line.result c.in-Volume.is tt refl stands c.requires.kept c.requires.free goes closed
     (λ group. c.volume_line.ensures.leads d c.in-Volume.blocks c.in-Volume.mirrors c.in-Volume.layout c.in-Volume.log c.in-Volume.map c.in-Volume.policy stands c.shape_of-want.ensures (subst (λ line. IsFree c.args.yard.now line) c.in-Volume.is c.requires.free) group)
+    (λ over runs. c.volume_line.ensures.above d c.in-Volume.blocks c.in-Volume.mirrors c.in-Volume.layout c.in-Volume.log c.in-Volume.map c.in-Volume.policy stands c.shape_of-want.ensures (subst (λ line. IsFree c.args.yard.now line) c.in-Volume.is c.requires.free) over runs)
 
 pub returns-in-Volume-clause-asked : goal.returns-in-Volume-clause-asked
 returns-in-Volume-clause-asked g c = λ d stands goes off.
