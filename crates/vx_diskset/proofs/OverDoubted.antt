@@ -8,9 +8,9 @@ use Rattle.vx_disk.specs.Shelf.{Lawful, Meaning}
 use Rattle.vx_disk.specs.declared.shelf.Shelf.{Ghosts}
 use Rattle.vx_events.specs.RvgOver.{note_loosened}
 use Rattle.vx_grouped.specs.ConfigMoves.{LosesSome}
-use Rattle.vx_grouped.specs.GroupSites.{AwayNoted, DownNoted, UpNoted, deported_with, idle_below, idle_disks, site_below, site_disks, with_note}
+use Rattle.vx_grouped.specs.GroupSites.{AwayNoted, DownNoted, UpNoted, deported_with, site_below, site_disks, with_note}
 use Rattle.vx_grouped.specs.Readies.{ready_of}
-use Rattle.vx_grouped.specs.SiteEnds.{ConfigGoes, LacksDeport, SiteCalled, SiteDeported}
+use Rattle.vx_grouped.specs.SiteEnds.{ConfigGoes, SiteDeported}
 use Rattle.vx_grouped.specs.Volumes.{SiteGoes}
 use Rattle.vx_grouped.specs.declared.group_site.GroupSite.{GroupSite}
 use Rattle.vx_grouped.specs.declared.group_site.GroupSite.TheVariants.{Up, Deported, Down, Marked, Gone}
@@ -26,16 +26,15 @@ use Rattle.vx_untold.specs.Shades.{rack_of, shade_meaning}
 use Rattle.vx_untold.specs.declared.shade.Shade.{Shade}
 use Rattle.vx_watched.specs.Since.{CalledSince}
 use Rattle.vx_watched.specs.Traces.{TellsLess}
-use Rattle.vx_diskset.specs.Aboves.{AboveStays, above_in, below_site, site_in}
+use Rattle.vx_diskset.specs.Aboves.{AboveStays, above_in, site_in}
 use Rattle.vx_diskset.specs.DiskSets.{CrashedAt, fell_to}
 use Rattle.vx_diskset.specs.Holds.{KeptBeside, sure_of}
 use Rattle.vx_diskset.specs.Noted.{RestsNamed}
 use Rattle.vx_diskset.specs.OverAways.{DeportedBelow, Doubts, DoubtsFallen}
-use Rattle.vx_diskset.specs.OverKeeps.{KeepsOver, KeptBy, StaysAbove, StaysHere}
+use Rattle.vx_diskset.specs.OverKeeps.{KeepsOver, KeptBy, StaysAbove}
 use Rattle.vx_diskset.specs.Stands.{FellOver, OverStands, RoleBy, idle_ready}
 use Rattle.vx_diskset.specs.declared.above.Above.{Above}
 use Rattle.vx_diskset.specs.declared.disk_set.DiskSet.TheVariants.{Over}
-use Rattle.vx_diskset.specs.declared.group_set.CutWrite.{CutWrite}
 use Rattle.vx_diskset.specs.declared.over_set.OverSet.{OverSet}
 use Rattle.vx_diskset.specs.declared.over_set.OverSite.{OverSite}
 use Rattle.vx_diskset.specs.declared.over_set.OverSite.TheVariants.{Down as GroupFell}
@@ -152,14 +151,14 @@ module _ {R : Type 0} {g : Ghosts R} where
     deported_below (Err OutOfMemory) it = absurd it
 
   -- imports of disks that crashed find nothing that is told
-  pub doubted_named : (units : Units) (count : ℕ) (mid new : GroupSite R g) → DoubtsFallen mid new → RestsNamed units count new
-  doubted_named units count (Up laid) new is = subst (λ (x : GroupSite R g). RestsNamed units count x) (sym is) tt
-  doubted_named units count (Deported idle) new is = subst (λ (x : GroupSite R g). RestsNamed units count x) (sym is) tt
-  doubted_named units count (Down idle) new (y, is, doubts) =
+  pub doubted_named : (units : Units) (count : ℕ) (mid new : GroupSite R g) → DoubtsFallen mid new → (k : Node) (note : GroupNode) → DownNoted k note new → RestsNamed units count new
+  doubted_named units count (Up laid) new is k note down = subst (λ (x : GroupSite R g). RestsNamed units count x) (sym is) tt
+  doubted_named units count (Deported idle) new is k note down = absurd (subst (λ (x : GroupSite R g). DownNoted k note x) is down)
+  doubted_named units count (Down idle) new (y, is, doubts) k note down =
       subst (λ (x : GroupSite R g). RestsNamed units count x) (sym is)
       (record { each = λ i x each found. absurd (subst (λ (b : Bool). (shade_meaning g.meaning (ready_of b y.rack)).leaves 0 0 (i 0 0)) doubts.agreed (each 0 0)) })
-  doubted_named units count (Marked rack) new is = subst (λ (x : GroupSite R g). RestsNamed units count x) (sym is) tt
-  doubted_named units count Gone new is = subst (λ (x : GroupSite R g). RestsNamed units count x) (sym is) tt
+  doubted_named units count (Marked rack) new is k note down = subst (λ (x : GroupSite R g). RestsNamed units count x) (sym is) tt
+  doubted_named units count Gone new is k note down = subst (λ (x : GroupSite R g). RestsNamed units count x) (sym is) tt
 
   module _ (rackful : (r : R) → IsRack (g.meaning r)) where
     pub below_settled : (n : Node) (note : GroupNode) (o new : GroupSite R g) (r : Result (Unit {0}) Stop) → DeportedBelow n note o new r → IsSettled new

@@ -1,5 +1,5 @@
 -- The disks of a site whose group has a replicated volume group, by another note of its group that names the same units, and another fuse.
-use Rattle.std.proofs.Common.{◌≡◌, ◌∙◌, ◌⊎◌, inl, inr, ℕ, true, List, drop, take, ap, refl, subst, sym}
+use Rattle.std.proofs.Common.{◌≡◌, ◌∙◌, inl, inr, ℕ, true, List, drop, take, ap, refl, subst, sym}
 use Rattle.std.specs.Prelude.{None, Option, Some}
 use Rattle.vx_config.specs.Checks.{blocks_of}
 use Rattle.vx_config.specs.declared.config.Config.{Config}
@@ -18,7 +18,7 @@ use Rattle.vx_diskset.specs.Fuses.{FuseOn}
 use Rattle.vx_diskset.specs.Holds.{HasSite, HasWrites, KeptBeside, most_header, most_with, state_with}
 use Rattle.vx_diskset.specs.Lasts.{FoundWith, LeftWith}
 use Rattle.vx_diskset.specs.Layouts.{IsLaid, IsLaidBy, LiesBy, units_by, units_of}
-use Rattle.vx_diskset.specs.Stands.{AwayOver, FellOver, IsOverSite, IsReceiverAt, IsUpAt, OverStands, RestsOver, RvgSettles, SiteStands, idle_ready}
+use Rattle.vx_diskset.specs.Stands.{AwayLeft, AwayOver, FellOver, IsOverSite, IsReceiverAt, IsUpAt, OverStands, RestsOver, RvgSettles, SiteStands, idle_ready}
 use Rattle.vx_diskset.specs.declared.disk_set.DiskSet.TheVariants.{Over}
 use Rattle.vx_diskset.specs.declared.over_set.OverSet.{OverSet}
 use Rattle.vx_diskset.specs.declared.over_set.OverSite.{OverSite}
@@ -136,6 +136,10 @@ module _ (beside : KeptBeside) (n : Node) (group : Option GroupNode) (fuse : Fus
         subst (λ (u : Units). FoundWith u n.ring (state_with n beside.links) n.session (most_header beside n) above n.log n.base) (sym units) (it.found i y above each found shows);
   }
 
+  left_as : (x : Meaning) (c : Config) → AwayLeft c beside n x → AwayLeft c beside k x
+  left_as x c (inl it) = inl (away_as x c it)
+  left_as x c (inr it) = inr (record { over = fell_as x c it.over; settles = subst (λ (u : Units). RvgSettles u x) (sym units) it.settles; one = it.one })
+
   ground_as : IsOverSite beside n → IsOverSite beside k
   ground_as it = (has, it.1, it.2, it.3, it.4, it.5)
 
@@ -143,7 +147,7 @@ module _ (beside : KeptBeside) (n : Node) (group : Option GroupNode) (fuse : Fus
     stands_as : (s : OverSite R g) → OverStands beside n s → OverStands beside k s
     stands_as (OriginSite f) it = up_as f.core (laid_volumes f.laid) (lit (laid_volumes f.laid) it.fuse) it
     stands_as (ReceiverSite f) it = receiver_as f.core f.waiting (laid_volumes f.laid) (lit (laid_volumes f.laid) it.fuse) it
-    stands_as (GroupAway idle) it = (it.0, rests_as (λ c. AwayOver c beside n (idle_ready idle)) (λ c. AwayOver c beside k (idle_ready idle)) (idle_ready idle) (away_as (idle_ready idle)) it.1)
+    stands_as (GroupAway idle) it = (it.0, rests_as (λ c. AwayLeft c beside n (idle_ready idle)) (λ c. AwayLeft c beside k (idle_ready idle)) (idle_ready idle) (left_as (idle_ready idle)) it.1)
     stands_as (GroupFell idle) it = (
       it.0,
       unlit it.1,
