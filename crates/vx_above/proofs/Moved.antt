@@ -25,6 +25,7 @@ use Rattle.vx_diskset.specs.declared.over_set.OverSet.{OverSet}
 use Rattle.vx_diskset.specs.declared.over_set.OverSite.{OverSite}
 use Rattle.vx_diskset.specs.declared.over_set.OverSite.TheVariants.{Origin as OriginSite, Receiver as ReceiverSite, Deported as OverAway, Down as OverFell, Gone as NoOver}
 use Rattle.vx_diskset.proofs.GroundNotes.{calm_by}
+use Rattle.vx_diskset.proofs.NotedLikes.{cut_none}
 use Rattle.vx_diskset.proofs.OverNoted.{units_same}
 use Rattle.vx_diskset.specs.Layouts.{config_units}
 use Rattle.vx_events.specs.Fails.{Fails}
@@ -109,10 +110,6 @@ module _ {R : Type 0} {g : Ghosts R} where
     pub call_table : (m : Node) → m.volumes ≡ n.volumes → over_table m call_note ≡ over_table n note
     call_table m volumes = table_like n m note call_note volumes rvg_same seen_same
 
-    -- no write to a volume of the group is cut
-    cut_up : CutRests n → note.cut ≡ None
-    cut_up rests = rests.0 call.up
-
     -- its data volumes are named as they were
     pub call_named : IsNamed n → (m : Node) → m.volumes ≡ n.volumes → m.group ≡ Some call_note → IsNamed m
     call_named it m volumes group =
@@ -125,7 +122,7 @@ module _ {R : Type 0} {g : Ghosts R} where
           moved.2.change.parts.rvg ∙ ap (λ (c : Config). c.rvg) (sym first) ∙ it.3,
           volumes ∙ it.4 ∙ ap (λ (xs : List DataVolume). map as_volume xs) (data_again it.0.volumes moved.2.now.volumes it.1.vols same),
           record { srl = has_again it.0.volumes moved.2.now.volumes it.1.srl same it.5.srl; vols = all_again it.0.volumes moved.2.now.volumes it.1.vols same it.5.vols },
-          cut_none m call_note group (moved.1.same.cut ∙ cut_up it.6),
+          cut_none m call_note group (moved.1.same.cut ∙ it.6),
         )
 
     pub call_units : config_units (config_of call_note.config) ≡ config_units (config_of note.config)

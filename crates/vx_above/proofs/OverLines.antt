@@ -7,7 +7,7 @@ use Rattle.vx_order.specs.declared.facts.VolumeKind.{VolumeKind}
 use Rattle.vx_order.specs.declared.facts.VolumeKind.TheVariants.{Data}
 use Rattle.vx_script.specs.declared.line.ScriptLine.TheVariants.{Put, Read, Show, Write}
 use Rattle.vx_events.specs.Fails.{Fails}
-use Rattle.vx_events.specs.RvgOver.{EndsOver, EndsRead, fuse_behind, kind_named, OverRvg, NotesLine, burnt_over}
+use Rattle.vx_events.specs.RvgOver.{EndsOver, EndsRead, EndsWrite, fuse_behind, kind_named, OverRvg, NotesLine, burnt_over}
 use Rattle.vx_events.specs.declared.said.Said.{Said}
 use Rattle.vx_events.specs.RvgWorks.{FuseRanOut, NotesWork}
 use Rattle.vx_history.specs.Groups.{GroupNode}
@@ -28,19 +28,23 @@ pub record LineOver (told : Type 0) (d : Doubted) (s : ℕ) (line : ScriptLine) 
 -- ---- by the names of a line
 
 module _ (told : Type 0) (d : Doubted) (name volume : List ℕ) (s : ℕ) (number : site_number d.world name ≡ s) where
-  pub line_write : (start count fill : ℕ) → LineOver told d s (Write name volume start count fill)
-  line_write start count fill = record {
+  pub line_write : (start count fill : ℕ) → kind_named (d.world.nodes s) volume ≡ Data → LineOver told d s (Write name volume start count fill)
+  line_write start count fill kind = record {
     place = number;
     lined = λ inner fails next works. works;
-    wrap = λ fails said new ends. subst (λ (k : ℕ). OverRvg told d (Write name volume start count fill) k fails said new) (sym number) ends;
+    wrap = λ fails said new ends.
+        subst (λ (k : ℕ). OverRvg told d (Write name volume start count fill) k fails said new) (sym number)
+        (subst (λ (x : VolumeKind). EndsWrite (is_data x) told d (Write name volume start count fill) s fails said new) (sym kind) ends);
     fuse = λ old now. refl;
   }
 
-  pub line_put : (start : ℕ) (bytes : List ℕ) → LineOver told d s (Put name volume start bytes)
-  line_put start bytes = record {
+  pub line_put : (start : ℕ) (bytes : List ℕ) → kind_named (d.world.nodes s) volume ≡ Data → LineOver told d s (Put name volume start bytes)
+  line_put start bytes kind = record {
     place = number;
     lined = λ inner fails next works. works;
-    wrap = λ fails said new ends. subst (λ (k : ℕ). OverRvg told d (Put name volume start bytes) k fails said new) (sym number) ends;
+    wrap = λ fails said new ends.
+        subst (λ (k : ℕ). OverRvg told d (Put name volume start bytes) k fails said new) (sym number)
+        (subst (λ (x : VolumeKind). EndsWrite (is_data x) told d (Put name volume start bytes) s fails said new) (sym kind) ends);
     fuse = λ old now. refl;
   }
 

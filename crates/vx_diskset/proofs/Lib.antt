@@ -40,7 +40,6 @@ pub mod OverAsked
 pub mod OverAway
 pub mod OverTaking
 pub mod OverDoubted
-pub mod OverWrites
 pub mod Loosened
 pub mod OverHolds
 pub mod OverKnown

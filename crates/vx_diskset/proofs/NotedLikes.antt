@@ -1,19 +1,18 @@
 -- What a site notes of its group below a replicated volume group, past calls and lines that leave the group alone, and past its crash.
-use Rattle.std.proofs.Common.{◌≡◌, ◌∙◌, ◌<◌, ℕ, ap, arith, inl, length, refl, subst, sym}
+use Rattle.std.proofs.Common.{◌≡◌, ◌∙◌, ℕ, ap, inl, length, refl, subst, sym}
 use Rattle.std.specs.Prelude.{None, Option, Some, unwrap_or}
 use Rattle.vx_events.specs.RvgFits.{entries_noted}
 use Rattle.vx_disk.specs.declared.shelf.Shelf.{Ghosts}
-use Rattle.vx_grouped.specs.GroupSites.{FitsPlain, idle_below, idle_disks, laid_below, laid_disks}
+use Rattle.vx_grouped.specs.GroupSites.{idle_below, idle_disks, laid_below, laid_disks}
 use Rattle.vx_grouped.specs.SetFuses.{HasFuse}
 use Rattle.vx_grouped.specs.declared.group_site.GroupSite.{GroupSite}
 use Rattle.vx_grouped.specs.declared.group_site.GroupSite.TheVariants.{Up, Deported, Down, Marked, Gone}
-use Rattle.vx_events.specs.GroupNotes.{no_note, note_at}
+use Rattle.vx_events.specs.GroupNotes.{no_note}
 use Rattle.vx_events.specs.GroupViews.{config_of}
 use Rattle.vx_history.specs.Groups.{GroupNode}
 use Rattle.vx_history.specs.Steps.{crashed, worked}
 use Rattle.vx_history.specs.World.{Fuse, FuseSet, Node}
-use Rattle.vx_model.specs.Content.{Write}
-use Rattle.vx_model.specs.declared.site.SiteState.TheVariants.{Down as IsDown, Up as IsUp}
+use Rattle.vx_model.specs.declared.site.SiteState.TheVariants.{Up as IsUp}
 use Rattle.vx_model.specs.declared.units.Units.{Units}
 use Rattle.vx_diskset.specs.Aboves.{InsideOf, site_in}
 use Rattle.vx_diskset.specs.GroupSets.{cut_value}
@@ -28,9 +27,6 @@ use Rattle.vx_diskset.specs.declared.group_set.CutWrite.{CutWrite}
 use Rattle.vx_diskset.specs.declared.over_set.OverSet.{OverSet}
 use Rattle.vx_diskset.proofs.GroupStands.{IsLikeGroup, away_like, burned_like, down_like, up_like}
 use Rattle.vx_diskset.proofs.OverNoted.{down_again, noted_up, up_noted}
-
-never_cut : (x : Write) → (let none : Option Write = None in none ≡ Some x) → ⊥
-never_cut x e = cc
 
 module _ {R : Type 0} {g : Ghosts R} where
   -- of disks that are not below a replicated volume group nothing is said
@@ -57,12 +53,7 @@ module _ (n m : Node) (like : NotesAs n m) where
   }
 
   cut_as : CutRests n → CutRests m
-  cut_as it = (
-    λ up. ap (λ (o : Option GroupNode). (unwrap_or o no_note).cut) like.group ∙ it.0 (sym like.state ∙ up),
-    λ x is.
-        subst (λ (o : Option GroupNode). FitsPlain (unwrap_or o no_note) x.volume x.start (length x.bytes)) (sym like.group)
-        (it.1 x (ap (λ (o : Option GroupNode). (unwrap_or o no_note).cut) (sym like.group) ∙ is)),
-  )
+  cut_as it = ap (λ (o : Option GroupNode). (unwrap_or o no_note).cut) like.group ∙ it
 
   pub named_as : IsNamed n → IsNamed m
   named_as it = (it.0, it.1, ap (λ (o : Option GroupNode). config_of (unwrap_or o no_note).config) like.group ∙ it.2, it.3, like.volumes ∙ it.4, it.5, cut_as it.6)
@@ -117,31 +108,9 @@ module _ (n m : Node) (like : NotesAs n m) where
     noted_stays (OfGroup s) new stays noted = noted_apart m new stays
     noted_stays GoneSet new stays noted = noted_apart m new stays
 
--- whole blocks of a volume lie in one that is as large
-same_size : (note next : GroupNode) (x : Write) → ((v : ℕ) → 0 < note.bytes.size v → next.bytes.size v ≡ note.bytes.size v) → FitsPlain note x.volume x.start (length x.bytes) → FitsPlain next x.volume x.start (length x.bytes)
-same_size note next x sizes fits =
-    let some : 0 < note.bytes.size x.volume = omega (arith, fits.some, fits.within, fits.whole) in
-    record { some = fits.some; whole = fits.whole; within = omega (arith, fits.within, sizes x.volume some) }
-
--- the write that was cut is so still, where the volumes are as large
-pub cut_stays : (n m : Node) (next : GroupNode) → m.group ≡ Some next → next.cut ≡ (note_at n).cut → ((v : ℕ) → 0 < (note_at n).bytes.size v → next.bytes.size v ≡ (note_at n).bytes.size v) → (m.state ≡ IsUp → n.state ≡ IsUp) → CutRests n → CutRests m
-cut_stays n m next group same sizes was it =
-    let is_cut : (note_at m).cut ≡ (note_at n).cut = ap (λ (o : Option GroupNode). (unwrap_or o no_note).cut) group ∙ same in (
-      λ up. is_cut ∙ it.0 (was up),
-      λ x is.
-          subst (λ (o : Option GroupNode). FitsPlain (unwrap_or o no_note) x.volume x.start (length x.bytes)) (sym group)
-          (same_size (note_at n) next x sizes (it.1 x (sym is_cut ∙ is))),
-    )
-
 -- none is cut
 pub cut_none : (m : Node) (next : GroupNode) → m.group ≡ Some next → next.cut ≡ None → CutRests m
-cut_none m next group clear =
-    let none : (note_at m).cut ≡ None = ap (λ (o : Option GroupNode). (unwrap_or o no_note).cut) group ∙ clear in
-    (λ up. none, λ x is. absurd (never_cut x (sym none ∙ is)))
-
--- it is as before behind a crash
-pub named_fell : (n : Node) (kept : ℕ) → IsNamed n → IsNamed (crashed n kept)
-named_fell n kept it = (it.0, it.1, it.2, it.3, it.4, it.5, (λ up. absurd (let clash : IsDown ≡ IsUp = up in cc), it.6.1))
+cut_none m next group clear = ap (λ (o : Option GroupNode). (unwrap_or o no_note).cut) group ∙ clear
 
 -- behind a line that works on the site, by which less is known of its fuse
 module _ {R : Type 0} {g : Ghosts R} (n : Node) where
@@ -214,7 +183,7 @@ module _ {R : Type 0} {g : Ghosts R} (beside : KeptBeside) (n m : Node) where
               was.3,
               falls.named (below_rvg n) note (units_of n) (inl here) was.3.named,
             )),
-        named_as (crashed n 0) m down (named_fell n 0 noted.1),
+        named_as (crashed n 0) m down noted.1,
       )
 
   -- behind the crash

@@ -66,7 +66,7 @@ module _ {R : Type 0} {g : Ghosts R} where
   pub doubts_told : (o e e' : GroupSite R g) → DoubtsFallen e e' → TellsLess (site_below o) (site_below e) → TellsLess (site_below o) (site_below e')
   doubts_told o e e' is it = doubts_by (λ x. TellsLess (site_below o) (site_below x)) (λ x y doubts was. subst (λ (s : Shade R). TellsLess (site_below o) (g.meaning (rack_of s))) (sym doubts.rack) was) e e' is it
 
-  pub doubts_rose : (old : Meaning) (disk : ℕ) (e e' : GroupSite R g) → DoubtsFallen e e' → Rose (old.disk_faults disk) ((site_disks e).disk_faults disk) → Rose (old.disk_faults disk) ((site_disks e').disk_faults disk)
+  doubts_rose : (old : Meaning) (disk : ℕ) (e e' : GroupSite R g) → DoubtsFallen e e' → Rose (old.disk_faults disk) ((site_disks e).disk_faults disk) → Rose (old.disk_faults disk) ((site_disks e').disk_faults disk)
   doubts_rose old disk e e' is it =
       doubts_by (λ x. Rose (old.disk_faults disk) ((site_disks x).disk_faults disk)) (λ x y doubts was. subst (λ (s : Shade R). Rose (old.disk_faults disk) ((shade_meaning g.meaning s).disk_faults disk)) (sym doubts.rack) was) e e' is it
 
@@ -74,7 +74,7 @@ module _ {R : Type 0} {g : Ghosts R} where
   doubts_above a e e' is it = doubts_by (λ x. AboveStays a x) (λ x y doubts was. tt) e e' is it
 
   -- a group that is up, or was deported, is as it was
-  pub same_up : (n : Node) (note : GroupNode) (e e' : GroupSite R g) → DoubtsFallen e e' → UpNoted n note e → e' ≡ e
+  same_up : (n : Node) (note : GroupNode) (e e' : GroupSite R g) → DoubtsFallen e e' → UpNoted n note e → e' ≡ e
   same_up n note (Up laid) e' is it = is
   same_up n note (Deported idle) e' is it = absurd it
   same_up n note (Down idle) e' is it = absurd it
@@ -98,7 +98,7 @@ module _ {R : Type 0} {g : Ghosts R} where
   doubted_away (Marked rack) new idle same is = sym same ∙ is
   doubted_away Gone new idle same is = sym same ∙ is
 
-  pub doubted_down : (n : Node) (note : GroupNode) (e e' : GroupSite R g) → DoubtsFallen e e' → DownNoted n note e → DownNoted (record n { group = Some (note_loosened true note) }) (note_loosened true note) e'
+  doubted_down : (n : Node) (note : GroupNode) (e e' : GroupSite R g) → DoubtsFallen e e' → DownNoted n note e → DownNoted (record n { group = Some (note_loosened true note) }) (note_loosened true note) e'
   doubted_down n note (Up laid) e' is it = absurd it
   doubted_down n note (Deported idle) e' is it = absurd it
   doubted_down n note (Down idle) e' (y, is, doubts) it =
@@ -106,7 +106,7 @@ module _ {R : Type 0} {g : Ghosts R} where
   doubted_down n note (Marked rack) e' is it = absurd it
   doubted_down n note Gone e' is it = absurd it
 
-  pub goes_down : (n : Node) (seen note next : GroupNode) (o e e' : GroupSite R g) → DoubtsFallen e e' → DownNoted n seen e → ConfigGoes (LosesSome (site_disks o) (site_disks e)) note next o e → ConfigGoes (LosesSome (site_disks o) (site_disks e')) note next o e'
+  goes_down : (n : Node) (seen note next : GroupNode) (o e e' : GroupSite R g) → DoubtsFallen e e' → DownNoted n seen e → ConfigGoes (LosesSome (site_disks o) (site_disks e)) note next o e → ConfigGoes (LosesSome (site_disks o) (site_disks e')) note next o e'
   goes_down n seen note next o (Up laid) e' is it goes = absurd it
   goes_down n seen note next o (Deported idle) e' is it goes = absurd it
   goes_down n seen note next o (Down idle) e' (y, is, doubts) it goes =

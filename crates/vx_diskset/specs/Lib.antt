@@ -34,4 +34,3 @@ pub mod OverKeeps
 pub mod OverPlains
 pub mod OverRises
 pub mod OverStarts
-pub mod OverWrites

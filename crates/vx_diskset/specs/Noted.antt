@@ -1,6 +1,5 @@
 -- What a site notes of its group of disks, below a replicated volume group or not.
 use Rattle.std.specs.Prelude.{◌≡◌, ◌⊎◌, ℕ, [], false, IsFalse, IsTrue, Some, None, Result, map, length}
-use Rattle.vx_model.specs.Content.{Write}
 use Rattle.vx_disk.specs.Disks.{Disks}
 use Rattle.vx_disk.specs.Shelf.{Each, Image, Meaning}
 use Rattle.vx_disk.specs.declared.shelf.Shelf.{Ghosts}
@@ -21,7 +20,7 @@ use Rattle.vx_config.specs.declared.config.Config.{Config}
 use Rattle.vx_copyfmt.specs.Imports.{Found}
 use Rattle.vx_kept.specs.Groups.{found as finds}
 use Rattle.vx_grouped.specs.ConfigMoves.{LosesSome}
-use Rattle.vx_grouped.specs.GroupSites.{AwayNoted, CutNoted, DownNoted, FitsPlain, UpNoted, site_below, site_disks, with_note}
+use Rattle.vx_grouped.specs.GroupSites.{AwayNoted, CutNoted, DownNoted, UpNoted, site_below, site_disks, with_note}
 use Rattle.vx_grouped.specs.SiteEnds.{ConfigGoes}
 use Rattle.vx_grouped.specs.declared.group_site.GroupSite.{GroupSite}
 use Rattle.vx_grouped.specs.declared.group_site.GroupSite.TheVariants.{Up, Deported, Down}
@@ -55,9 +54,9 @@ pub record TidyNote (units : Units) (note : GroupNode) : Type 0 where
 pub record FoundNamed (units : Units) (count : ℕ) (m : Meaning) : Type 0 where
   pub each : (i : Image) (x : Config) → Each m.leaves i → finds m i ≡ Found x → (x.rvg ≡ Some units) × (length x.volumes ≡ count)
 
--- a write to a volume of the group that was cut is whole blocks of it, and none is cut where the site is up
+-- no write to a volume of the group is cut
 abbrev pub CutRests : Node → Type 0
-CutRests n = (n.state ≡ IsUp → (note_at n).cut ≡ None) × ((x : Write) → (note_at n).cut ≡ Some x → FitsPlain (note_at n) x.volume x.start (length x.bytes))
+CutRests n = (note_at n).cut ≡ None
 
 -- the data volumes of a site are those of the replicated volume group of the configuration that it notes, which are volumes of it
 abbrev pub IsNamed : Node → Type 0

@@ -1,13 +1,11 @@
 // The calls on the group of a site that is up.
 ghost use Rattle.std.specs.Prelude.{◌≡◌, ◌≤◌, ◌<◌, ◌%◌, ℕ, false, Err, IfOk, IfSome, IsTrue, None, Ok, OnOk, Some, length, option_copied, true};
 ghost use Rattle.vx_config.specs.Checks.{is_sound};
-ghost use Rattle.vx_disk.specs.Shelf.{Covers};
 ghost use Rattle.vx_config.specs.declared.config.Config.{Config as ConfigValue};
 ghost use Rattle.vx_grouped.specs.Ends.{plain_write};
 ghost use Rattle.vx_grouped.specs.GroupSites.{FitsPlain, UpNoted, site_below, site_disks};
 ghost use Rattle.vx_grouped.specs.SiteAdds.{SiteAdded, VolumeIn, refuses_volume};
 ghost use Rattle.vx_grouped.specs.SiteEnds.{AttCalled, DetCalled, PlainRead, PlainWrote, RegionsOf, SiteDeported, is_plex_on, refuses_att, refuses_det};
-ghost use Rattle.vx_grouped.specs.Volumes.{SiteGoes};
 ghost use Rattle.vx_grouped.specs.SiteMaps.{AddedMapped, AttMapped, DeportMapped, DetMapped, StaysMapped, WroteMapped};
 ghost use Rattle.vx_history.specs.Groups.{GroupNode};
 ghost use Rattle.vx_history.specs.World.{Node};
@@ -21,7 +19,6 @@ ghost use Rattle.vx_diskset.specs.GroupCalls.{AtPlain, AtSite, CalledOn, OnSites
 ghost use Rattle.vx_diskset.specs.GroupSets.{cut_behind, cut_value};
 ghost use Rattle.vx_diskset.specs.OverAways.{DeportsBelow};
 ghost use Rattle.vx_diskset.specs.OverPlains.{AttsBelow, DetsBelow, OnOver, ReadsBelow};
-ghost use Rattle.vx_diskset.specs.OverWrites.{WritesBelow};
 ghost use Rattle.vx_watched.specs.Traces.{TellsLess};
 
 use crate::DiskSet;
@@ -36,7 +33,7 @@ use vx_model::limits::BLOCK;
 use vx_model::{Blocks, Name, No, Stop};
 
 // Writes to a volume of a group. The write in which the fuse runs out is cut.
-pub(crate) fn write_set<R: Rack>(
+fn write_set<R: Rack>(
     group: &mut GroupSet<R>,
     volume: u32,
     block: u64,
@@ -48,7 +45,6 @@ pub(crate) fn write_set<R: Rack>(
     ensures wrote { (n : Node) (note : GroupNode) → UpNoted n note group.old.site → FitsPlain note volume block (length bytes.now) → PlainWrote n note (plain_write volume block bytes.now) group.old.site group.new.site result }
     ensures maps { (n : Node) (note : GroupNode) → UpNoted n note group.old.site → FitsPlain note volume block (length bytes.now) → WroteMapped (plain_write volume block bytes.now) group.old.site group.new.site result }
     ensures cut { cut_value group.new.cut ≡ cut_behind result (plain_write volume block bytes.now) (cut_value group.old.cut) }
-    ensures volumes { SiteGoes (Covers volume block bytes.now) group.old.site group.new.site }
     ensures since { CalledSince (site_disks group.old.site) (site_disks group.new.site) }
     ensures told { TellsLess (site_below group.old.site) (site_below group.new.site) }
 {
@@ -191,7 +187,6 @@ impl<R: Rack> DiskSet<R> {
         requires whole { length bytes.now % BLOCK ≡ 0 }
         ensures wrote { (n : Node) (note : GroupNode) → AtSite (UpNoted n note) self.old → FitsPlain note volume start (length bytes.now) → OnSites (λ o e. PlainWrote n note (plain_write volume start bytes.now) o e result) self.old self.new }
         ensures maps { (n : Node) (note : GroupNode) → AtSite (UpNoted n note) self.old → FitsPlain note volume start (length bytes.now) → OnSites (λ o e. WroteMapped (plain_write volume start bytes.now) o e result) self.old self.new }
-        ensures over { OnOver (WritesBelow volume start bytes.now result) self.old self.new }
         ensures cut { (n : Node) (note : GroupNode) → AtSite (UpNoted n note) self.old → cut_in self.new ≡ cut_behind result (plain_write volume start bytes.now) (cut_in self.old) }
         ensures fuse { (n : Node) (note : GroupNode) → AtSite (UpNoted n note) self.old → FitsPlain note volume start (length bytes.now) → FuseGoesOn self.old self.new }
         ensures failing { SameFailing self.old self.new }
@@ -200,7 +195,6 @@ impl<R: Rack> DiskSet<R> {
     {
         match self {
             DiskSet::OfGroup(group) => write_set(group, volume, start, bytes),
-            DiskSet::Over(over) => over.write_plain(volume, start, bytes),
             _ => Err(No::Role),
         }
     }

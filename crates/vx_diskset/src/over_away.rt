@@ -13,7 +13,7 @@ use vx_grouped::GroupSite;
 use vx_model::Stop;
 
 // A group behind a call: of disks that crashed in it imports may disagree.
-pub(crate) fn doubt_fallen<R: Rack>(site: GroupSite<R>) -> GroupSite<R>
+fn doubt_fallen<R: Rack>(site: GroupSite<R>) -> GroupSite<R>
     ensures { DoubtsFallen site result }
 {
     match site {

@@ -25,7 +25,7 @@ use Rattle.vx_events.specs.LinkedFacts.{linked_fact}
 use Rattle.vx_order.specs.Spans.{span_of}
 use Rattle.vx_model.specs.declared.site.SiteState.{SiteState}
 use Rattle.vx_model.specs.declared.site.SiteState.TheVariants.{Up as IsUp}
-use Rattle.vx_script.specs.declared.line.ScriptLine.TheVariants.{Put, Read, Write}
+use Rattle.vx_script.specs.declared.line.ScriptLine.TheVariants.{Read}
 use Rattle.vx_order.specs.declared.span.Span.{Span}
 use Rattle.vx_order.specs.declared.span.Way.TheVariants.{Reads, Writes}
 use Rattle.vx_order.specs.declared.facts.SiteFacts.{SiteFacts}
@@ -82,22 +82,6 @@ read_role w s sites files name volume start count n is up plain free =
 pub record SpanTests (f : SiteFacts) (volume : List ℕ) (start count : ℕ) : Type 0 where
   pub known : span_unknown (Some f) (Some (record { volume = volume; start = start; count = count; way = Writes })) ≡ None
   pub role : span_role (Some f) (Some (record { volume = volume; start = start; count = count; way = Writes })) ≡ None
-
-pub write_tests : (f : SiteFacts) (sites : List SiteFacts) (files : Bool) (name volume : List ℕ) (start count fill : ℕ) (n : Named sites name) → n.facts ≡ f → line_refusal sites files (Write name volume start count fill) ≡ None → SpanTests f volume start count
-unfolding first_name span_of
-write_tests f sites files name volume start count fill n is free =
-    let p = passes sites files (Write name volume start count fill) free in
-    let span : Span = record { volume = volume; start = start; count = count; way = Writes } in
-    let there = n.found ∙ ap (λ (x : SiteFacts). Some x) is in
-    record { known = subst (λ (o : Option SiteFacts). span_unknown o (Some span) ≡ None) there p.volume; role = subst (λ (o : Option SiteFacts). span_role o (Some span) ≡ None) there p.call_role }
-
-pub put_tests : (f : SiteFacts) (sites : List SiteFacts) (files : Bool) (name volume : List ℕ) (start : ℕ) (bytes : List ℕ) (n : Named sites name) → n.facts ≡ f → line_refusal sites files (Put name volume start bytes) ≡ None → SpanTests f volume start 1
-unfolding first_name span_of
-put_tests f sites files name volume start bytes n is free =
-    let p = passes sites files (Put name volume start bytes) free in
-    let span : Span = record { volume = volume; start = start; count = 1; way = Writes } in
-    let there = n.found ∙ ap (λ (x : SiteFacts). Some x) is in
-    record { known = subst (λ (o : Option SiteFacts). span_unknown o (Some span) ≡ None) there p.volume; role = subst (λ (o : Option SiteFacts). span_role o (Some span) ≡ None) there p.call_role }
 
 module _ (w : World) (s : ℕ) (volume : List ℕ) (start count : ℕ) (up : (w.nodes s).state ≡ IsUp) (plain : is_over_rvg (w.nodes s) ≡ true → is_plain_kind (kind_named (w.nodes s) volume) ≡ false)
     (tests : SpanTests (linked_fact w s) volume start count) where

@@ -40,7 +40,6 @@ pub mod Over
 pub mod OverSeats
 pub mod Parts
 pub mod Opens
-pub mod OtherKinds
 pub mod OtherPlaces
 pub mod Passing
 pub mod Places

@@ -1,5 +1,5 @@
--- What is left of a line that is not open: it links no site with a replicated volume group over its group of disks. Where there is no such site no line is open.
--- A volume at such a site that is no other volume of the group is a data volume.
+-- What is left of a line that is not open: it links no site with a replicated volume group over its group of disks, and at such a site writes to data volumes alone.
+-- Where there is no such site no line is open.
 use Rattle.std.proofs.Common.{◌≡◌, ◌∙◌, ℕ, Bool, true, false, List, refl, ap, sym}
 use Rattle.std.specs.Prelude.{◌&&◌, ◌||◌, Option, Some, None, is_some, not}
 use Rattle.vx_history.specs.World.{Node, World}
@@ -9,7 +9,7 @@ use Rattle.vx_order.specs.declared.facts.VolumeKind.TheVariants.{Data, Map, Plai
 use Rattle.vx_script.specs.declared.line.ScriptLine.{ScriptLine}
 use Rattle.vx_script.specs.declared.line.ScriptLine.TheVariants.{Apply, Crash, Disk, Fuse, GroupDeport, GroupImport, Link, PlexAttach, PlexDetach, Put, Read, Recover, Show, Status, Volume, Write}
 use Rattle.vx_events.specs.Facts.{site_number}
-use Rattle.vx_events.specs.OpenLines.{HasNoOpen, is_halted_over, is_open}
+use Rattle.vx_events.specs.OpenLines.{HasNoOpen, is_halted_over, is_open, is_open_volume}
 use Rattle.vx_events.specs.RvgLinks.{links_rvg}
 use Rattle.vx_events.specs.RvgOver.{is_plain_kind, kind_named}
 use Rattle.vx_events.specs.RvgSteps.{HasNoRvgs, is_for_rvg}
@@ -17,6 +17,9 @@ use Rattle.vx_events.specs.RvgViews.{is_over_rvg}
 
 halted_off : (n : Node) → is_over_rvg n ≡ false → is_halted_over n ≡ false
 halted_off n off = ap (λ (b : Bool). b && is_some n.halted) off
+
+volume_off : (n : Node) (volume : List ℕ) → is_over_rvg n ≡ false → is_open_volume n volume ≡ false
+volume_off n volume off = ap (λ (b : Bool). b && not (is_data (kind_named n volume))) off
 
 none_halted : (o : Option ℕ) → is_some o ≡ false → o ≡ None
 none_halted None off = refl
@@ -27,15 +30,21 @@ pub closed_runs : (n : Node) → is_over_rvg n ≡ true → is_halted_over n ≡
 closed_runs n over closed = none_halted n.halted (sym (ap (λ (b : Bool). b && is_some n.halted) over) ∙ closed)
 
 pub open_links : (w : World) (line : ScriptLine) → is_open w line ≡ false → links_rvg w line ≡ false
+open_links w (GroupImport site) closed = refl
 open_links w (Volume site volume blocks mirrors layout log map policy) closed = refl
 open_links w (PlexDetach site volume plex) closed = refl
 open_links w (PlexAttach site volume plex) closed = refl
+open_links w (Write site volume start count fill) closed = refl
+open_links w (Put site volume start bytes) closed = refl
 open_links w other closed = closed
 
 pub open_beside : (w : World) (line : ScriptLine) → is_for_rvg w line ≡ false → links_rvg w line ≡ false → is_open w line ≡ false
+open_beside w (GroupImport site) off links = off
 open_beside w (Volume site volume blocks mirrors layout log map policy) off links = off
 open_beside w (PlexDetach site volume plex) off links = halted_off (w.nodes (site_number w site)) off
 open_beside w (PlexAttach site volume plex) off links = halted_off (w.nodes (site_number w site)) off
+open_beside w (Write site volume start count fill) off links = volume_off (w.nodes (site_number w site)) volume off
+open_beside w (Put site volume start bytes) off links = volume_off (w.nodes (site_number w site)) volume off
 open_beside w other off links = links
 
 data_by : (over : Bool) (kind : VolumeKind) → over ≡ true → (over && not (is_data kind)) ≡ false → kind ≡ Data
@@ -54,12 +63,12 @@ pub last_off : (a b : Bool) → (a || b) ≡ false → b ≡ false
 last_off true b is = absurd (let clash : true ≡ false = is in cc)
 last_off false b is = is
 
--- the volume of this name is a data volume
-pub open_data : (n : Node) (volume : List ℕ) → is_over_rvg n ≡ true → (is_over_rvg n && not (is_data (kind_named n volume))) ≡ false → kind_named n volume ≡ Data
+-- the volume that such a line names at such a site is a data volume
+pub open_data : (n : Node) (volume : List ℕ) → is_over_rvg n ≡ true → is_open_volume n volume ≡ false → kind_named n volume ≡ Data
 open_data n volume over closed = data_by (is_over_rvg n) (kind_named n volume) over closed
 
-pub open_inside : (n : Node) (volume : List ℕ) → is_over_rvg n ≡ true → (is_over_rvg n && not (is_data (kind_named n volume))) ≡ false → is_plain_kind (kind_named n volume) ≡ false
-open_inside n volume over closed = ap is_plain_kind (open_data n volume over closed)
+pub open_inside : (n : Node) (volume : List ℕ) → is_open_volume n volume ≡ false → is_over_rvg n ≡ true → is_plain_kind (kind_named n volume) ≡ false
+open_inside n volume closed over = ap is_plain_kind (open_data n volume over closed)
 
 module _ (w : World) (none : HasNoRvgs w) where
   either_none : (a b : Bool) → a ≡ false → b ≡ false → (a || b) ≡ false
@@ -88,7 +97,10 @@ module _ (w : World) (none : HasNoRvgs w) where
   for_none other = refl
 
   pub open_none : HasNoOpen w
+  open_none (GroupImport site) = none (site_number w site)
   open_none (Volume site volume blocks mirrors layout log map policy) = none (site_number w site)
   open_none (PlexDetach site volume plex) = halted_off (w.nodes (site_number w site)) (none (site_number w site))
   open_none (PlexAttach site volume plex) = halted_off (w.nodes (site_number w site)) (none (site_number w site))
+  open_none (Write site volume start count fill) = volume_off (w.nodes (site_number w site)) volume (none (site_number w site))
+  open_none (Put site volume start bytes) = volume_off (w.nodes (site_number w site)) volume (none (site_number w site))
   open_none other = links_none other

@@ -19,10 +19,10 @@ use Rattle.vx_events.specs.GroupViews.{config_of}
 use Rattle.vx_events.specs.RvgFits.{data_at, data_of, entries_noted, entry_name, rvg_noted}
 use Rattle.vx_events.specs.RvgViews.{data_facts, data_units, is_data_unit, is_over_rvg, kinded, others_by, others_from, others_of, over_table, plexes_in, table_at, unless_data}
 
-abbrev pub named : List ℕ → VolumeFacts → Bool
+abbrev named : List ℕ → VolumeFacts → Bool
 named name v = bytes_eq v.name name
 
-pub never_found : {A B : Type 0} (x : A) → None ≡ Some x → B
+never_found : {A B : Type 0} (x : A) → None ≡ Some x → B
 never_found x e = absurd (let clash : None ≡ Some x = e in cc)
 
 -- ---- no data volume has the name
@@ -74,7 +74,7 @@ pub record OtherOf (name : List ℕ) (vs : List VolumeEntry) (x : VolumeFacts) :
   pub blocks : entry.blocks ≡ x.blocks
 
 -- the data volumes of these, of which the first is in this place, have other names
-abbrev pub OthersNamed : List ℕ → Units → ℕ → List VolumeEntry → Type 0
+abbrev OthersNamed : List ℕ → Units → ℕ → List VolumeEntry → Type 0
 OthersNamed name units place vs = (i : ℕ) (e : VolumeEntry) → is_data_unit units.vols (place + i) ≡ true → slice_get vs i ≡ Some e → bytes_eq e.name name ≡ false
 
 -- with a further one in front, which has another name
@@ -86,10 +86,10 @@ later_of name v vs x off more = record {
 }
 
 -- so of those behind the first
-pub rest_named : (name : List ℕ) (units : Units) (place : ℕ) (v : VolumeEntry) (vs : List VolumeEntry) → OthersNamed name units place (v ∷ vs) → OthersNamed name units (place + 1) vs
+rest_named : (name : List ℕ) (units : Units) (place : ℕ) (v : VolumeEntry) (vs : List VolumeEntry) → OthersNamed name units place (v ∷ vs) → OthersNamed name units (place + 1) vs
 rest_named name units place v vs away = λ i e is there. away (suc i) e (subst (λ (k : ℕ). is_data_unit units.vols k ≡ true) (omega arith) is) there
 
-pub first_named : (name : List ℕ) (units : Units) (place : ℕ) (v : VolumeEntry) (vs : List VolumeEntry) → OthersNamed name units place (v ∷ vs) → is_data_unit units.vols place ≡ true → bytes_eq v.name name ≡ false
+first_named : (name : List ℕ) (units : Units) (place : ℕ) (v : VolumeEntry) (vs : List VolumeEntry) → OthersNamed name units place (v ∷ vs) → is_data_unit units.vols place ≡ true → bytes_eq v.name name ≡ false
 first_named name units place v vs away is = away 0 v (subst (λ (k : ℕ). is_data_unit units.vols k ≡ true) (omega arith) is) refl
 
 others_found : (name : List ℕ) (units : Units) (place : ℕ) (vs : List VolumeEntry) (x : VolumeFacts) → OthersNamed name units place vs → find (named name) (others_from units place vs) ≡ Some x → OtherOf name vs x
@@ -110,16 +110,11 @@ others_found name units place (v ∷ vs) x away e =
 
 -- ---- a site
 
--- the volume of this name is among the other ones of the group, and none of the data volumes has the name
-pub record AmongOthers (name : List ℕ) (x : VolumeFacts) (c : Config) (units : Units) : Type 0 where
-  pub away : OthersNamed name units 0 c.volumes
-  pub found : find (named name) (others_from units 0 c.volumes) ≡ Some x
-
--- The tests see this volume at a site whose data volumes are those of this configuration, and it is none of them.
-pub among_others : (n : Node) (name : List ℕ) (x : VolumeFacts) (c : Config) (units : Units) → is_over_rvg n ≡ true → config_of (note_at n).config ≡ Some c → c.rvg ≡ Some units → n.volumes ≡ map as_volume (data_of c.volumes units)
-    → find (λ (v : VolumeFacts). bytes_eq v.name name) (table_at n) ≡ Some x → is_data x.kind ≡ false → AmongOthers name x c units
-among_others n name x c units over noted rvg volumes e off =
-    record { away = λ i v is there. other_name name c.volumes units.vols none i v (subst (λ (k : ℕ). is_data_unit units.vols k ≡ true) (omega arith) is) there; found = others }
+-- The tests see this volume at a site whose data volumes are those of this configuration, and it is none of them: the group has it.
+pub other_placed : (n : Node) (name : List ℕ) (x : VolumeFacts) (c : Config) (units : Units) → is_over_rvg n ≡ true → config_of (note_at n).config ≡ Some c → c.rvg ≡ Some units → n.volumes ≡ map as_volume (data_of c.volumes units)
+    → find (λ (v : VolumeFacts). bytes_eq v.name name) (table_at n) ≡ Some x → is_data x.kind ≡ false → OtherOf name c.volumes x
+other_placed n name x c units over noted rvg volumes e off =
+    others_found name units 0 c.volumes x (λ i v is there. other_name name c.volumes units.vols none i v (subst (λ (k : ℕ). is_data_unit units.vols k ≡ true) (omega arith) is) there) others
   where
     table : table_at n ≡ over_table n (note_at n)
     table = ap (λ (b : Bool). if b then over_table n (note_at n) else map volume_fact n.volumes) over
@@ -135,10 +130,3 @@ among_others n name x c units over noted rvg volumes e off =
     others : find (named name) (others_from units 0 c.volumes) ≡ Some x
     others =
         ap (λ (o : Option Units). find (named name) (others_by o c.volumes)) (sym rvg) ∙ ap (λ (o : Option Config). find (named name) (others_of o)) (sym noted) ∙ split.1
-
--- so the group has it
-pub other_placed : (n : Node) (name : List ℕ) (x : VolumeFacts) (c : Config) (units : Units) → is_over_rvg n ≡ true → config_of (note_at n).config ≡ Some c → c.rvg ≡ Some units → n.volumes ≡ map as_volume (data_of c.volumes units)
-    → find (λ (v : VolumeFacts). bytes_eq v.name name) (table_at n) ≡ Some x → is_data x.kind ≡ false → OtherOf name c.volumes x
-other_placed n name x c units over noted rvg volumes e off =
-    let it : AmongOthers name x c units = among_others n name x c units over noted rvg volumes e off in
-    others_found name units 0 c.volumes x it.away it.found

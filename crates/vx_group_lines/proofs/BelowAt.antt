@@ -110,10 +110,6 @@ module _ {R : Type 0} {g : Ghosts R} where
     pub kind : is_data (kind_named (d.world.nodes s) volume) ≡ false
     pub asks : UpNoted (below_rvg (d.world.nodes s)) (note_at (d.world.nodes s)) (site_in at.set)
     pub volume_is : plain_number (note_at (d.world.nodes s)) volume ≡ place
-    pub placed : place ≡ number_in at.named.0.volumes volume
-    pub found : VolumeFacts
-    pub finds : find (λ (v : VolumeFacts). bytes_eq v.name volume) (table_at (d.world.nodes s)) ≡ Some found
-    pub off : is_data found.kind ≡ false
     pub some : 1 ≤ count
     pub within : start + count ≤ (note_at (d.world.nodes s)).bytes.size place
 
@@ -153,10 +149,6 @@ module _ {R : Type 0} {g : Ghosts R} where
         asks = asks;
         volume_is =
             ap (λ (vs : List VolumeFacts). unwrap_or (place_of vs volume) 0) (notes_table note sized.config sized.noted) ∙ numbered volume sized.config.volumes ∙ sym (number sized.config has);
-        placed = number sized.config has ∙ ap (λ (x : Config). number_in x.volumes volume) (sym same);
-        found = may.found;
-        finds = finds;
-        off = off;
         some = may.some;
         within = omega (arith, may.range, size, blocks, entry.blocks);
       }

@@ -1,6 +1,6 @@
 -- The line that deports the group below a replicated volume group: to that one it is a crash which keeps what is safe.
-use Rattle.std.proofs.Common.{◌≡◌, ◌∙◌, ◌⊎◌, ◌+◌, ◌≤◌, ℕ, Bool, true, false, [], List, length, ap, sym, subst, refl, arith, inl, inr}
-use Rattle.std.specs.Prelude.{Some, None, slice_set, Result, Ok, Err}
+use Rattle.std.proofs.Common.{◌≡◌, ◌∙◌, ◌⊎◌, ◌+◌, ◌≤◌, ℕ, Bool, false, [], List, length, ap, sym, subst, refl, arith, inl, inr}
+use Rattle.std.specs.Prelude.{slice_set, Result, Ok, Err}
 use Rattle.vx_model.specs.declared.errors.OutOfMemory.{OutOfMemory}
 use Rattle.vx_model.specs.declared.errors.Stop.{Stop}
 use Rattle.vx_model.specs.declared.errors.Stop.TheVariants.{No as StopsBy, OutOfMemory as MemoryStop}
@@ -11,11 +11,10 @@ use Rattle.vx_disk.specs.Shelf.{Meaning}
 use Rattle.vx_disk.specs.declared.shelf.Shelf.{Ghosts}
 use Rattle.vx_config.specs.declared.config.Config.{Config}
 use Rattle.vx_kept.specs.Cleans.{at_serial}
-use Rattle.vx_effects.specs.Facts.{down_fact}
 use Rattle.vx_history.specs.Doubts.{Doubted, happened}
 use Rattle.vx_history.specs.Groups.{GroupNode, NoteSettles, NoteUnsettles}
 use Rattle.vx_history.specs.Missing.{with_maps}
-use Rattle.vx_history.specs.Steps.{burned, crashed, worked}
+use Rattle.vx_history.specs.Steps.{crashed, worked}
 use Rattle.vx_history.specs.Stops.{IsFused}
 use Rattle.vx_history.specs.World.{Node}
 use Rattle.vx_history.specs.declared.event.Event.TheVariants.{Deport as DeportAt}
@@ -23,7 +22,6 @@ use Rattle.vx_order.specs.declared.facts.SiteFacts.{SiteFacts}
 use Rattle.vx_script.specs.declared.line.ScriptLine.TheVariants.{GroupDeport}
 use Rattle.vx_grouped.proofs.MapNoteLemmas.{away_with_maps, down_with_maps, up_with_maps}
 use Rattle.vx_grouped.specs.ConfigMoves.{CleansPlexes, LosesSome, none_again}
-use Rattle.vx_grouped.specs.GroupNotes.{NotesConfig}
 use Rattle.vx_grouped.specs.GroupSites.{AwayNoted, DownNoted, UpNoted, deported_with, site_disks, with_note}
 use Rattle.vx_grouped.specs.SiteEnds.{ConfigGoes, LacksDeport, SiteDeported}
 use Rattle.vx_grouped.specs.declared.group_site.GroupSite.{GroupSite}
@@ -36,11 +34,9 @@ use Rattle.vx_diskset.specs.Stands.{faults_at}
 use Rattle.vx_diskset.specs.declared.disk_set.DiskSet.{DiskSet}
 use Rattle.vx_diskset.specs.declared.over_set.OverSet.{OverSet}
 use Rattle.vx_events.proofs.RvgStays.{same_config, then_same}
-use Rattle.vx_events.specs.Doubts.{run_as}
 use Rattle.vx_events.specs.Fails.{Fails}
 use Rattle.vx_events.specs.GroupConfigs.{ConfigLoses, ConfigRests, opened_again}
-use Rattle.vx_events.specs.GroupEnds.{AreOf, GroupCut, GroupDone, GroupFails, GroupLacks, GroupSpoils, GroupWants, IsLeftOver}
-use Rattle.vx_events.specs.GroupLines.{group_events}
+use Rattle.vx_events.specs.GroupEnds.{AreOf, GroupCut, GroupDone, GroupFails, GroupLacks, GroupWants}
 use Rattle.vx_events.specs.GroupMaps.{MapsCalled, MapsLost}
 use Rattle.vx_events.specs.GroupNotes.{note_at, Reconfigures}
 use Rattle.vx_events.specs.GroupViews.{noted_table}

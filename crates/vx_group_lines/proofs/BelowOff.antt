@@ -1,7 +1,6 @@
 -- What calls on the group below a replicated volume group lead the yard of a site to whose fuse ran out in them: it crashed, and keeps all its writes.
 use Rattle.std.proofs.Common.{◌≡◌, ◌∙◌, ◌⊎◌, inl, inr, ℕ, ◌<◌, ◌≤◌, Bool, true, false, List, length, map, ap, sym, subst, refl, arith}
 use Rattle.std.specs.Prelude.{Some, None, if◌then◌else◌, slice_set}
-use Rattle.vx_model.specs.Content.{Write}
 use Rattle.vx_model.specs.Sites.{is_origin}
 use Rattle.vx_model.specs.declared.site.SiteState.TheVariants.{Up as IsUp, Down as IsDown}
 use Rattle.vx_model.specs.declared.units.Units.{Units}
@@ -17,11 +16,12 @@ use Rattle.vx_history.specs.Step.{done, headers_counted}
 use Rattle.vx_history.specs.Steps.{burned, crashed}
 use Rattle.vx_history.specs.World.{Fuse, Node, NoFuse}
 use Rattle.vx_history.specs.declared.event.Event.TheVariants.{Crash as CrashAt}
-use Rattle.vx_grouped.specs.GroupSites.{DownNoted, FitsPlain, idle_below, idle_disks, with_note}
+use Rattle.vx_grouped.specs.GroupSites.{DownNoted, idle_below, idle_disks, with_note}
 use Rattle.vx_grouped.specs.SetFuses.{HasFuse}
 use Rattle.vx_grouped.specs.declared.group_site.GroupSite.{GroupSite}
 use Rattle.vx_grouped.specs.declared.group_site.GroupSite.TheVariants.{Up as SiteUp, Deported as SiteAway, Down as SiteDown, Marked, Gone as SiteGone}
 use Rattle.vx_diskset.proofs.GroupStands.{IsLikeGroup, down_like}
+use Rattle.vx_diskset.proofs.NotedLikes.{cut_none}
 use Rattle.vx_diskset.proofs.OverLikes.{over_like}
 use Rattle.vx_diskset.specs.Aboves.{site_in}
 use Rattle.vx_diskset.specs.Asked.{FailsAs, FusedAs, SameFailing}
@@ -134,7 +134,7 @@ module _ {R : Type 0} {g : Ghosts R} where
 
   module _ (d : Doubted) (old new : Yard R g) (name : List ℕ) (s : ℕ) (before after : DiskSet R g) (p : OverSet R g) (stands : StandsFor d old) (call : BelowAs d old new name s before after p)
       (k : GroupNode) (noted : DownNoted (crashed (with_note k (below_rvg (d.world.nodes s))) 0) k (site_in p)) (notes : NotesStill (note_at (d.world.nodes s)) k)
-      (cut : cut_value p.cut ≡ k.cut) (fits_cut : (x : Write) → k.cut ≡ Some x → FitsPlain k x.volume x.start (length x.bytes))
+      (cut : cut_value p.cut ≡ k.cut) (clear : k.cut ≡ None)
       (rests : (units : Units) → rvg_noted k ≡ Some units → RestsNamed units (length (entries_noted k)) (site_in p)) (table : over_table (with_note k (d.world.nodes s)) k ≡ over_table (d.world.nodes s) (note_at (d.world.nodes s))) where
     abbrev n : Node
     n = d.world.nodes s
@@ -227,7 +227,7 @@ module _ {R : Type 0} {g : Ghosts R} where
     )
 
     noted_now : NotedOver m (Over p)
-    noted_now = ((λ other there. subst (λ (x : GroupNode). SiteNoted m x (Over p)) (some_same there) site_now), named_again n m k refl refl notes.keeps (λ up. absurd (down_up up), fits_cut) call.at.named)
+    noted_now = ((λ other there. subst (λ (x : GroupNode). SiteNoted m x (Over p)) (some_same there) site_now), named_again n m k refl refl notes.keeps (cut_none m k refl clear) call.at.named)
 
     seen : down_fact (fact_from n (d.world.links s) d.world.sites) ≡ fact_from m ((world_up e s k).world.links s) (world_up e s k).world.sites
     seen = facts_is (down_fact (fact_from n (d.world.links s) d.world.sites)) (fact_from m ((world_up e s k).world.links s) (world_up e s k).world.sites) refl refl refl refl
@@ -262,4 +262,4 @@ module _ {R : Type 0} {g : Ghosts R} where
     pub below_fell : new.facts.items ≡ slice_set old.facts.items s (down_fact (fact_from (d.world.nodes s) (d.world.links s) d.world.sites)) → LetsGo old new s → Follows d (world_off d s k) old new
     below_fell =
         fell_by d old new name s before after p stands (below_as d old new name s before after p call) k noted (notes_still (note_at (d.world.nodes s)) k notes) (same_cut d old new name s before after p stands call k notes.cut)
-        (λ x is. absurd (never_some (sym clear ∙ is))) rests table
+        clear rests table

@@ -4,7 +4,7 @@ use Rattle.std.specs.Prelude.{None, Ok, Result, Some, slice_get}
 use Rattle.vx_disk.specs.declared.shelf.Shelf.{Ghosts}
 use Rattle.vx_grouped.specs.GroupSites.{UpNoted}
 use Rattle.vx_history.specs.Doubts.{Doubted}
-use Rattle.vx_history.specs.Groups.{GroupNode, MissedNote}
+use Rattle.vx_history.specs.Groups.{GroupNode}
 use Rattle.vx_history.specs.Missing.{with_maps}
 use Rattle.vx_history.specs.World.{Node}
 use Rattle.vx_model.specs.declared.errors.OutOfMemory.{OutOfMemory}

@@ -240,7 +240,7 @@ module _ {R : Type 0} {g : Ghosts R} where
   module _ (d : Doubted) (old new : Yard R g) (name : List ℕ) (s : ℕ) (before after : DiskSet R g) (p : OverSet R g) (stands : StandsFor d old) (call : BelowCalled d old new name s before after p) where
     -- none was
     pub none_cut : (note_at (d.world.nodes s)).cut ≡ None
-    none_cut = let rests = call.at.named.6 in rests.0 call.up
+    none_cut = call.at.named.6
 
     pub same_cut : (k : GroupNode) → k.cut ≡ (note_at (d.world.nodes s)).cut → cut_value p.cut ≡ k.cut
     same_cut k same = ap (λ c. cut_value c) call.cut ∙ call.at.noted.1 ∙ sym same

@@ -239,7 +239,7 @@ module _ {R : Type 0} {g : Ghosts R} where
 
   pub none_below : (v start size long : ℕ) (into : List ℕ) (before after : DiskSet R g) (no : No) → long ≡ size → OnOver (ReadsBelow v start long into (Err no)) before after → OnOver (GaveBelow v start size (Err no)) before after
   none_below v start size long into before after why same read =
-      on_over_each (ReadsBelow v start long into (Err no)) (GaveBelow v start size (Err no))
+      on_over_each (ReadsBelow v start long into (Err why)) (GaveBelow v start size (Err why))
       (λ o s x. record {
         gave = λ n note up fits. gave_no n note v start into (site_in o) (site_in s) why (x.read n note up (subst (λ (k : ℕ). FitsPlain note v start k) (sym same) fits));
         cut = x.cut;

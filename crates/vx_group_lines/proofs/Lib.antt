@@ -26,7 +26,6 @@ pub mod BelowMissed
 pub mod BelowUp
 pub mod BelowOff
 pub mod BelowDone
-pub mod BelowWrites
 pub mod NoMaps
 pub mod BelowUnmapped
 pub mod BelowLoosened

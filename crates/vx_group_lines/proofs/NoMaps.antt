@@ -1,5 +1,5 @@
 -- Where nothing is noted of the regions that plexes of a group missed, nothing is said of them behind a call; and the serial that is noted is the last one.
-use Rattle.std.proofs.Common.{◌≡◌, ◌<◌, ◌≤◌, ◌+◌, ℕ, true, false, ap, arith, refl, subst, sym}
+use Rattle.std.proofs.Common.{◌≡◌, ◌<◌, ◌+◌, ℕ, true, false, arith, refl, subst, sym}
 use Rattle.vx_model.specs.declared.limits.TheConstants.{COMMIT_MARGIN, MOST_NUMBER}
 use Rattle.vx_config.specs.declared.config.Config.{Config}
 use Rattle.vx_history.specs.Groups.{GroupNode, MissedNote}

@@ -22,6 +22,7 @@ use Rattle.vx_script.specs.declared.line.ScriptLine.{ScriptLine}
 use Rattle.vx_script.specs.declared.line.ScriptLine.TheVariants.{GroupImport, Recover}
 use Rattle.vx_grouped.specs.GroupNotes.{NotesConfig}
 use Rattle.vx_grouped.specs.GroupSites.{site_below}
+use Rattle.vx_diskset.proofs.NotedLikes.{cut_none}
 use Rattle.vx_diskset.proofs.Roles.{role_origin}
 use Rattle.vx_diskset.specs.Aboves.{site_in}
 use Rattle.vx_diskset.specs.Asked.{FailsAs, FusedAs, SameFailing}

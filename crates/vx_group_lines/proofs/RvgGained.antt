@@ -18,6 +18,7 @@ use Rattle.vx_history.specs.declared.event.Event.TheVariants.{Volumes as Volumes
 use Rattle.vx_history.specs.declared.volumes.DataVolume.{DataVolume}
 use Rattle.vx_model.specs.Content.{Write}
 use Rattle.vx_grouped.specs.GroupSites.{HasNoRvg, with_note}
+use Rattle.vx_diskset.proofs.NotedLikes.{cut_none}
 use Rattle.vx_diskset.proofs.Roles.{role_origin}
 use Rattle.vx_diskset.proofs.UnitsLie.{units_some}
 use Rattle.vx_diskset.specs.Asked.{FailsAs, FusedAs, SameFailing}

@@ -21,6 +21,7 @@ use Rattle.vx_script.specs.declared.line.ScriptLine.TheVariants.{Recover}
 use Rattle.vx_grouped.specs.ConfigMoves.{AnyState, OpensMoves, StateMoves, VolumeMoves, none_again}
 use Rattle.vx_grouped.specs.GroupSites.{laid_disks, site_disks}
 use Rattle.vx_grouped.specs.SiteReturns.{as_imported}
+use Rattle.vx_diskset.proofs.NotedLikes.{cut_none}
 use Rattle.vx_diskset.specs.Aboves.{site_in}
 use Rattle.vx_diskset.specs.DiskSets.{no_number}
 use Rattle.vx_diskset.specs.Holds.{beside_of, most_header}
@@ -137,14 +138,10 @@ module _ {R : Type 0} {g : Ghosts R} (d : Doubted) (s kept : ℕ) (taken : Bool)
       let k : KeptConfig c r.worked = then_keeps note r.group.middle r.worked keeps_here (loses s (fails 0) r.group.middle r.worked (works 0)) c at in
       record { now = k.now; is = k.is; keeps = k.keeps }
 
-  -- the volumes are as large as they were
-  sizes_lost : (v : ℕ) → 0 < note.bytes.size v → lost_note.bytes.size v ≡ note.bytes.size v
-  sizes_lost v low = ap (λ (k : Content). k.size v) r.works.same.bytes ∙ r.group.returns.size r.told v low
-
   named : IsNamed m
   named =
       let was_named = rest_named b old new s o (Over p) call in
-      named_again n m lost_note refl refl keeps_lost (cut_stays n m lost_note refl refl sizes_lost (λ up. up) was_named.6) was_named
+      named_again n m lost_note refl refl keeps_lost (cut_none m lost_note refl was_named.6) was_named
 
   -- ---- what is seen of it
 

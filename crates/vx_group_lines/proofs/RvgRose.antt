@@ -16,6 +16,7 @@ use Rattle.vx_history.specs.declared.event.Event.TheVariants.{Recover as Recover
 use Rattle.vx_report.specs.declared.view.SiteView.{SiteView}
 use Rattle.vx_script.specs.declared.line.ScriptLine.TheVariants.{Recover}
 use Rattle.vx_grouped.specs.GroupSites.{site_disks}
+use Rattle.vx_diskset.proofs.NotedLikes.{cut_none}
 use Rattle.vx_diskset.proofs.Roles.{role_origin}
 use Rattle.vx_diskset.specs.Aboves.{site_in}
 use Rattle.vx_diskset.specs.Holds.{KeptBeside, beside_of, header_links}

@@ -44,7 +44,7 @@ plain_on false true true is here apart = absurd (let clash : false ≡ true = is
 plain_on false true false is here apart = refl
 plain_on false false mine is here apart = absurd (let clash : false ≡ true = here in cc)
 
--- a line that may do nothing but work on the group, or that makes it, and neither writes nor reads a volume
+-- a line that may do nothing but work on the group, or that makes it, and reads no volume
 abbrev pub WorksAlone : ScriptLine → Type 0
 WorksAlone (GroupDeport site) = ⊥
 WorksAlone (GroupImport site) = ⊥
@@ -52,8 +52,6 @@ WorksAlone (PlexDetach site volume plex) = ⊥
 WorksAlone (PlexAttach site volume plex) = ⊥
 WorksAlone (Recover site) = ⊥
 WorksAlone (Rvg site srl maps volumes) = ⊥
-WorksAlone (Write site volume start count fill) = ⊥
-WorksAlone (Put site volume start bytes) = ⊥
 WorksAlone (Read site volume start count) = ⊥
 WorksAlone (Show site volume start count) = ⊥
 WorksAlone other = Unit {0}
@@ -76,8 +74,8 @@ alone_off w (Crash site pick) alone goes closed = group_alone (w.nodes (site_num
 alone_off w (Fuse site calls pick) alone goes closed = group_alone (w.nodes (site_number w site)) goes
 alone_off w (Recover site) alone goes closed = absurd alone
 alone_off w (Status site) alone goes closed = group_alone (w.nodes (site_number w site)) goes
-alone_off w (Write site volume start count fill) alone goes closed = absurd alone
-alone_off w (Put site volume start bytes) alone goes closed = absurd alone
+alone_off w (Write site volume start count fill) alone goes closed = group_alone (w.nodes (site_number w site)) goes
+alone_off w (Put site volume start bytes) alone goes closed = group_alone (w.nodes (site_number w site)) goes
 alone_off w (Read site volume start count) alone goes closed = absurd alone
 alone_off w (Show site volume start count) alone goes closed = absurd alone
 alone_off w other alone goes closed = absurd (let clash : false ≡ true = goes in cc)
@@ -106,9 +104,8 @@ module _ {R : Type 0} {g : Ghosts R} (d : Doubted) (y : Yard R g) where
   alone_goes (Fuse name calls pick) none stands kept free goes off = goes
   alone_goes (Recover name) none stands kept free goes off = or_left (over_group_at d.world name) (over_rvg_at d.world name) goes off
   alone_goes (Status name) none stands kept free goes off = goes
-  alone_goes (Write name volume start count fill) none stands kept free goes off =
-      plain_off (over_group_at d.world name) (over_rvg_at d.world name) (is_data (kind_named (d.world.nodes (site_number d.world name)) volume)) goes off
-  alone_goes (Put name volume start bytes) none stands kept free goes off = plain_off (over_group_at d.world name) (over_rvg_at d.world name) (is_data (kind_named (d.world.nodes (site_number d.world name)) volume)) goes off
+  alone_goes (Write name volume start count fill) none stands kept free goes off = goes
+  alone_goes (Put name volume start bytes) none stands kept free goes off = goes
   alone_goes (Read name volume start count) none stands kept free goes off = plain_off (over_group_at d.world name) (over_rvg_at d.world name) (is_data (kind_named (d.world.nodes (site_number d.world name)) volume)) goes off
   alone_goes (Show name volume start count) none stands kept free goes off = plain_off (over_group_at d.world name) (over_rvg_at d.world name) (is_data (kind_named (d.world.nodes (site_number d.world name)) volume)) goes off
   alone_goes other none stands kept free goes off = absurd (let clash : false ≡ true = goes in cc)
@@ -181,7 +178,7 @@ module _ {R : Type 0} {g : Ghosts R} (d : Doubted) (y : Yard R g) where
     works_recover words name r is goes beside above =
         subst (λ (x : ScriptLine). WorksIs d x y new r) (sym is) (recover_works name r (subst (λ (x : ScriptLine). goes_to_group d.world x ≡ true) is goes) beside above)
 
-    -- ---- one that writes or reads a volume
+    -- ---- one that reads a volume
 
     reads_works : (line : ScriptLine) (name volume : List ℕ) (r : Result Said OutOfMemory) → MakesNoRvg line → is_open d.world line ≡ false → is_for_rvg d.world line ≡ over_rvg_at d.world name
         → is_for_group d.world line ≡ over_group_at d.world name → plain_at d.world name volume ≡ true → (is_for_group d.world line ≡ true → LeadsOverIs d line y new r)
@@ -195,13 +192,6 @@ module _ {R : Type 0} {g : Ghosts R} (d : Doubted) (y : Yard R g) where
         by false off =
             let here : is_for_group d.world line ≡ true = group ∙ plain_off (over_group_at d.world name) (over_rvg_at d.world name) (is_data (kind_named (d.world.nodes (site_number d.world name)) volume)) plain off in
             works_over d line y new none closed (there ∙ off) r here (or_stops d line y new r (beside here))
-
-    pub works_write : (words line : ScriptLine) (name volume : List ℕ) (r : Result Said OutOfMemory) → words ≡ line → MakesNoRvg line → is_open d.world line ≡ false → is_for_rvg d.world line ≡ over_rvg_at d.world name
-        → is_for_group d.world line ≡ over_group_at d.world name → goes_to_group d.world line ≡ plain_at d.world name volume → goes_to_group d.world words ≡ true → (is_for_group d.world line ≡ true → LeadsOverIs d line y new r)
-        → (over_rvg_at d.world name ≡ true → is_data (kind_named (d.world.nodes (site_number d.world name)) volume) ≡ false → LeadsAboveIs d line y new r) → WorksIs d words y new r
-    works_write words line name volume r is none closed there group goes_is goes beside above =
-        subst (λ (x : ScriptLine). WorksIs d x y new r) (sym is)
-        (reads_works line name volume r none closed there group (sym goes_is ∙ subst (λ (x : ScriptLine). goes_to_group d.world x ≡ true) is goes) beside above)
 
     pub works_read : (line : ScriptLine) (name volume : List ℕ) (start count : ℕ) (r : Result Said OutOfMemory) → IsReadOf line name volume start count → goes_to_group d.world line ≡ true → (is_for_group d.world line ≡ true → LeadsOverIs d line y new r)
         → (over_rvg_at d.world name ≡ true → is_data (kind_named (d.world.nodes (site_number d.world name)) volume) ≡ false → LeadsAboveIs d line y new r) → WorksIs d line y new r

@@ -9,7 +9,7 @@ ghost use Rattle.vx_events.specs.RvgOver.{kind_named};
 ghost use Rattle.vx_events.specs.RvgSteps.{over_rvg_at};
 ghost use Rattle.vx_events.specs.StepsOver.{is_for_group};
 ghost use Rattle.vx_group_lines.specs.Plain.{IsReadAt, IsReadOf};
-ghost use Rattle.vx_yard.specs.AboveLines.{LeadsAbove, LeadsAboveIs};
+ghost use Rattle.vx_yard.specs.AboveLines.{LeadsAboveIs};
 ghost use Rattle.vx_yard.specs.OfSites.{AsAsked, HasCalled};
 ghost use Rattle.vx_yard.specs.Standing.{LeadsOver, LeadsOverIs, StandsFor};
 ghost use Rattle.vx_yard.specs.Working.{IsFree};
@@ -47,8 +47,6 @@ pub(crate) fn write_line<R: Rack>(
     ensures leads { (d : Doubted) → StandsFor d yard.old → is_for_group d.world (WriteLine name.now volume.now start count fill) ≡ true → LeadsOverIs d (WriteLine name.now volume.now start count fill) yard.old yard.new result }
     ensures asked { (d : Doubted) → StandsFor d yard.old → is_for_group d.world (WriteLine name.now volume.now start count fill) ≡ true → AsAsked d.world (WriteLine name.now volume.now start count fill) yard.old yard.new }
     ensures called { (d : Doubted) → StandsFor d yard.old → is_for_group d.world (WriteLine name.now volume.now start count fill) ≡ true → IfOk result (λ said. HasCalled d.world (WriteLine name.now volume.now start count fill) said yard.old yard.new) }
-    ensures above { (d : Doubted) → StandsFor d yard.old → over_rvg_at d.world name.now ≡ true → is_data (kind_named (d.world.nodes (site_number d.world name.now)) volume.now) ≡ false
-        → LeadsAboveIs d (WriteLine name.now volume.now start count fill) yard.old yard.new result }
     ensures told { IsTold yard.new → IsTold yard.old }
     ensures files { in_files yard.new ≡ in_files yard.old }
 {
@@ -72,8 +70,6 @@ pub(crate) fn put_line<R: Rack>(
     ensures leads { (d : Doubted) → StandsFor d yard.old → is_for_group d.world (PutLine name.now volume.now start bytes.now) ≡ true → LeadsOver d (PutLine name.now volume.now start bytes.now) result yard.old yard.new }
     ensures asked { (d : Doubted) → StandsFor d yard.old → is_for_group d.world (PutLine name.now volume.now start bytes.now) ≡ true → AsAsked d.world (PutLine name.now volume.now start bytes.now) yard.old yard.new }
     ensures called { (d : Doubted) → StandsFor d yard.old → is_for_group d.world (PutLine name.now volume.now start bytes.now) ≡ true → HasCalled d.world (PutLine name.now volume.now start bytes.now) result yard.old yard.new }
-    ensures above { (d : Doubted) → StandsFor d yard.old → over_rvg_at d.world name.now ≡ true → is_data (kind_named (d.world.nodes (site_number d.world name.now)) volume.now) ≡ false
-        → LeadsAbove d (PutLine name.now volume.now start bytes.now) result yard.old yard.new }
     ensures told { IsTold yard.new → IsTold yard.old }
     ensures files { in_files yard.new ≡ in_files yard.old }
 {

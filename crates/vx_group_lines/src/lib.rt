@@ -26,4 +26,4 @@ mod write;
 pub use above::{has_halted, has_rvg};
 pub use blocks::filled;
 pub use found::{holds_group, recover_found};
-pub use lines::{is_of_group, work_group};
+pub use lines::{is_of_group, is_plain, work_group};

@@ -79,8 +79,8 @@ fn is_plain_in(volumes: &[VolumeFacts], place: usize) -> bool
     }
 }
 
-// Whether a volume is one of a group, and no data volume of a replicated volume group.
-fn is_plain<R: Rack>(yard: &Yard<R>, name: &Name, volume: &Name) -> bool
+/// Whether a volume is one of a group, and no data volume of a replicated volume group.
+pub fn is_plain<R: Rack>(yard: &Yard<R>, name: &Name, volume: &Name) -> bool
     requires kept { IsYardKept yard.now }
     requires named { IsSome (seat_of yard.now.facts.items name.now) }
     requires there { (s : ℕ) (f : SiteFacts) → seat_of yard.now.facts.items name.now ≡ Some s → slice_get yard.now.facts.items s ≡ Some f → IsSome (place_of f.volumes volume.now) }
@@ -124,8 +124,8 @@ pub fn is_of_group<R: Rack>(yard: &Yard<R>, words: &ScriptLine) -> bool
     match words {
         ScriptLine::Recover { site } => is_grouped(yard, site),
         ScriptLine::Status { site } => is_group(yard, site),
-        ScriptLine::Write { site, volume, .. } => is_plain(yard, site, volume),
-        ScriptLine::Put { site, volume, .. } => is_plain(yard, site, volume),
+        ScriptLine::Write { site, .. } => is_group(yard, site),
+        ScriptLine::Put { site, .. } => is_group(yard, site),
         ScriptLine::Read { site, volume, .. } => is_plain(yard, site, volume),
         ScriptLine::Show { site, volume, .. } => is_plain(yard, site, volume),
         ScriptLine::Disk { site, .. } => is_group(yard, site),

@@ -1,22 +1,16 @@
 // The lines that write blocks of a volume of a disk group.
-ghost use Rattle.std.specs.Prelude.{◌≡◌, ◌≤◌, ◌<◌, ◌%◌, false, length, true};
+ghost use Rattle.std.specs.Prelude.{◌≡◌, ◌≤◌, ◌<◌, ◌%◌, length, true};
 ghost use Rattle.vx_history.specs.Doubts.{Doubted};
 ghost use Rattle.vx_model.specs.declared.limits.TheConstants.{MOST_CALL_BYTES};
 ghost use Rattle.vx_script.specs.declared.line.ScriptLine.{ScriptLine};
 ghost use Rattle.vx_yard.specs.Writes.{IsWriteFree, IsWriteLine};
-ghost use Rattle.vx_order.specs.Calls.{is_data};
-ghost use Rattle.vx_events.specs.Facts.{site_number};
-ghost use Rattle.vx_events.specs.RvgOver.{kind_named};
-ghost use Rattle.vx_events.specs.RvgSteps.{over_rvg_at};
 ghost use Rattle.vx_events.specs.StepsOver.{is_for_group};
-ghost use Rattle.vx_yard.specs.AboveLines.{LeadsAbove};
 ghost use Rattle.vx_yard.specs.OfSites.{AsAsked, HasCalled};
 ghost use Rattle.vx_yard.specs.Standing.{LeadsOver, StandsFor};
 ghost use Rattle.vx_yard.specs.Working.{IsFree};
 ghost use Rattle.vx_yard.specs.Yards.{IsYardKept, IsTold, in_files};
 
 use crate::noting::group_refused;
-use crate::numbers::number_of;
 use std::alloc::Global;
 use vx_disk::Rack;
 use vx_events::Said;
@@ -41,14 +35,12 @@ pub fn write_plain<R: Rack>(
     ensures leads { (d : Doubted) (line : ScriptLine) → StandsFor d yard.old → IsWriteLine line name.now volume.now start bytes.now → IsFree yard.old line → is_for_group d.world line ≡ true → LeadsOver d line result yard.old yard.new }
     ensures asked { (d : Doubted) (line : ScriptLine) → StandsFor d yard.old → IsWriteLine line name.now volume.now start bytes.now → IsFree yard.old line → is_for_group d.world line ≡ true → AsAsked d.world line yard.old yard.new }
     ensures called { (d : Doubted) (line : ScriptLine) → StandsFor d yard.old → IsWriteLine line name.now volume.now start bytes.now → IsFree yard.old line → is_for_group d.world line ≡ true → HasCalled d.world line result yard.old yard.new }
-    ensures above { (d : Doubted) (line : ScriptLine) → StandsFor d yard.old → IsWriteLine line name.now volume.now start bytes.now → IsFree yard.old line → over_rvg_at d.world name.now ≡ true
-        → is_data (kind_named (d.world.nodes (site_number d.world name.now)) volume.now) ≡ false → LeadsAbove d line result yard.old yard.new }
     ensures told { IsTold yard.new → IsTold yard.old }
     ensures files { in_files yard.new ≡ in_files yard.old }
 {
     let site = yard.site_of(name);
-    let place = number_of(yard, site, volume);
-    match yard.disk_sets[site].write_plain(place, start, bytes) {
+    let place = yard.volume_of(site, volume);
+    match yard.disk_sets[site].write_plain(place as u32, start, bytes) {
         Ok(()) => Said::Done,
         Err(no) => group_refused(yard, alloc, site, no),
     }

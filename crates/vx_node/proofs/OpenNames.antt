@@ -1,20 +1,27 @@
--- A line is open by the sites that it names.
+-- A line is open by the sites and the volume that it names.
 use Rattle.std.proofs.Common.{◌≡◌, ◌∙◌, ℕ, Bool, true, false, List, Option, Some, None, ap, sym, subst, refl}
-use Rattle.std.specs.Prelude.{◌||◌, IsSome, slice_get}
+use Rattle.std.specs.Prelude.{◌&&◌, ◌||◌, IsSome, not, slice_get}
 use Rattle.vx_disk.specs.declared.shelf.Shelf.{Ghosts}
 use Rattle.vx_history.specs.World.{World}
 use Rattle.vx_model.specs.declared.site.SiteState.TheVariants.{Up}
+use Rattle.vx_order.specs.Calls.{is_data}
 use Rattle.vx_order.specs.Order.{line_refusal}
 use Rattle.vx_order.specs.Sites.{named_facts, unknown_one}
 use Rattle.vx_order.specs.Subject.{first_name, second_name}
 use Rattle.vx_order.specs.declared.facts.SiteFacts.{SiteFacts}
+use Rattle.vx_order.specs.declared.facts.VolumeKind.{VolumeKind}
 use Rattle.vx_script.specs.declared.line.ScriptLine.{ScriptLine}
-use Rattle.vx_script.specs.declared.line.ScriptLine.TheVariants.{Deliver, GroupImport, Link, PlexAttach, PlexDetach, Volume}
+use Rattle.vx_script.specs.declared.line.ScriptLine.TheVariants.{Deliver, GroupImport, Link, PlexAttach, PlexDetach, Put, Volume, Write}
 use Rattle.vx_events.proofs.Places.{some_same}
 use Rattle.vx_events.proofs.Refused.{named, passes}
-use Rattle.vx_events.specs.Facts.{seat_of, site_number}
-use Rattle.vx_events.specs.OpenLines.{is_halted_over, is_open}
+use Rattle.vx_events.proofs.RvgEvents.{rvg_apart}
+use Rattle.vx_events.specs.Facts.{place_of, seat_of, site_number}
+use Rattle.vx_events.specs.OpenLines.{is_halted_over, is_open, is_open_volume}
+use Rattle.vx_events.specs.RvgOver.{kind_named}
 use Rattle.vx_events.specs.RvgSteps.{over_rvg_at}
+use Rattle.vx_events.specs.StepsOver.{over_group_at}
+use Rattle.vx_group_lines.proofs.Going.{finds_volume, site_worded, volume_worded}
+use Rattle.vx_group_lines.specs.Plain.{plain_at}
 use Rattle.vx_group_lines.proofs.Tests.{UpMay, attach_may, detach_may}
 use Rattle.vx_link_lines.proofs.AnswerFor.{refused_other}
 use Rattle.vx_yard.proofs.NamedSite.{named_same}
@@ -22,7 +29,7 @@ use Rattle.vx_yard.proofs.Seats.{named_some}
 use Rattle.vx_yard.specs.Working.{IsFree}
 use Rattle.vx_yard.specs.Yards.{in_files}
 use Rattle.vx_yard.specs.declared.yard.Yard.{Yard}
-use Rattle.vx_node.specs.OpenSites.{halted_site, open_second, open_site}
+use Rattle.vx_node.specs.OpenSites.{block_volume, halted_site, open_second, open_site}
 
 -- ---- what the tests found of the names
 
@@ -30,6 +37,8 @@ first_of : (line : ScriptLine) (site : List ℕ) → open_site line ≡ Some sit
 unfolding first_name
 first_of (GroupImport name) site is = is
 first_of (Volume name volume blocks mirrors layout log map policy) site is = is
+first_of (Write name volume start count fill) site is = is
+first_of (Put name volume start bytes) site is = is
 first_of (Link p s sync prot) site is = is
 first_of other site is = absurd (cc)
 
@@ -43,6 +52,11 @@ second_of : (line : ScriptLine) (site : List ℕ) → open_second line ≡ Some 
 unfolding second_name
 second_of (Link p s sync prot) site is = is
 second_of other site is = absurd (cc)
+
+blocks_worded : (line : ScriptLine) (site volume : List ℕ) → open_site line ≡ Some site → block_volume line ≡ Some volume → (site_worded line ≡ Some site) × (volume_worded line ≡ Some volume)
+blocks_worded (Write name v start count fill) site volume is same = (is, same)
+blocks_worded (Put name v start bytes) site volume is same = (is, same)
+blocks_worded other site volume is same = absurd (cc)
 
 none_delivered : (line : ScriptLine) (site : List ℕ) → open_site line ≡ Some site → (number : ℕ) → line ≡ Deliver number → ⊥
 none_delivered (Deliver k) site is number same = absurd (cc)
@@ -65,6 +79,10 @@ module _ {R : Type 0} {g : Ghosts R} where
   finds_second y line site second is other free =
       let p = passes y.facts.items (in_files y) line (tests_free y line site is free) in
       named_some y second (named y.facts.items second (subst (λ (o : Option (List ℕ)). unknown_one o (named_facts y.facts.items o) ≡ None) (second_of line second other) p.other_known))
+
+  pub finds_block : (y : Yard R g) (line : ScriptLine) (site volume : List ℕ) → open_site line ≡ Some site → block_volume line ≡ Some volume → IsFree y line → (s : ℕ) (f : SiteFacts)
+      → seat_of y.facts.items site ≡ Some s → slice_get y.facts.items s ≡ Some f → IsSome (place_of f.volumes volume)
+  finds_block y line site volume is same free = let both = blocks_worded line site volume is same in finds_volume y line site volume both.0 both.1 free
 
   -- of a line that is open at a site that is halted
   halted_free : (y : Yard R g) (line : ScriptLine) (site : List ℕ) → halted_site line ≡ Some site → IsFree y line → line_refusal y.facts.items (in_files y) line ≡ None
@@ -96,6 +114,8 @@ module _ (w : World) where
   open_nowhere (Volume name volume blocks mirrors layout log map policy) runs none = absurd (cc)
   open_nowhere (PlexDetach name volume plex) runs none = absurd (cc)
   open_nowhere (PlexAttach name volume plex) runs none = absurd (cc)
+  open_nowhere (Write name volume start count fill) runs none = absurd (cc)
+  open_nowhere (Put name volume start bytes) runs none = absurd (cc)
   open_nowhere (Link p s sync prot) runs none = absurd (cc)
   open_nowhere other runs none = refl
 
@@ -114,16 +134,43 @@ module _ (w : World) where
   either_first : (name site second : List ℕ) (b : Bool) → (let o : Option (List ℕ) = Some name in o ≡ Some site) → over_rvg_at w site ≡ b → (over_rvg_at w name || over_rvg_at w second) ≡ (b || over_rvg_at w second)
   either_first name site second b is over = ap (λ (x : Bool). x || over_rvg_at w second) (over_first name site b is over)
 
-  pub open_there : (line : ScriptLine) (site : List ℕ) → open_site line ≡ Some site → over_rvg_at w site ≡ true → is_open w line ≡ true
-  open_there (GroupImport name) site is over = over_first name site true is over
-  open_there (Volume name volume blocks mirrors layout log map policy) site is over = over_first name site true is over
-  open_there (Link p s sync prot) site is over = either_first p site s true is over
-  open_there other site is over = absurd (cc)
+  pub open_there : (line : ScriptLine) (site : List ℕ) → open_site line ≡ Some site → block_volume line ≡ None → over_rvg_at w site ≡ true → is_open w line ≡ true
+  open_there (GroupImport name) site is none over = over_first name site true is over
+  open_there (Volume name volume blocks mirrors layout log map policy) site is none over = over_first name site true is over
+  open_there (Write name volume start count fill) site is none over = absurd (cc)
+  open_there (Put name volume start bytes) site is none over = absurd (cc)
+  open_there (Link p s sync prot) site is none over = either_first p site s true is over
+  open_there other site is none over = absurd (cc)
+
+  -- of a line that writes blocks it is said by its volume
+  plain_by : (a b : Bool) (k : VolumeKind) → b ≡ true → (b ≡ true → a ≡ false) → (a || (b && not (is_data k))) ≡ (b && not (is_data k))
+  plain_by true b k is apart = absurd (let clash : true ≡ false = apart is in cc)
+  plain_by false b k is apart = refl
+
+  plain_there : (site volume : List ℕ) → over_rvg_at w site ≡ true → plain_at w site volume ≡ is_open_volume (w.nodes (site_number w site)) volume
+  plain_there site volume over =
+      plain_by (over_group_at w site) (over_rvg_at w site) (kind_named (w.nodes (site_number w site)) volume) over (λ is. rvg_apart (w.nodes (site_number w site)) is)
+
+  block_there : (name site v volume : List ℕ) → (let o : Option (List ℕ) = Some name in o ≡ Some site) → (let o : Option (List ℕ) = Some v in o ≡ Some volume) → over_rvg_at w site ≡ true
+      → plain_at w site volume ≡ is_open_volume (w.nodes (site_number w name)) v
+  block_there name site v volume is same over =
+      plain_there site volume over ∙ ap (λ (n : List ℕ). is_open_volume (w.nodes (site_number w n)) volume) (sym (some_same is))
+      ∙ ap (λ (x : List ℕ). is_open_volume (w.nodes (site_number w name)) x) (sym (some_same same))
+
+  pub open_block : (line : ScriptLine) (site volume : List ℕ) → open_site line ≡ Some site → block_volume line ≡ Some volume → over_rvg_at w site ≡ true → plain_at w site volume ≡ is_open w line
+  open_block (Write name v start count fill) site volume is same over = block_there name site v volume is same over
+  open_block (Put name v start bytes) site volume is same over = block_there name site v volume is same over
+  open_block other site volume is same over = absurd (cc)
 
   -- where the first site has none
+  volume_off : (name site volume : List ℕ) → (let o : Option (List ℕ) = Some name in o ≡ Some site) → over_rvg_at w site ≡ false → is_open_volume (w.nodes (site_number w name)) volume ≡ false
+  volume_off name site volume is off = ap (λ (b : Bool). b && not (is_data (kind_named (w.nodes (site_number w name)) volume))) (over_first name site false is off)
+
   pub open_not : (line : ScriptLine) (site : List ℕ) → open_site line ≡ Some site → open_second line ≡ None → over_rvg_at w site ≡ false → is_open w line ≡ false
   open_not (GroupImport name) site is none off = over_first name site false is off
   open_not (Volume name volume blocks mirrors layout log map policy) site is none off = over_first name site false is off
+  open_not (Write name volume start count fill) site is none off = volume_off name site volume is off
+  open_not (Put name volume start bytes) site is none off = volume_off name site volume is off
   open_not (Link p s sync prot) site is none off = absurd (cc)
   open_not other site is none off = absurd (cc)
 

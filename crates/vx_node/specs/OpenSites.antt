@@ -1,12 +1,14 @@
 -- The names in a line by which it is told whether it is open.
 use Rattle.std.specs.Prelude.{ℕ, List, Option, Some, None}
 use Rattle.vx_script.specs.declared.line.ScriptLine.{ScriptLine}
-use Rattle.vx_script.specs.declared.line.ScriptLine.TheVariants.{GroupImport, Link, PlexAttach, PlexDetach, Volume}
+use Rattle.vx_script.specs.declared.line.ScriptLine.TheVariants.{GroupImport, Link, PlexAttach, PlexDetach, Put, Volume, Write}
 
--- a site: where a replicated volume group is over its group, the line is open
+-- a site: where a replicated volume group is over its group, the line is open, or writes blocks
 abbrev pub open_site : ScriptLine → Option (List ℕ)
 open_site (GroupImport site) = Some site
 open_site (Volume site volume blocks mirrors layout log map policy) = Some site
+open_site (Write site volume start count fill) = Some site
+open_site (Put site volume start bytes) = Some site
 open_site (Link p s sync prot) = Some p
 open_site other = None
 
@@ -20,3 +22,9 @@ halted_site other = None
 abbrev pub open_second : ScriptLine → Option (List ℕ)
 open_second (Link p s sync prot) = Some s
 open_second other = None
+
+-- the volume whose blocks it writes
+abbrev pub block_volume : ScriptLine → Option (List ℕ)
+block_volume (Write site volume start count fill) = Some volume
+block_volume (Put site volume start bytes) = Some volume
+block_volume other = None

@@ -7,21 +7,24 @@ ghost use Rattle.vx_yard.specs.Carries.{Carries};
 ghost use Rattle.vx_yard.specs.Standing.{StandsFor};
 ghost use Rattle.vx_yard.specs.Working.{IsFree};
 ghost use Rattle.vx_yard.specs.Yards.{IsYardKept, in_files};
-ghost use Rattle.vx_node.specs.OpenSites.{halted_site, open_second, open_site};
+ghost use Rattle.vx_node.specs.OpenSites.{block_volume, halted_site, open_second, open_site};
 
 use crate::answering::refusal;
 use vx_disk::Rack;
-use vx_group_lines::{has_halted, has_rvg};
+use vx_group_lines::{has_halted, has_rvg, is_plain};
 use vx_model::Name;
 use vx_script::ScriptLine;
 use vx_yard::Yard;
 
-// A site at which a line is open, where a replicated volume group is over its group.
+// A site at which a line is open, or writes blocks, where a replicated volume group is over its group.
 fn open_site(line: &ScriptLine) -> Option<Name>
     ensures { result ≡ open_site line.now }
 {
     match line {
-        ScriptLine::GroupImport { site } | ScriptLine::Volume { site, .. } => Some(*site),
+        ScriptLine::GroupImport { site }
+        | ScriptLine::Volume { site, .. }
+        | ScriptLine::Write { site, .. }
+        | ScriptLine::Put { site, .. } => Some(*site),
         ScriptLine::Link { primary, .. } => Some(*primary),
         _ => None,
     }
@@ -47,7 +50,30 @@ fn open_second(line: &ScriptLine) -> Option<Name>
     }
 }
 
-// A line of whose first site it is known that it has none.
+// The volume whose blocks it writes.
+fn block_volume(line: &ScriptLine) -> Option<Name>
+    ensures { result ≡ block_volume line.now }
+{
+    match line {
+        ScriptLine::Write { volume, .. } | ScriptLine::Put { volume, .. } => Some(*volume),
+        _ => None,
+    }
+}
+
+// A line at a site that has one.
+fn is_open_above<R: Rack>(yard: &Yard<R>, line: &ScriptLine, site: &Name) -> bool
+    requires kept { IsYardKept yard.now }
+    requires free { IsFree yard.now line.now }
+    requires there { open_site line.now ≡ Some site.now }
+    ensures { (d : Doubted) → StandsFor d yard.now → over_rvg_at d.world site.now ≡ true → result ≡ is_open d.world line.now }
+{
+    match block_volume(line) {
+        Some(volume) => is_plain(yard, site, &volume),
+        None => true,
+    }
+}
+
+// One of which that site has none.
 fn is_open_beside<R: Rack>(yard: &Yard<R>, line: &ScriptLine, site: &Name) -> bool
     requires kept { IsYardKept yard.now }
     requires free { IsFree yard.now line.now }
@@ -68,7 +94,7 @@ fn is_open_from<R: Rack>(yard: &Yard<R>, line: &ScriptLine, site: &Name) -> bool
     ensures { (d : Doubted) → StandsFor d yard.now → result ≡ is_open d.world line.now }
 {
     if has_rvg(yard, site) {
-        true
+        is_open_above(yard, line, site)
     } else {
         is_open_beside(yard, line, site)
     }

@@ -41,6 +41,7 @@ use Rattle.vx_events.specs.Fails.{IsSiteDisk}
 use Rattle.vx_events.specs.GroupNotes.{IsKnown, note_at}
 use Rattle.vx_events.specs.LinkedFacts.{linked_fact}
 use Rattle.vx_events.specs.Lists.{Choice, events_of}
+use Rattle.vx_order.specs.declared.facts.VolumeKind.TheVariants.{Data}
 use Rattle.vx_events.specs.RvgOver.{SaysOver, is_plain_kind, kind_named, burnt_over}
 use Rattle.vx_events.specs.RvgViews.{is_over_rvg}
 use Rattle.vx_events.specs.declared.said.Said.{Said}
@@ -89,16 +90,16 @@ record WriteSo (told : Type 0) (d : Doubted) (s v start : ℕ) (bytes : List ℕ
   notes : (u : World) → noted s line u ≡ worked_on u s
 
 write_so : (told : Type 0) (d : Doubted) (line : ScriptLine) (name volume : List ℕ) (start : ℕ) (bytes : List ℕ) (s v : ℕ) → IsWriteLine line name volume start bytes → site_number d.world name ≡ s → volume_number (d.world.nodes s) volume ≡ v
-    → is_plain_kind (kind_named (d.world.nodes s) volume) ≡ false → WriteSo told d s v start bytes line
-write_so told d line name volume start bytes s v (OfWrite count fill is filled) number place plain =
+    → kind_named (d.world.nodes s) volume ≡ Data → WriteSo told d s v start bytes line
+write_so told d line name volume start bytes s v (OfWrite count fill is filled) number place kind =
     subst (λ (l : ScriptLine). WriteSo told d s v start bytes l) (sym is) (record {
-      over = line_write told d name volume s number start count fill;
+      over = line_write told d name volume s number start count fill kind;
       events = λ c. write_events d.world name volume start (replicate (512 * count) fill) s v number place ∙ ap (λ (bs : List ℕ). let es : List Event = WriteAt s v start bs None ∷ [] in es) (sym filled);
       notes = λ u. refl;
     })
-write_so told d line name volume start bytes s v (OfPut is one) number place plain =
+write_so told d line name volume start bytes s v (OfPut is one) number place kind =
     subst (λ (l : ScriptLine). WriteSo told d s v start bytes l) (sym is) (record {
-      over = line_put told d name volume s number start bytes;
+      over = line_put told d name volume s number start bytes kind;
       events = λ c. write_events d.world name volume start bytes s v number place;
       notes = λ u. refl;
     })
@@ -130,7 +131,7 @@ module _ {R : Type 0} {g : Ghosts R} (d : Doubted) (old new : Yard R g) (line : 
   lets free = let_in d.world s x to.changes to.seat.below to.can to.primary to.some to.few free to.goes
 
   so : WriteSo (IsTold new) d s v start bytes line
-  so = write_so (IsTold new) d line name volume start bytes s v is to.seat.number to.place plain
+  so = write_so (IsTold new) d line name volume start bytes s v is to.seat.number to.place to.named
 
   -- what the line asks of the disks of the site
   pub record Wrote (before after : DiskSet R g) : Type 0 where

@@ -14,8 +14,13 @@ use Rattle.vx_history.specs.Events.{admitted}
 use Rattle.vx_history.specs.World.{Node, World}
 use Rattle.vx_history.specs.declared.admission.Change.{Change}
 use Rattle.vx_disk.specs.declared.shelf.Shelf.{Ghosts}
+use Rattle.vx_order.specs.Calls.{span_role, span_unknown}
 use Rattle.vx_order.specs.Order.{line_refusal}
+use Rattle.vx_order.specs.Spans.{span_of}
+use Rattle.vx_order.specs.Subject.{first_name}
 use Rattle.vx_order.specs.declared.facts.SiteFacts.{SiteFacts}
+use Rattle.vx_order.specs.declared.span.Span.{Span}
+use Rattle.vx_order.specs.declared.span.Way.TheVariants.{Writes}
 use Rattle.vx_script.specs.declared.line.ScriptLine.{ScriptLine}
 use Rattle.vx_script.specs.declared.line.ScriptLine.TheVariants.{Write as WriteLine, Put as PutLine}
 use Rattle.vx_diskset.specs.DiskSets.{CanWrite}
@@ -26,7 +31,7 @@ use Rattle.vx_events.specs.LinkedFacts.{linked_fact}
 use Rattle.vx_events.specs.StepsOver.{over_group_at}
 use Rattle.vx_events.specs.Lines.{write_in}
 use Rattle.vx_events.proofs.LinkWrites.{put_let_in, write_let_in}
-use Rattle.vx_events.proofs.Refused.{Named}
+use Rattle.vx_events.proofs.Refused.{Named, passes}
 use Rattle.vx_events.proofs.RefusedCalls.{WriteMay, put_may, write_may, CallMay}
 use Rattle.vx_yard.specs.Standing.{StandsFor}
 use Rattle.vx_yard.specs.Working.{IsFree, IsUngroupedAt}
@@ -38,7 +43,7 @@ use Rattle.vx_yard.proofs.RawSites.{ungrouped_over, ungrouped_site}
 use Rattle.vx_yard.proofs.NamedSite.{SiteAt, fact_named, named_at}
 use Rattle.vx_order.specs.declared.facts.VolumeKind.TheVariants.{Data}
 use Rattle.vx_site_lines.proofs.FetchLine.{FetchAt, fetch_at}
-use Rattle.vx_events.proofs.DataNamed.{SpanTests, kind_found, put_tests, span_kind, span_led, write_tests}
+use Rattle.vx_events.proofs.DataNamed.{SpanTests, kind_found, span_kind, span_led}
 use Rattle.vx_order.specs.declared.facts.VolumeFacts.{VolumeFacts}
 use Rattle.std.specs.List.{find}
 use Rattle.vx_events.specs.RvgViews.{is_over_rvg}
@@ -55,6 +60,22 @@ block_one bytes is = omega (arith, is)
 
 abbrev pub the_write : ℕ → ℕ → List ℕ → Write
 the_write v start bytes = record { volume = v; start = start; bytes = bytes }
+
+write_tests : (f : SiteFacts) (sites : List SiteFacts) (files : Bool) (name volume : List ℕ) (start count fill : ℕ) (n : Named sites name) → n.facts ≡ f → line_refusal sites files (WriteLine name volume start count fill) ≡ None → SpanTests f volume start count
+unfolding first_name span_of
+write_tests f sites files name volume start count fill n is free =
+    let p = passes sites files (WriteLine name volume start count fill) free in
+    let span : Span = record { volume = volume; start = start; count = count; way = Writes } in
+    let there = n.found ∙ ap (λ (x : SiteFacts). Some x) is in
+    record { known = subst (λ (o : Option SiteFacts). span_unknown o (Some span) ≡ None) there p.volume; role = subst (λ (o : Option SiteFacts). span_role o (Some span) ≡ None) there p.call_role }
+
+put_tests : (f : SiteFacts) (sites : List SiteFacts) (files : Bool) (name volume : List ℕ) (start : ℕ) (bytes : List ℕ) (n : Named sites name) → n.facts ≡ f → line_refusal sites files (PutLine name volume start bytes) ≡ None → SpanTests f volume start 1
+unfolding first_name span_of
+put_tests f sites files name volume start bytes n is free =
+    let p = passes sites files (PutLine name volume start bytes) free in
+    let span : Span = record { volume = volume; start = start; count = 1; way = Writes } in
+    let there = n.found ∙ ap (λ (x : SiteFacts). Some x) is in
+    record { known = subst (λ (o : Option SiteFacts). span_unknown o (Some span) ≡ None) there p.volume; role = subst (λ (o : Option SiteFacts). span_role o (Some span) ≡ None) there p.call_role }
 
 -- what is let in by the names of a line is let in by its numbers
 goes_by : (w : World) (name volume : List ℕ) (start : ℕ) (bytes other : List ℕ) (s v : ℕ) → site_number w name ≡ s → volume_number (w.nodes s) volume ≡ v → other ≡ bytes
@@ -102,6 +123,7 @@ module _ {R : Type 0} {g : Ghosts R} where
     pub seat : SiteAt d y name s
     pub apart : is_over_group (d.world.nodes s) ≡ false
     pub place : volume_number (d.world.nodes s) volume ≡ v
+    pub named : kind_named (d.world.nodes s) volume ≡ Data
     pub can : CanWrite (d.world.nodes s) v start (blocks_in bytes)
     pub primary : (d.world.nodes s).role ≡ Primary
     pub some : 1 ≤ blocks_in bytes
@@ -150,6 +172,7 @@ module _ {R : Type 0} {g : Ghosts R} where
           seat = read.seat;
           apart = read.apart;
           place = read.volume_is;
+          named = kind_is d y name volume start (blocks_in bytes) s read.seat at may.call ∙ kind;
           can = record {
             origin = ap is_origin primary;
             up = read.can.up;

@@ -46,12 +46,3 @@ returns-then-is_off-clause-maps g c = λ n note up fits.
 pub returns-else-is_off-clause-maps : goal.returns-else-is_off-clause-maps
 returns-else-is_off-clause-maps g c = λ n note up fits.
     subst (λ r. WroteMapped (plain_write c.args.volume c.args.block c.args.bytes.now) c.args.group.now.site c.write.new.self r) c.in-Err.is (c.write.ensures.maps n note up fits)
-
-pub returns-in-Ok-clause-volumes : goal.returns-in-Ok-clause-volumes
-returns-in-Ok-clause-volumes g c = c.write.ensures.volumes
-
-pub returns-then-is_off-clause-volumes : goal.returns-then-is_off-clause-volumes
-returns-then-is_off-clause-volumes g c = c.write.ensures.volumes
-
-pub returns-else-is_off-clause-volumes : goal.returns-else-is_off-clause-volumes
-returns-else-is_off-clause-volumes g c = c.write.ensures.volumes

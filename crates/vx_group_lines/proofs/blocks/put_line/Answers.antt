@@ -2,7 +2,6 @@
 use Rattle.std.proofs.Common.{◌≡◌, ◌∙◌, List, ℕ, ap, arith, length, refl, subst, sym, true}
 use Rattle.vx_script.specs.declared.line.ScriptLine.TheVariants.{Put as PutLine}
 use Rattle.vx_events.specs.StepsOver.{is_for_group}
-use Rattle.vx_yard.specs.AboveLines.{LeadsAbove}
 use Rattle.vx_yard.specs.OfSites.{AsAsked, HasCalled}
 use Rattle.vx_yard.specs.Standing.{LeadsOver}
 use Rattle.vx_yard.specs.Working.{IsFree}
@@ -48,10 +47,3 @@ returns-clause-called g c = λ d stands group.
     (OfPut refl (ap (λ (bs : List ℕ). length bs) c.as_bytes.ensures.bytes ∙ c.as_bytes.ensures.whole))
     (subst (λ (bs : List ℕ). IsFree c.args.yard.now (PutLine c.args.name.now c.args.volume.now c.args.start bs)) (sym c.as_bytes.ensures.bytes) c.requires.free)
     (subst (λ (bs : List ℕ). is_for_group d.world (PutLine c.args.name.now c.args.volume.now c.args.start bs) ≡ true) (sym c.as_bytes.ensures.bytes) group))
-
-pub returns-clause-above : goal.returns-clause-above
-returns-clause-above g c = λ d stands over plain.
-    subst (λ (bs : List ℕ). LeadsAbove d (PutLine c.args.name.now c.args.volume.now c.args.start bs) c.write_plain.result c.args.yard.now c.write_plain.new.yard) c.as_bytes.ensures.bytes
-    (c.write_plain.ensures.above d (PutLine c.args.name.now c.args.volume.now c.args.start c.as_bytes.result.now) stands
-    (OfPut refl (ap (λ (bs : List ℕ). length bs) c.as_bytes.ensures.bytes ∙ c.as_bytes.ensures.whole))
-    (subst (λ (bs : List ℕ). IsFree c.args.yard.now (PutLine c.args.name.now c.args.volume.now c.args.start bs)) (sym c.as_bytes.ensures.bytes) c.requires.free) over plain)

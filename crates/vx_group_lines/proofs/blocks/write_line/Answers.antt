@@ -7,7 +7,6 @@ use Rattle.vx_events.proofs.RefusedCalls.{write_may}
 use Rattle.vx_yard.proofs.NamedSite.{unbegun_for, unbegun_site}
 use Rattle.vx_yard.specs.Writes.IsWriteLine.{OfWrite}
 use Rattle.vx_yard.specs.Yards.{in_files}
-use Rattle.vx_above.proofs.Works.{beside_short}
 use Rattle.vx_group_lines.proofs.WorkLines.{filled_is, filled_length}
 use Rattle.vx_group_lines.proofs.blocks.write_line.Goals as goal
 
@@ -53,12 +52,3 @@ pub returns-in-Err-clause-asked : goal.returns-in-Err-clause-asked
 returns-in-Err-clause-asked g c = λ d stands group.
     let may = write_may c.args.yard.now.facts.items (in_files c.args.yard.now) c.args.name.now c.args.volume.now c.args.start c.args.count c.args.fill c.requires.free in
     unbegun_site SameFailing d c.args.yard.now c.args.name.now failing_same stands may.call.site
-
-pub returns-in-Ok-clause-above : goal.returns-in-Ok-clause-above
-returns-in-Ok-clause-above g c = λ d stands over plain.
-    let may = write_may c.args.yard.now.facts.items (in_files c.args.yard.now) c.args.name.now c.args.volume.now c.args.start c.args.count c.args.fill c.requires.free in
-    c.write_plain.ensures.above d (WriteLine c.args.name.now c.args.volume.now c.args.start c.args.count c.args.fill) stands (OfWrite c.args.count c.args.fill refl (c.deref.ensures.value ∙ filled_is c.args.count c.args.fill _ may.call.few c.in-Ok.ensures)) c.requires.free over plain
-
-pub returns-in-Err-clause-above : goal.returns-in-Err-clause-above
-returns-in-Err-clause-above g c = λ d stands over plain.
-    beside_short d (WriteLine c.args.name.now c.args.volume.now c.args.start c.args.count c.args.fill) c.args.yard.now c.args.yard.now (unbegun_for d c.args.yard.now stands)

@@ -1,7 +1,7 @@
 -- Whether a line goes to a group: by its word, or by its site.
 use Rattle.std.proofs.Common.{◌∙◌, ap, sym}
 use Rattle.vx_script.specs.declared.line.ScriptLine.{ScriptLine}
-use Rattle.vx_group_lines.proofs.Going.{always_goes, finds_site, finds_volume, site_worded, volume_worded}
+use Rattle.vx_group_lines.proofs.Going.{always_goes, finds_site, site_worded}
 use Rattle.vx_group_lines.proofs.GroupRead.{read_words, reads_there}
 use Rattle.vx_group_lines.proofs.lines.is_of_group.Goals as goal
 
@@ -14,25 +14,17 @@ is_grouped-requires-clause-named g c = λ κs within. finds_site c.args.yard.now
 pub is_group-requires-clause-named : goal.is_group-requires-clause-named
 is_group-requires-clause-named g c = λ κs within. finds_site c.args.yard.now c.args.words.now c.in-Status.site (ap (λ (line : ScriptLine). site_worded line) c.in-Status.is) c.requires.free
 
+pub is_group-requires-in-Write-clause-named : goal.is_group-requires-in-Write-clause-named
+is_group-requires-in-Write-clause-named g c = λ κs within. finds_site c.args.yard.now c.args.words.now c.in-Write.site (ap (λ (line : ScriptLine). site_worded line) c.in-Write.is) c.requires.free
+
+pub is_group-requires-in-Put-clause-named : goal.is_group-requires-in-Put-clause-named
+is_group-requires-in-Put-clause-named g c = λ κs within. finds_site c.args.yard.now c.args.words.now c.in-Put.site (ap (λ (line : ScriptLine). site_worded line) c.in-Put.is) c.requires.free
+
 pub is_plain-requires-clause-named : goal.is_plain-requires-clause-named
-is_plain-requires-clause-named g c = λ κs within. finds_site c.args.yard.now c.args.words.now c.in-Write.site (ap (λ (line : ScriptLine). site_worded line) c.in-Write.is) c.requires.free
+is_plain-requires-clause-named g c = λ κs within. finds_site c.args.yard.now c.args.words.now c.in-Read.site (ap (λ (line : ScriptLine). site_worded line) c.in-Read.is) c.requires.free
 
 pub is_plain-requires-clause-there : goal.is_plain-requires-clause-there
-is_plain-requires-clause-there g c = λ κs within.
-    finds_volume c.args.yard.now c.args.words.now c.in-Write.site c.in-Write.volume (ap (λ (line : ScriptLine). site_worded line) c.in-Write.is) (ap (λ (line : ScriptLine). volume_worded line) c.in-Write.is) c.requires.free
-
-pub is_plain-requires-in-Put-clause-named : goal.is_plain-requires-in-Put-clause-named
-is_plain-requires-in-Put-clause-named g c = λ κs within. finds_site c.args.yard.now c.args.words.now c.in-Put.site (ap (λ (line : ScriptLine). site_worded line) c.in-Put.is) c.requires.free
-
-pub is_plain-requires-in-Put-clause-there : goal.is_plain-requires-in-Put-clause-there
-is_plain-requires-in-Put-clause-there g c = λ κs within.
-    finds_volume c.args.yard.now c.args.words.now c.in-Put.site c.in-Put.volume (ap (λ (line : ScriptLine). site_worded line) c.in-Put.is) (ap (λ (line : ScriptLine). volume_worded line) c.in-Put.is) c.requires.free
-
-pub is_plain-requires-in-Read-clause-named : goal.is_plain-requires-in-Read-clause-named
-is_plain-requires-in-Read-clause-named g c = λ κs within. finds_site c.args.yard.now c.args.words.now c.in-Read.site (ap (λ (line : ScriptLine). site_worded line) c.in-Read.is) c.requires.free
-
-pub is_plain-requires-in-Read-clause-there : goal.is_plain-requires-in-Read-clause-there
-is_plain-requires-in-Read-clause-there g c = λ κs within. reads_there c.args.yard.now c.args.words.now c.in-Read.site c.in-Read.volume (ap (λ (line : ScriptLine). read_words line) c.in-Read.is) c.requires.free
+is_plain-requires-clause-there g c = λ κs within. reads_there c.args.yard.now c.args.words.now c.in-Read.site c.in-Read.volume (ap (λ (line : ScriptLine). read_words line) c.in-Read.is) c.requires.free
 
 pub is_plain-requires-in-Show-clause-named : goal.is_plain-requires-in-Show-clause-named
 is_plain-requires-in-Show-clause-named g c = λ κs within. finds_site c.args.yard.now c.args.words.now c.in-Show.site (ap (λ (line : ScriptLine). site_worded line) c.in-Show.is) c.requires.free

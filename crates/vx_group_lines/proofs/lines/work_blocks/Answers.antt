@@ -6,7 +6,7 @@ use Rattle.vx_yard.specs.OfSites.{AsAsked, HasCalled}
 use Rattle.vx_yard.specs.Working.{IsFree}
 use Rattle.vx_group_lines.specs.Plain.IsReadOf.{ByRead, ByShow}
 use Rattle.vx_group_lines.proofs.WorkLines.{memory_short, ok_any, rest_none}
-use Rattle.vx_group_lines.proofs.Worked.{goes_alone, works_read, works_write}
+use Rattle.vx_group_lines.proofs.Worked.{goes_alone, works_closed, works_read}
 use Rattle.vx_group_lines.proofs.lines.work_blocks.Goals as goal
 
 pub write_line-requires-clause-free : goal.write_line-requires-clause-free
@@ -14,8 +14,8 @@ write_line-requires-clause-free g c = λ κs lives. subst (λ line. IsFree c.arg
 
 pub returns-in-Write-clause-leads : goal.returns-in-Write-clause-leads
 returns-in-Write-clause-leads g c = λ d stands goes closed.
-    works_write d c.args.yard.now c.write_line.new.yard c.args.words.now _ c.in-Write.site c.in-Write.volume c.write_line.result c.in-Write.is tt refl refl refl refl goes
-    (λ group. c.write_line.ensures.leads d stands group) (λ over plain. c.write_line.ensures.above d stands over plain)
+    works_closed d c.args.yard.now c.write_line.new.yard c.args.words.now _ c.write_line.result c.in-Write.is tt stands c.requires.kept c.requires.free goes closed
+    (λ group. c.write_line.ensures.leads d stands group)
 
 pub returns-in-Write-clause-asked : goal.returns-in-Write-clause-asked
 returns-in-Write-clause-asked g c = λ d stands goes off. subst (λ line. AsAsked d.world line c.args.yard.now c.write_line.new.yard) (sym c.in-Write.is) (c.write_line.ensures.asked d stands (goes_alone d c.args.yard.now c.args.words.now _ c.in-Write.is tt stands c.requires.kept c.requires.free goes off))
@@ -32,8 +32,8 @@ put_line-requires-clause-free g c = λ κs lives. subst (λ line. IsFree c.args.
 
 pub returns-in-Put-clause-leads : goal.returns-in-Put-clause-leads
 returns-in-Put-clause-leads g c = λ d stands goes closed.
-    works_write d c.args.yard.now c.put_line.new.yard c.args.words.now _ c.in-Put.site c.in-Put.volume (Ok c.put_line.result) c.in-Put.is tt refl refl refl refl goes
-    (λ group. c.put_line.ensures.leads d stands group) (λ over plain. c.put_line.ensures.above d stands over plain)
+    works_closed d c.args.yard.now c.put_line.new.yard c.args.words.now _ (Ok c.put_line.result) c.in-Put.is tt stands c.requires.kept c.requires.free goes closed
+    (λ group. c.put_line.ensures.leads d stands group)
 
 pub returns-in-Put-clause-asked : goal.returns-in-Put-clause-asked
 returns-in-Put-clause-asked g c = λ d stands goes off. subst (λ line. AsAsked d.world line c.args.yard.now c.put_line.new.yard) (sym c.in-Put.is) (c.put_line.ensures.asked d stands (goes_alone d c.args.yard.now c.args.words.now _ c.in-Put.is tt stands c.requires.kept c.requires.free goes off))

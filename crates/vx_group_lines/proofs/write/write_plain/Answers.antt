@@ -8,19 +8,23 @@ use Rattle.vx_events.specs.StepsOver.{fact_of_group}
 use Rattle.vx_events.specs.declared.said.Said.{Said}
 use Rattle.vx_yard.proofs.ChangeSite.{told_before}
 use Rattle.vx_yard.proofs.Lists.{get_at}
-use Rattle.vx_yard.proofs.Seats.{named_some}
-use Rattle.vx_yard.specs.AboveLines.{LeadsAbove}
+use Rattle.vx_yard.proofs.Seats.{named_some, volume_there}
 use Rattle.vx_yard.specs.Standing.{LeadsOver}
 use Rattle.vx_yard.specs.Stands.{AreTold}
-use Rattle.vx_group_lines.proofs.BelowWrites.{bare_fact, stop_above, write_above}
 use Rattle.vx_group_lines.proofs.GroupCalls.{at_up}
-use Rattle.vx_group_lines.proofs.GroupPlain.{plain_fits, plain_numbered}
+use Rattle.vx_group_lines.proofs.GroupPlain.{plain_call, plain_fits}
 use Rattle.vx_group_lines.proofs.GroupWrite.{block_count, may_write, write_asks, write_calls, write_done, write_over, write_stops}
 use Rattle.vx_group_lines.proofs.write.write_plain.Goals as goal
 
 pub site_of-site-requires-clause-named : goal.site_of-site-requires-clause-named
 site_of-site-requires-clause-named g c = λ κs within.
     let free = c.requires.free in named_some c.args.yard.now c.args.name.now (may_write c.args.yard.now free.0 c.args.name.now c.args.volume.now c.args.start c.args.bytes.now free.1 free.2).call.site
+
+pub volume_of-place-requires-clause-named : goal.volume_of-place-requires-clause-named
+volume_of-place-requires-clause-named g c = λ κs within f at.
+    let free = c.requires.free in
+    volume_there c.args.yard.now c.args.name.now c.args.volume.now c.args.start (blocks_in c.args.bytes.now) c.site_of-site.result f
+    (may_write c.args.yard.now free.0 c.args.name.now c.args.volume.now c.args.start c.args.bytes.now free.1 free.2).call c.site_of-site.ensures.seat at
 
 pub returns-in-Ok-clause-leads : goal.returns-in-Ok-clause-leads
 returns-in-Ok-clause-leads g c = λ d line stands is free over.
@@ -31,10 +35,10 @@ returns-in-Ok-clause-leads g c = λ d line stands is free over.
     let at = get_at y.disk_sets.items s e c.site_of-site.ensures.disk_set c.index_mut.ensures.value in
     let over_at = write_over d.world line c.args.name.now c.args.volume.now c.args.start c.args.bytes.now is over in
     let may = may_write y line c.args.name.now c.args.volume.now c.args.start c.args.bytes.now is free in
-    let plain = plain_numbered d y c.args.name.now c.args.volume.now c.args.start (blocks_in c.args.bytes.now) s c.number_of-place.result e stands over_at may.call seat at c.number_of-place.ensures in
+    let plain = plain_call d y c.args.name.now c.args.volume.now c.args.start (blocks_in c.args.bytes.now) s c.volume_of-place.result e stands over_at may.call seat at c.volume_of-place.ensures.place in
     let up = at_up d y c.args.name.now s e plain.at plain.up in
-    let fits = plain_fits d y c.args.name.now c.args.volume.now c.args.start (blocks_in c.args.bytes.now) s c.number_of-place.result e _ plain (block_count line c.args.name.now c.args.volume.now c.args.start c.args.bytes.now is) in
-    write_done d y _ line c.args.name.now c.args.volume.now c.args.start c.args.bytes.now s c.number_of-place.result e c.write_plain.new.self stands is plain (record { at = plain.at; changed = record { there = at; later = c.in-Ok.ensures.later; disk_sets = refl; racks = refl }; failing = c.in-Ok.ensures.failing }) c.in-Ok.ensures.since _
+    let fits = plain_fits d y c.args.name.now c.args.volume.now c.args.start (blocks_in c.args.bytes.now) s c.volume_of-place.result e _ plain (block_count line c.args.name.now c.args.volume.now c.args.start c.args.bytes.now is) in
+    write_done d y _ line c.args.name.now c.args.volume.now c.args.start c.args.bytes.now s c.volume_of-place.result e c.write_plain.new.self stands is plain (record { at = plain.at; changed = record { there = at; later = c.in-Ok.ensures.later; disk_sets = refl; racks = refl }; failing = c.in-Ok.ensures.failing }) c.in-Ok.ensures.since _
     (c.in-Ok.ensures.wrote (d.world.nodes s) (note_at (d.world.nodes s)) up fits) (c.in-Ok.ensures.maps (d.world.nodes s) (note_at (d.world.nodes s)) up fits) (c.in-Ok.ensures.cut (d.world.nodes s) (note_at (d.world.nodes s)) up) refl (record { flight = refl; assemblies = refl; feeders = refl })
 
 pub returns-in-Err-clause-leads : goal.returns-in-Err-clause-leads
@@ -46,12 +50,12 @@ returns-in-Err-clause-leads g c = λ d line stands is free over.
     let at = get_at y.disk_sets.items s e c.site_of-site.ensures.disk_set c.index_mut.ensures.value in
     let over_at = write_over d.world line c.args.name.now c.args.volume.now c.args.start c.args.bytes.now is over in
     let may = may_write y line c.args.name.now c.args.volume.now c.args.start c.args.bytes.now is free in
-    let plain = plain_numbered d y c.args.name.now c.args.volume.now c.args.start (blocks_in c.args.bytes.now) s c.number_of-place.result e stands over_at may.call seat at c.number_of-place.ensures in
+    let plain = plain_call d y c.args.name.now c.args.volume.now c.args.start (blocks_in c.args.bytes.now) s c.volume_of-place.result e stands over_at may.call seat at c.volume_of-place.ensures.place in
     let up = at_up d y c.args.name.now s e plain.at plain.up in
-    let fits = plain_fits d y c.args.name.now c.args.volume.now c.args.start (blocks_in c.args.bytes.now) s c.number_of-place.result e _ plain (block_count line c.args.name.now c.args.volume.now c.args.start c.args.bytes.now is) in
+    let fits = plain_fits d y c.args.name.now c.args.volume.now c.args.start (blocks_in c.args.bytes.now) s c.volume_of-place.result e _ plain (block_count line c.args.name.now c.args.volume.now c.args.start c.args.bytes.now is) in
     let same = c.group_refused.ensures.same in
     subst (λ (r : Said). LeadsOver d line r y c.group_refused.new.yard) (sym c.group_refused.ensures.said)
-    (write_stops d y c.group_refused.new.yard line c.args.name.now c.args.volume.now c.args.start c.args.bytes.now s c.number_of-place.result e c.write_plain.new.self stands is plain (record { at = plain.at; changed = record { there = at; later = c.in-Err.ensures.later; disk_sets = ap (λ es. es.items) same.disk_sets; racks = same.racks }; failing = c.in-Err.ensures.failing }) c.in-Err.ensures.since c.in-Err.no
+    (write_stops d y c.group_refused.new.yard line c.args.name.now c.args.volume.now c.args.start c.args.bytes.now s c.volume_of-place.result e c.write_plain.new.self stands is plain (record { at = plain.at; changed = record { there = at; later = c.in-Err.ensures.later; disk_sets = ap (λ es. es.items) same.disk_sets; racks = same.racks }; failing = c.in-Err.ensures.failing }) c.in-Err.ensures.since c.in-Err.no
     (c.in-Err.ensures.wrote (d.world.nodes s) (note_at (d.world.nodes s)) up fits) (c.in-Err.ensures.maps (d.world.nodes s) (note_at (d.world.nodes s)) up fits) (c.in-Err.ensures.cut (d.world.nodes s) (note_at (d.world.nodes s)) up)
     (c.group_refused.ensures.facts (fact_of_group (d.world.nodes s) (note_at (d.world.nodes s))) plain.at.fact)
     (record { flight = same.flight; assemblies = c.group_refused.ensures.assemblies; feeders = ap (λ fs. fs.items) same.feeders }))
@@ -83,9 +87,9 @@ returns-in-Ok-clause-called g c = λ d line stands is free over.
     let at = get_at y.disk_sets.items s e c.site_of-site.ensures.disk_set c.index_mut.ensures.value in
     let over_at = write_over d.world line c.args.name.now c.args.volume.now c.args.start c.args.bytes.now is over in
     let may = may_write y line c.args.name.now c.args.volume.now c.args.start c.args.bytes.now is free in
-    let plain = plain_numbered d y c.args.name.now c.args.volume.now c.args.start (blocks_in c.args.bytes.now) s c.number_of-place.result e stands over_at may.call seat at c.number_of-place.ensures in
+    let plain = plain_call d y c.args.name.now c.args.volume.now c.args.start (blocks_in c.args.bytes.now) s c.volume_of-place.result e stands over_at may.call seat at c.volume_of-place.ensures.place in
     let up = at_up d y c.args.name.now s e plain.at plain.up in
-    let fits = plain_fits d y c.args.name.now c.args.volume.now c.args.start (blocks_in c.args.bytes.now) s c.number_of-place.result e _ plain (block_count line c.args.name.now c.args.volume.now c.args.start c.args.bytes.now is) in
+    let fits = plain_fits d y c.args.name.now c.args.volume.now c.args.start (blocks_in c.args.bytes.now) s c.volume_of-place.result e _ plain (block_count line c.args.name.now c.args.volume.now c.args.start c.args.bytes.now is) in
     write_calls d y _ line c.args.name.now c.args.volume.now c.args.start c.args.bytes.now s _ e c.write_plain.new.self stands is over_at seat at refl
     (c.in-Ok.ensures.fuse (d.world.nodes s) (note_at (d.world.nodes s)) up fits)
 
@@ -98,9 +102,9 @@ returns-in-Err-clause-called g c = λ d line stands is free over.
     let at = get_at y.disk_sets.items s e c.site_of-site.ensures.disk_set c.index_mut.ensures.value in
     let over_at = write_over d.world line c.args.name.now c.args.volume.now c.args.start c.args.bytes.now is over in
     let may = may_write y line c.args.name.now c.args.volume.now c.args.start c.args.bytes.now is free in
-    let plain = plain_numbered d y c.args.name.now c.args.volume.now c.args.start (blocks_in c.args.bytes.now) s c.number_of-place.result e stands over_at may.call seat at c.number_of-place.ensures in
+    let plain = plain_call d y c.args.name.now c.args.volume.now c.args.start (blocks_in c.args.bytes.now) s c.volume_of-place.result e stands over_at may.call seat at c.volume_of-place.ensures.place in
     let up = at_up d y c.args.name.now s e plain.at plain.up in
-    let fits = plain_fits d y c.args.name.now c.args.volume.now c.args.start (blocks_in c.args.bytes.now) s c.number_of-place.result e _ plain (block_count line c.args.name.now c.args.volume.now c.args.start c.args.bytes.now is) in
+    let fits = plain_fits d y c.args.name.now c.args.volume.now c.args.start (blocks_in c.args.bytes.now) s c.volume_of-place.result e _ plain (block_count line c.args.name.now c.args.volume.now c.args.start c.args.bytes.now is) in
     write_calls d y c.group_refused.new.yard line c.args.name.now c.args.volume.now c.args.start c.args.bytes.now s _ e c.write_plain.new.self stands is over_at seat at (ap (λ es. es.items) c.group_refused.ensures.same.disk_sets)
     (c.in-Err.ensures.fuse (d.world.nodes s) (note_at (d.world.nodes s)) up fits)
 
@@ -117,31 +121,3 @@ returns-in-Err-clause-told g c = λ told.
 
 pub returns-in-Err-clause-files : goal.returns-in-Err-clause-files
 returns-in-Err-clause-files g c = ap (λ dir. is_some dir) c.group_refused.ensures.same.dir
-
-pub returns-in-Ok-clause-above : goal.returns-in-Ok-clause-above
-returns-in-Ok-clause-above g c = λ d line stands is free over plain.
-    let y = c.args.yard.now in
-    let s = c.site_of-site.result in
-    let e = c.index_mut.result.now in
-    let seat : seat_of y.facts.items c.args.name.now ≡ Some c.site_of-site.result = c.site_of-site.ensures.seat in
-    let at = get_at y.disk_sets.items s e c.site_of-site.ensures.disk_set c.index_mut.ensures.value in
-    let may = may_write y line c.args.name.now c.args.volume.now c.args.start c.args.bytes.now is free in
-    write_above d y c.args.name.now c.args.volume.now c.args.start (blocks_in c.args.bytes.now) s c.number_of-place.result e stands seat over plain may.call at c.number_of-place.ensures _ line c.args.bytes.now c.write_plain.new.self is free
-    (block_count line c.args.name.now c.args.volume.now c.args.start c.args.bytes.now is) (record { there = at; later = c.in-Ok.ensures.later; disk_sets = refl; racks = refl }) c.in-Ok.ensures.failing c.in-Ok.ensures.since
-    _ c.in-Ok.ensures.over refl (record { flight = refl; assemblies = refl; feeders = refl })
-
-pub returns-in-Err-clause-above : goal.returns-in-Err-clause-above
-returns-in-Err-clause-above g c = λ d line stands is free over plain.
-    let y = c.args.yard.now in
-    let s = c.site_of-site.result in
-    let e = c.index_mut.result.now in
-    let seat : seat_of y.facts.items c.args.name.now ≡ Some c.site_of-site.result = c.site_of-site.ensures.seat in
-    let at = get_at y.disk_sets.items s e c.site_of-site.ensures.disk_set c.index_mut.ensures.value in
-    let may = may_write y line c.args.name.now c.args.volume.now c.args.start c.args.bytes.now is free in
-    let same = c.group_refused.ensures.same in
-    let fact = bare_fact d y c.args.name.now c.args.volume.now c.args.start (blocks_in c.args.bytes.now) s c.number_of-place.result e stands seat over plain may.call at c.number_of-place.ensures in
-    subst (λ (r : Said). LeadsAbove d line r y c.group_refused.new.yard) (sym c.group_refused.ensures.said)
-    (stop_above d y c.args.name.now c.args.volume.now c.args.start (blocks_in c.args.bytes.now) s c.number_of-place.result e stands seat over plain may.call at c.number_of-place.ensures c.group_refused.new.yard line c.args.bytes.now c.write_plain.new.self is free
-    (block_count line c.args.name.now c.args.volume.now c.args.start c.args.bytes.now is) (record { there = at; later = c.in-Err.ensures.later; disk_sets = ap (λ es. es.items) same.disk_sets; racks = same.racks }) c.in-Err.ensures.failing c.in-Err.ensures.since
-    c.in-Err.no c.in-Err.ensures.over (c.group_refused.ensures.facts _ fact)
-    (record { flight = same.flight; assemblies = c.group_refused.ensures.assemblies; feeders = ap (λ fs. fs.items) same.feeders }))

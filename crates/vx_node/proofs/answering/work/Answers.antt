@@ -174,17 +174,17 @@ returns-in-Recover-clause-called g c = λ d stands goes off links carries good. 
 
 pub returns-in_ok-bytes-in-Write-clause-leads : goal.returns-in_ok-bytes-in-Write-clause-leads
 returns-in_ok-bytes-in-Write-clause-leads g c = λ d stands goes closed carries good.
-    let apart = first_off (over_group_at d.world c.in-Write.site) _ (subst (λ line. goes_to_group d.world line ≡ false) c.in-Write.is goes) in
+    let apart = subst (λ line. goes_to_group d.world line ≡ false) c.in-Write.is goes in
     let shut = subst (λ line. is_open d.world line ≡ false) c.in-Write.is closed in
     subst (λ line. WorksIs d line c.args.yard.now c.write_line.new.yard (Ok c.write_line.result)) (sym c.in-Write.is)
     (works_either d _ c.args.yard.now c.write_line.new.yard tt shut (Ok c.write_line.result) apart (λ off. c.write_line.ensures.leads d stands apart off)
-    (λ over. c.write_line.ensures.above d stands over (open_inside (d.world.nodes (site_number d.world c.in-Write.site)) c.in-Write.volume over (last_off (over_group_at d.world c.in-Write.site) _ (subst (λ line. goes_to_group d.world line ≡ false) c.in-Write.is goes)))))
+    (λ over. c.write_line.ensures.above d stands over (open_inside (d.world.nodes (site_number d.world c.in-Write.site)) c.in-Write.volume shut over)))
 
 pub returns-in_ok-bytes-in-Write-clause-asked : goal.returns-in_ok-bytes-in-Write-clause-asked
-returns-in_ok-bytes-in-Write-clause-asked g c = λ d stands goes off links. subst (λ line. AsAsked d.world line c.args.yard.now c.write_line.new.yard) (sym c.in-Write.is) (c.write_line.ensures.asked d stands (first_off (over_group_at d.world c.in-Write.site) _ (subst (λ line. goes_to_group d.world line ≡ false) c.in-Write.is goes)) (subst (λ line. is_for_rvg d.world line ≡ false) c.in-Write.is off))
+returns-in_ok-bytes-in-Write-clause-asked g c = λ d stands goes off links. subst (λ line. AsAsked d.world line c.args.yard.now c.write_line.new.yard) (sym c.in-Write.is) (c.write_line.ensures.asked d stands (subst (λ line. goes_to_group d.world line ≡ false) c.in-Write.is goes) (subst (λ line. is_for_rvg d.world line ≡ false) c.in-Write.is off))
 
 pub returns-in_ok-bytes-in-Write-clause-called : goal.returns-in_ok-bytes-in-Write-clause-called
-returns-in_ok-bytes-in-Write-clause-called g c = λ d stands goes off links carries good. subst (λ line. HasCalled d.world line c.write_line.result c.args.yard.now c.write_line.new.yard) (sym c.in-Write.is) (c.write_line.ensures.called d stands (first_off (over_group_at d.world c.in-Write.site) _ (subst (λ line. goes_to_group d.world line ≡ false) c.in-Write.is goes)) (subst (λ line. is_for_rvg d.world line ≡ false) c.in-Write.is off))
+returns-in_ok-bytes-in-Write-clause-called g c = λ d stands goes off links carries good. subst (λ line. HasCalled d.world line c.write_line.result c.args.yard.now c.write_line.new.yard) (sym c.in-Write.is) (c.write_line.ensures.called d stands (subst (λ line. goes_to_group d.world line ≡ false) c.in-Write.is goes) (subst (λ line. is_for_rvg d.world line ≡ false) c.in-Write.is off))
 
 pub returns-in_err-bytes-in-Write-clause-leads : goal.returns-in_err-bytes-in-Write-clause-leads
 returns-in_err-bytes-in-Write-clause-leads g c = λ d stands goes closed carries good.
@@ -206,17 +206,17 @@ returns-in_err-bytes-in-Write-clause-called g c = λ d stands goes off links car
 
 pub returns-in-Put-clause-leads : goal.returns-in-Put-clause-leads
 returns-in-Put-clause-leads g c = λ d stands goes closed carries good.
-    let apart = first_off (over_group_at d.world c.in-Put.site) _ (subst (λ line. goes_to_group d.world line ≡ false) c.in-Put.is goes) in
+    let apart = subst (λ line. goes_to_group d.world line ≡ false) c.in-Put.is goes in
     let shut = subst (λ line. is_open d.world line ≡ false) c.in-Put.is closed in
     subst (λ line. WorksIs d line c.args.yard.now c.put_line.new.yard (Ok c.put_line.result)) (sym c.in-Put.is)
     (works_either d _ c.args.yard.now c.put_line.new.yard tt shut (Ok c.put_line.result) apart (λ off. c.put_line.ensures.leads d stands apart off)
-    (λ over. c.put_line.ensures.above d stands over (open_inside (d.world.nodes (site_number d.world c.in-Put.site)) c.in-Put.volume over (last_off (over_group_at d.world c.in-Put.site) _ (subst (λ line. goes_to_group d.world line ≡ false) c.in-Put.is goes)))))
+    (λ over. c.put_line.ensures.above d stands over (open_inside (d.world.nodes (site_number d.world c.in-Put.site)) c.in-Put.volume shut over)))
 
 pub returns-in-Put-clause-asked : goal.returns-in-Put-clause-asked
-returns-in-Put-clause-asked g c = λ d stands goes off links. subst (λ line. AsAsked d.world line c.args.yard.now c.put_line.new.yard) (sym c.in-Put.is) (c.put_line.ensures.asked d stands (first_off (over_group_at d.world c.in-Put.site) _ (subst (λ line. goes_to_group d.world line ≡ false) c.in-Put.is goes)) (subst (λ line. is_for_rvg d.world line ≡ false) c.in-Put.is off))
+returns-in-Put-clause-asked g c = λ d stands goes off links. subst (λ line. AsAsked d.world line c.args.yard.now c.put_line.new.yard) (sym c.in-Put.is) (c.put_line.ensures.asked d stands (subst (λ line. goes_to_group d.world line ≡ false) c.in-Put.is goes) (subst (λ line. is_for_rvg d.world line ≡ false) c.in-Put.is off))
 
 pub returns-in-Put-clause-called : goal.returns-in-Put-clause-called
-returns-in-Put-clause-called g c = λ d stands goes off links carries good. subst (λ line. HasCalled d.world line c.put_line.result c.args.yard.now c.put_line.new.yard) (sym c.in-Put.is) (c.put_line.ensures.called d stands (first_off (over_group_at d.world c.in-Put.site) _ (subst (λ line. goes_to_group d.world line ≡ false) c.in-Put.is goes)) (subst (λ line. is_for_rvg d.world line ≡ false) c.in-Put.is off))
+returns-in-Put-clause-called g c = λ d stands goes off links carries good. subst (λ line. HasCalled d.world line c.put_line.result c.args.yard.now c.put_line.new.yard) (sym c.in-Put.is) (c.put_line.ensures.called d stands (subst (λ line. goes_to_group d.world line ≡ false) c.in-Put.is goes) (subst (λ line. is_for_rvg d.world line ≡ false) c.in-Put.is off))
 
 pub returns-in-Site-clause-called : goal.returns-in-Site-clause-called
 returns-in-Site-clause-called g c = λ d stands goes off links carries good. if_ok (λ said. HasCalled d.world c.args.words.now said c.args.yard.now c.make_site.new.yard) c.make_site.result (λ said. subst (λ line. HasCalled d.world line said c.args.yard.now c.make_site.new.yard) (sym c.in-Site.is) tt)
