@@ -231,7 +231,7 @@ module _ {R : Type 0} {g : Ghosts R} (racks : (s : Shade R) → IsRack (shade_me
               session = session;
               why = why;
               noted = lost_noted session it.0;
-              stands = lost_stands racks laws beside n laid told has mid since only fell.fell fell.is session from found rest lost_units last ready_is fell.rested over state unfused s (fell_site s.site last at);
+              stands = lost_stands racks laws beside n laid told has mid since only fell.fell fell.is session from found rest lost_units n.state n.fuse last ready_is fell.rested over state unfused s (fell_site s.site last at);
               to = λ k. subst (λ (e : GroupSite R g). (laid_disks laid).disk_faults k ≤ (site_disks e).disk_faults k) (sym at) (let more = since.counts k in let same = counts_down k in omega (arith, more, same));
             }
             by_end (inr it) = absurd (never_fused n unfused it.1)
