@@ -34,3 +34,4 @@ pub mod OverKeeps
 pub mod OverPlains
 pub mod OverRises
 pub mod OverStarts
+pub mod OverTakes
