@@ -17,7 +17,7 @@ use Rattle.vx_events.specs.RvgBack.{GroupHeld, GroupUnfound, KeptLost, LogFails,
 use Rattle.vx_events.specs.OpenLines.{is_open}
 use Rattle.vx_events.specs.RvgMakes.{MakesRvg, RvgCut, RvgDone, RvgFails, RvgLacks}
 use Rattle.vx_events.specs.RvgNotes.{NotesLacking, NotesNarrowed, NotesNoRvg, NotesRvg}
-use Rattle.vx_events.specs.RvgOver.{BelowEnds, EndsOver, OverRvg, kind_named, missed_in}
+use Rattle.vx_events.specs.RvgOver.{BelowEnds, EndsOver, OverRvg, kind_named, missed_world}
 use Rattle.vx_events.specs.RvgParts.{RvgShort, ShortFull, ShortGroup, ShortLog, ShortMade, short_place}
 use Rattle.vx_events.specs.RvgSteps.{AsBefore, FoundOne, FullBy, WorksAbove, WorksBeside, WorksFull, is_for_rvg, rvg_place}
 use Rattle.vx_events.specs.StepsOver.{group_place, is_for_group}
@@ -111,7 +111,7 @@ module _ {T U : Type 0} (f : U → T) where
   below_told d line s fails said new x = record {
     missed = x.missed;
     middle = x.middle;
-    ends = group_told f (missed_in x.missed d s) line s fails said x.middle x.ends;
+    ends = group_told f (missed_world x.missed d s) line s fails said x.middle x.ends;
     loosens = x.loosens;
     why = x.why;
     left = x.left;

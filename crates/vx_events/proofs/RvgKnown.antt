@@ -25,7 +25,7 @@ use Rattle.vx_events.specs.Known.{MayDarken}
 use Rattle.vx_events.specs.RvgBack.{FindsNoRvg, FindsPlain, FindsRvg, GroupHeld, GroupUnfound, IsLeftBack, KeptLost, LogFails, LogLacks, RvgBack, RvgFinds, RvgUp, fuse_left}
 use Rattle.vx_events.specs.RvgMakes.{IsLeftRvg, MakesRvg, RvgCut, RvgDone, RvgFails, RvgLacks, units_at}
 use Rattle.vx_events.specs.RvgNotes.{NotesNarrowed}
-use Rattle.vx_events.specs.RvgOver.{BelowEnds, EndsOver, NotesLine, OverRvg, kind_named, missed_in, noting_over, fuse_behind}
+use Rattle.vx_events.specs.RvgOver.{BelowEnds, EndsOver, NotesLine, OverRvg, kind_named, missed_world, noting_over, fuse_behind}
 use Rattle.vx_events.specs.RvgWorks.{FuseRanOut, NotesWork, WorksAs}
 use Rattle.vx_events.specs.declared.said.Said.{Said}
 use Rattle.vx_events.specs.RvgTakes.{RvgTaken, TakeFails, TakeLacks, TakeCut, TakeOff, TakeUnfound, TakeHeld, RvgTakes}
@@ -154,7 +154,7 @@ module _ (told : Type 0) (tells : told) (d : Doubted) (s : ℕ) (known : (note_a
   below_known : (line : ScriptLine) → (MayDarken here line said → ⊥) → BelowEnds told d line s fails said new → (note_at (new.world.nodes s)).dark ≡ false
   below_known line free below =
       ap (λ (k : GroupNode). k.dark) (loosened_note below.loosens s below.middle new below.left)
-      ∙ group_known told tells (missed_in below.missed d s) line s fails said below.middle below.ends (missed_dark below.missed d s known)
+      ∙ group_known told tells (missed_world below.missed d s) line s fails said below.middle below.ends (missed_dark below.missed d s known)
       (λ may. free (subst (λ (k : GroupNode). MayDarken k line said) (missed_note below.missed d s) may))
 
   pub over_known : (line : ScriptLine) → (MayDarken here line said → ⊥) → OverRvg told d line s fails said new → (note_at (new.world.nodes s)).dark ≡ false

@@ -31,7 +31,7 @@ use Rattle.vx_events.specs.GroupNotes.{IsKnown, NotesBack, NotesCut, NotesDoubt,
 use Rattle.vx_events.specs.GroupViews.{config_of}
 use Rattle.vx_events.specs.RvgBack.{FindsNoRvg, FindsPlain, FindsRvg, GroupHeld, GroupUnfound, IsLeftBack, IsLeftBut, KeptLost, LogFails, LogLacks, RvgBack, RvgFinds, RvgUp}
 use Rattle.vx_events.specs.RvgFits.{KeepsRvg, KeptConfig, NoteKeepsRvg, config_rvg, rvg_noted}
-use Rattle.vx_events.specs.RvgOver.{BelowEnds, NotesLine, OverRvg, EndsOver, kind_named, missed_in}
+use Rattle.vx_events.specs.RvgOver.{BelowEnds, NotesLine, OverRvg, EndsOver, kind_named, missed_world}
 use Rattle.vx_events.specs.RvgViews.{is_over_rvg}
 use Rattle.vx_events.specs.RvgWorks.{NotesWork, FuseRanOut, WorksCut}
 use Rattle.vx_events.specs.declared.said.Said.{Said}
@@ -116,8 +116,8 @@ module _ (told : Type 0) (d : Doubted) (line : ScriptLine) (s : ℕ) (fails : Fa
   pub below_keeps : BelowEnds told d line s fails said new → NoteKeepsRvg (note_at (d.world.nodes s)) (note_at (new.world.nodes s))
   below_keeps below =
       missed_keeps below.missed d s (note_at (new.world.nodes s))
-      (then_same (note_at ((missed_in below.missed d s).world.nodes s)) (note_at (below.middle.world.nodes s)) (note_at (new.world.nodes s))
-      (group_keeps told (missed_in below.missed d s) line s fails said below.middle rests (does ((missed_in below.missed d s).world.nodes s)) spoils cuts below.ends)
+      (then_same (note_at ((missed_world below.missed d s).world.nodes s)) (note_at (below.middle.world.nodes s)) (note_at (new.world.nodes s))
+      (group_keeps told (missed_world below.missed d s) line s fails said below.middle rests (does ((missed_world below.missed d s).world.nodes s)) spoils cuts below.ends)
       (ap (λ (g : GroupNode). g.config) (loosened_note below.loosens s below.middle new below.left)))
 
 -- a deport

@@ -122,8 +122,8 @@ EndsRead false told d line volume start count s fails said new = ReadsBeside tol
 -- ---- a line on the group alone
 
 -- the worlds in which the site notes this of the regions that plexes of its group missed
-abbrev pub missed_in : MissedNote → Doubted → ℕ → Doubted
-missed_in w d s = noting_in d s (with_maps w (note_at (d.world.nodes s)))
+abbrev pub missed_world : MissedNote → Doubted → ℕ → Doubted
+missed_world w d s = noting_in d s (with_maps w (note_at (d.world.nodes s)))
 
 -- the same note, but that imports may disagree where this says so
 abbrev pub note_loosened : Bool → GroupNode → GroupNode
@@ -137,7 +137,7 @@ loosened_at loosens v s = noting v s (note_loosened loosens (note_at (v.nodes s)
 pub record BelowEnds (told : Type 0) (d : Doubted) (line : ScriptLine) (s : ℕ) (fails : Fails) (said : Said) (new : Doubted) : Type 0 where
   pub missed : MissedNote
   pub middle : Doubted
-  pub ends : GroupEnds told (missed_in missed d s) line s fails said middle
+  pub ends : GroupEnds told (missed_world missed d s) line s fails said middle
   pub loosens : Bool
   pub why : loosens ≡ true → NoneFailed s fails → (FuseRanOut (d.world.nodes s) said → ⊥) → ⊥
   pub left : IsAs middle (loosened_at loosens middle.world s) new

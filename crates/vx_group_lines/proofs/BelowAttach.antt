@@ -36,7 +36,7 @@ use Rattle.vx_diskset.specs.declared.over_set.OverSet.{OverSet}
 use Rattle.vx_events.specs.GroupLines.{plain_number}
 use Rattle.vx_events.specs.GroupNotes.{Reconfigures, note_at}
 use Rattle.vx_events.specs.LinkedFacts.{linked_fact}
-use Rattle.vx_events.specs.RvgOver.{missed_in}
+use Rattle.vx_events.specs.RvgOver.{missed_world}
 use Rattle.vx_events.specs.declared.said.Said.{Said}
 use Rattle.vx_yard.proofs.Carrying.{SameLoad}
 use Rattle.vx_yard.proofs.OneSite.{Changed}
@@ -124,19 +124,19 @@ module _ {R : Type 0} {g : Ghosts R} where
   att_so vol plex v q r o e same fits it = subst (λ (k : ℕ). AttsBelow k q r o e) same (subst (λ (k : ℕ). AttsBelow vol k r o e) fits it)
 
   module _ (d : Doubted) (old new : Yard R g) (name volume : List ℕ) (plex asked place s : ℕ) (before after : DiskSet R g) (start : BelowStart d old name s before)
-      (named : BelowPlex (note_at ((missed_in start.missed d s).world.nodes s)) volume plex place) (fits : asked ≡ min plex 0xffff_ffff)
+      (named : BelowPlex (note_at ((missed_world start.missed d s).world.nodes s)) volume plex place) (fits : asked ≡ min plex 0xffff_ffff)
       (changed : Changed old new s before after) (failing : SameFailing before after) (since : CalledOn before after) where
     abbrev e : Doubted
-    e = missed_in start.missed d s
+    e = missed_world start.missed d s
 
     abbrev m : Node
-    m = below_rvg ((missed_in start.missed d s).world.nodes s)
+    m = below_rvg ((missed_world start.missed d s).world.nodes s)
 
     abbrev note : GroupNode
-    note = note_at ((missed_in start.missed d s).world.nodes s)
+    note = note_at ((missed_world start.missed d s).world.nodes s)
 
     abbrev v : ℕ
-    v = plain_number (note_at ((missed_in start.missed d s).world.nodes s)) volume
+    v = plain_number (note_at ((missed_world start.missed d s).world.nodes s)) volume
 
     whole : asked ≡ plex
     whole = fits ∙ plex_fits m note (site_in start.at.set) volume plex start.asks named.at
@@ -184,7 +184,7 @@ module _ {R : Type 0} {g : Ghosts R} where
               (λ off. so.count off) (λ no is. never_by count no (refused no is)) facts load,
         )
 
-    pub unattached : (mid : Yard R g) (result : Result Said OutOfMemory) → Midway old mid → (stop : Stop) → OnOver (AttsBelow place asked (Err stop)) before after → reply_noted s (linked_fact (missed_in start.missed d s).world s) stop mid new result
+    pub unattached : (mid : Yard R g) (result : Result Said OutOfMemory) → Midway old mid → (stop : Stop) → OnOver (AttsBelow place asked (Err stop)) before after → reply_noted s (linked_fact (missed_world start.missed d s).world s) stop mid new result
         → LeadsAboveIs d (PlexAttach name volume plex) old new result
     unattached mid result half stop on refusal =
         let r : Result ℕ Stop = Err stop in

@@ -50,7 +50,7 @@ use Rattle.vx_events.specs.GroupNotes.{note_at}
 use Rattle.vx_events.specs.GroupViews.{noted_table, plain_fact, volumes_of}
 use Rattle.vx_events.specs.LinkedFacts.{linked_fact}
 use Rattle.vx_events.specs.RvgFits.{KeptVolume, NoteKeepsRvg, config_rvg, entries_noted, rvg_noted}
-use Rattle.vx_events.specs.RvgOver.{BelowEnds, OverRvg, loosened_at, missed_in, note_loosened}
+use Rattle.vx_events.specs.RvgOver.{BelowEnds, OverRvg, loosened_at, missed_world, note_loosened}
 use Rattle.vx_events.specs.RvgSteps.{rvg_place}
 use Rattle.vx_events.specs.RvgViews.{over_table}
 use Rattle.vx_events.specs.RvgWorks.{FuseRanOut, NoneFailed}
@@ -196,9 +196,9 @@ module _ {R : Type 0} {g : Ghosts R} where
     pub rose : RoseAll fails (count_of old) (count_of new)
 
   -- whatever is noted of them
-  pub leads_above : (w : MissedNote) (d : Doubted) (line : ScriptLine) (s : ℕ) (said : Said) (old new : Yard R g) → (Carries d old → Carries (missed_in w d s) old) → rvg_place d.world line ≡ s
+  pub leads_above : (w : MissedNote) (d : Doubted) (line : ScriptLine) (s : ℕ) (said : Said) (old new : Yard R g) → (Carries d old → Carries (missed_world w d s) old) → rvg_place d.world line ≡ s
       → ((fails : Fails) (next : Doubted) → BelowEnds (IsTold new) d line s fails said next → OverRvg (IsTold new) d line s fails said next)
-      → LeadsBelow (missed_in w d s) line s said old new → LeadsAbove d line said old new
+      → LeadsBelow (missed_world w d s) line s said old new → LeadsAbove d line said old new
   leads_above w d line s said old new carried place turn it = record {
     next = it.next;
     fails = it.fails;

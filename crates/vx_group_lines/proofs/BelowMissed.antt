@@ -26,7 +26,7 @@ use Rattle.vx_events.proofs.RvgEvents.{rvg_apart}
 use Rattle.vx_events.proofs.RvgMissed.{missed_node}
 use Rattle.vx_events.specs.GroupNotes.{note_at}
 use Rattle.vx_events.specs.RvgFits.{entries_noted}
-use Rattle.vx_events.specs.RvgOver.{missed_in}
+use Rattle.vx_events.specs.RvgOver.{missed_world}
 use Rattle.vx_yard.proofs.Carrying.{carries_at, feeds_like}
 use Rattle.vx_yard.proofs.Lists.{set_same}
 use Rattle.vx_yard.proofs.NoteSite.{changes_one, comes_one}
@@ -61,7 +61,7 @@ module _ {R : Type 0} {g : Ghosts R} where
     abbrev m : Node
     m = missed_site w (d.world.nodes s)
 
-    here : (missed_in w d s).world.nodes s ≡ missed_site w (d.world.nodes s)
+    here : (missed_world w d s).world.nodes s ≡ missed_site w (d.world.nodes s)
     here = missed_node w d s
 
     here_set : slice_get y.disk_sets.items s ≡ Some (Over at.set)
@@ -88,18 +88,18 @@ module _ {R : Type 0} {g : Ghosts R} where
       subst (λ (us : Units). RestsNamed us (length (entries_noted note)) (site_in at.set)) (sym same_units) at.noted.4,
     )
 
-    comes : Comes d (missed_in w d s) s (Over at.set)
+    comes : Comes d (missed_world w d s) s (Over at.set)
     comes = comes_one d s m (Over at.set) refl stands.links stood fails fused (stands.roles.each s (Over at.set) at.seat.below here_set)
 
-    pub missed_stands : StandsFor (missed_in w d s) y
+    pub missed_stands : StandsFor (missed_world w d s) y
     missed_stands =
-        stands_still d (missed_in w d s) y y s (Over at.set) (Over at.set) stands at.seat.below
+        stands_still d (missed_world w d s) y y s (Over at.set) (Over at.set) stands at.seat.below
         (record { there = here_set; later = record { counts = λ k. omega arith; told = λ told. told }; disk_sets = sym (set_same y.disk_sets.items s (Over at.set) here_set); racks = refl }) comes
         (λ _. subst (λ (x : Node). BeginsFirst s x) (sym here) (begins_apart s (beside_of d s) m (Over at.set) stood (rvg_apart m (over_again n m (with_maps w note) at.over refl refl))))
         (λ _. subst (λ (x : Node). NotedOver x (Over at.set)) (sym here) ((λ other is. subst (λ (k : GroupNode). SiteNoted m k (Over at.set)) (some_same is) missed_noted), at.named))
         (fact_noted n (with_maps w note) n.fuse at.over (over_again n m (with_maps w note) at.over refl refl) refl d s refl ∙ sym (fact_apart d.world s (rvg_apart n at.over))) refl
 
-    pub missed_carries : Carries d y → Carries (missed_in w d s) y
+    pub missed_carries : Carries d y → Carries (missed_world w d s) y
     missed_carries carries =
-        carries_at s d (missed_in w d s) y y carries (record { flight = refl; assemblies = refl; feeders = refl }) (record { site = changes_one d s m; packets = refl; gathering = refl })
-        (feeds_like n ((missed_in w d s).world.nodes s) (ap (λ (x : Node). x.state) here) (ap (λ (x : Node). x.role) here) (ap (λ (x : Node). x.fed_by) here)) (λ told. told)
+        carries_at s d (missed_world w d s) y y carries (record { flight = refl; assemblies = refl; feeders = refl }) (record { site = changes_one d s m; packets = refl; gathering = refl })
+        (feeds_like n ((missed_world w d s).world.nodes s) (ap (λ (x : Node). x.state) here) (ap (λ (x : Node). x.role) here) (ap (λ (x : Node). x.fed_by) here)) (λ told. told)

@@ -27,7 +27,7 @@ use Rattle.vx_events.proofs.RvgMissed.{missed_node, missed_note}
 use Rattle.vx_events.specs.Facts.{seat_of, site_number}
 use Rattle.vx_events.specs.Fails.{Fails}
 use Rattle.vx_events.specs.GroupNotes.{note_at}
-use Rattle.vx_events.specs.RvgOver.{BelowEnds, OverRvg, missed_in}
+use Rattle.vx_events.specs.RvgOver.{BelowEnds, OverRvg, missed_world}
 use Rattle.vx_events.specs.RvgSteps.{over_rvg_at, rvg_place}
 use Rattle.vx_events.specs.RvgViews.{is_over_rvg}
 use Rattle.vx_events.specs.declared.said.Said.{Said}
@@ -67,14 +67,14 @@ module _ {R : Type 0} {g : Ghosts R} where
   -- the site where it is noted
   pub record BelowStart (d : Doubted) (y : Yard R g) (name : List ℕ) (s : ℕ) (e : DiskSet R g) : Type 0 where
     pub missed : MissedNote
-    pub stands : StandsFor (missed_in missed d s) y
-    pub carries : Carries d y → Carries (missed_in missed d s) y
+    pub stands : StandsFor (missed_world missed d s) y
+    pub carries : Carries d y → Carries (missed_world missed d s) y
     pub number : site_number d.world name ≡ s
-    pub at : BelowAt (missed_in missed d s) y name s e
-    pub maps : StandMaps (note_at ((missed_in missed d s).world.nodes s)) (site_in at.set)
-    pub up : ((missed_in missed d s).world.nodes s).state ≡ IsUp
-    pub running : ((missed_in missed d s).world.nodes s).halted ≡ None
-    pub asks : UpNoted (below_rvg ((missed_in missed d s).world.nodes s)) (note_at ((missed_in missed d s).world.nodes s)) (site_in at.set)
+    pub at : BelowAt (missed_world missed d s) y name s e
+    pub maps : StandMaps (note_at ((missed_world missed d s).world.nodes s)) (site_in at.set)
+    pub up : ((missed_world missed d s).world.nodes s).state ≡ IsUp
+    pub running : ((missed_world missed d s).world.nodes s).halted ≡ None
+    pub asks : UpNoted (below_rvg ((missed_world missed d s).world.nodes s)) (note_at ((missed_world missed d s).world.nodes s)) (site_in at.set)
 
   -- the tests found the site of this name up, with a replicated volume group that runs
   pub below_start : (d : Doubted) (y : Yard R g) (name : List ℕ) (s : ℕ) (e : DiskSet R g) → StandsFor d y → seat_of y.facts.items name ≡ Some s → over_rvg_at d.world name ≡ true → (d.world.nodes (site_number d.world name)).halted ≡ None
@@ -87,7 +87,7 @@ module _ {R : Type 0} {g : Ghosts R} where
       let running : n.halted ≡ None = subst (λ (i : ℕ). (d.world.nodes i).halted ≡ None) first.seat.number runs in
       let memory : (w : MissedNote) × StandMaps (with_maps w note) (site_in first.set) = memory_at (below_rvg n) note (site_in first.set) (noted_up (beside_of d s) n note first.set.site first.stands.1 up first.noted.0) in
       let w : MissedNote = memory.0 in
-      let e_d : Doubted = missed_in w d s in
+      let e_d : Doubted = missed_world w d s in
       let m : Node = missed_site w n in
       let here : e_d.world.nodes s ≡ m = missed_node w d s in
       let then : StandsFor e_d y = missed_stands w d y name s e stands first there in
@@ -111,6 +111,6 @@ module _ {R : Type 0} {g : Ghosts R} where
   -- what it is led to where that is noted, it is led to whatever is noted
   pub above_is : (d : Doubted) (y new : Yard R g) (name : List ℕ) (s : ℕ) (e : DiskSet R g) (line : ScriptLine) (result : Result Said OutOfMemory) (start : BelowStart d y name s e) → rvg_place d.world line ≡ s
       → ((said : Said) (fails : Fails) (next : Doubted) → BelowEnds (IsTold new) d line s fails said next → OverRvg (IsTold new) d line s fails said next)
-      → (said : Said) × (result ≡ Ok said) × LeadsBelow (missed_in start.missed d s) line s said y new → LeadsAboveIs d line y new result
+      → (said : Said) × (result ≡ Ok said) × LeadsBelow (missed_world start.missed d s) line s said y new → LeadsAboveIs d line y new result
   above_is d y new name s e line result start place turn it =
       subst (λ (r : Result Said OutOfMemory). LeadsAboveIs d line y new r) (sym it.1) (leads_above start.missed d line s it.0 y new start.carries place (turn it.0) it.2)

@@ -23,7 +23,7 @@ use Rattle.vx_events.specs.Facts.{group_by, group_fact, seat_of}
 use Rattle.vx_events.specs.Fails.{Fails}
 use Rattle.vx_events.specs.GroupNotes.{note_at}
 use Rattle.vx_events.specs.LinkedFacts.{linked_fact}
-use Rattle.vx_events.specs.RvgOver.{BelowEnds, OverRvg, missed_in}
+use Rattle.vx_events.specs.RvgOver.{BelowEnds, OverRvg, missed_world}
 use Rattle.vx_events.specs.RvgSteps.{over_rvg_at, rvg_place}
 use Rattle.vx_events.specs.RvgViews.{is_over_rvg}
 use Rattle.vx_events.specs.declared.said.Said.{Said}
@@ -43,13 +43,13 @@ use Rattle.vx_group_lines.proofs.Tests.{UpMay}
 module _ {R : Type 0} {g : Ghosts R} where
   -- the site, up and running, where none are noted
   pub record Unmapped (d : Doubted) (y : Yard R g) (name : List ℕ) (s : ℕ) (e : DiskSet R g) : Type 0 where
-    pub stands : StandsFor (missed_in none_noted d s) y
-    pub carries : Carries d y → Carries (missed_in none_noted d s) y
-    pub at : BelowAt (missed_in none_noted d s) y name s e
-    pub none : (note_at ((missed_in none_noted d s).world.nodes s)).maps ≡ none_noted
-    pub up : ((missed_in none_noted d s).world.nodes s).state ≡ IsUp
-    pub running : ((missed_in none_noted d s).world.nodes s).halted ≡ None
-    pub asks : UpNoted (below_rvg ((missed_in none_noted d s).world.nodes s)) (note_at ((missed_in none_noted d s).world.nodes s)) (site_in at.set)
+    pub stands : StandsFor (missed_world none_noted d s) y
+    pub carries : Carries d y → Carries (missed_world none_noted d s) y
+    pub at : BelowAt (missed_world none_noted d s) y name s e
+    pub none : (note_at ((missed_world none_noted d s).world.nodes s)).maps ≡ none_noted
+    pub up : ((missed_world none_noted d s).world.nodes s).state ≡ IsUp
+    pub running : ((missed_world none_noted d s).world.nodes s).halted ≡ None
+    pub asks : UpNoted (below_rvg ((missed_world none_noted d s).world.nodes s)) (note_at ((missed_world none_noted d s).world.nodes s)) (site_in at.set)
 
   unmapped : (d : Doubted) (y : Yard R g) (name : List ℕ) (s : ℕ) (e : DiskSet R g) → StandsFor d y → seat_of y.facts.items name ≡ Some s → (at : BelowAt d y name s e) → slice_get y.disk_sets.items s ≡ Some e → (d.world.nodes s).state ≡ IsUp
       → (d.world.nodes s).halted ≡ None → Unmapped d y name s e
@@ -57,7 +57,7 @@ module _ {R : Type 0} {g : Ghosts R} where
       let n : Node = d.world.nodes s in
       let note : GroupNode = note_at (d.world.nodes s) in
       let m : Node = missed_site none_noted n in
-      let f : Doubted = missed_in none_noted d s in
+      let f : Doubted = missed_world none_noted d s in
       let here : f.world.nodes s ≡ m = missed_node none_noted d s in
       let then : StandsFor f y = missed_stands none_noted d y name s e stands at there in
       let over : is_over_rvg (f.world.nodes s) ≡ true = ap (λ (x : Node). is_over_rvg x) here ∙ over_again n m (with_maps none_noted note) at.over refl refl in
@@ -86,8 +86,8 @@ module _ {R : Type 0} {g : Ghosts R} where
       unmapped d y name s e stands seat at there up running
 
   -- what the line is led to where none are noted, it is led to whatever is noted
-  pub above_unmapped : (d : Doubted) (y new : Yard R g) (s : ℕ) (line : ScriptLine) (result : Result Said OutOfMemory) → (Carries d y → Carries (missed_in none_noted d s) y) → rvg_place d.world line ≡ s
+  pub above_unmapped : (d : Doubted) (y new : Yard R g) (s : ℕ) (line : ScriptLine) (result : Result Said OutOfMemory) → (Carries d y → Carries (missed_world none_noted d s) y) → rvg_place d.world line ≡ s
       → ((said : Said) (fails : Fails) (next : Doubted) → BelowEnds (IsTold new) d line s fails said next → OverRvg (IsTold new) d line s fails said next)
-      → (said : Said) × (result ≡ Ok said) × LeadsBelow (missed_in none_noted d s) line s said y new → LeadsAboveIs d line y new result
+      → (said : Said) × (result ≡ Ok said) × LeadsBelow (missed_world none_noted d s) line s said y new → LeadsAboveIs d line y new result
   above_unmapped d y new s line result carries place turn it =
       subst (λ (r : Result Said OutOfMemory). LeadsAboveIs d line y new r) (sym it.1) (leads_above none_noted d line s it.0 y new carries place (turn it.0) it.2)

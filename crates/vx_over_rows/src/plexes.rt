@@ -1,6 +1,10 @@
 // Plexes of a group with a replicated volume group over it that are detached and attached.
 use crate::done::is_done;
+use std::alloc::Global;
+use std::sync::Wait;
 use std::test::Fail;
+use std::thread::Threads;
+use vx_model::OutOfMemory;
 
 // Of a data volume and of the log: what is written meanwhile is copied to them again. The last plex of a volume stays.
 #[test]
@@ -32,5 +36,73 @@ fn a_detach_is_cut_off(rt: HostRuntime) -> Result<(), Fail> {
     let wanted =
         "done\ndone\ndone\ndone\ndone\ndone\ndone 1\ndone\nno 6 down\nno 6 down\nno 6 down\nrecovered 1\nsite a up\ndisk 0 ok\ndisk 1 ok\nvol log1 64 none off\nplex 0 ACTIVE\nplex 1 ACTIVE\nvol maps 8 none off\nplex 0 ACTIVE\nplex 1 ACTIVE\nvol v 256 none off\nplex 0 ACTIVE\nplex 1 ACTIVE\nrvg primary 1 a head 1 mark consistent session 2\n11\ndone 2\n";
     assert!(rt; is_done(&rt, rt.alloc(), script, wanted)?);
+    Ok(())
+}
+
+// The disk of a plex fails: it is detached, and attached once the disk is back.
+#[test]
+fn a_plex_of_a_failed_disk_is_detached(rt: HostRuntime) -> Result<(), Fail> {
+    let script =
+        b"site a 2 1024\ndg a init\nvol a log1 64 mirrors=2 layout=concat log=none fmr=off rdpol=round\nvol a maps 8 mirrors=2 layout=concat log=none fmr=off rdpol=round\nvol a v 256 mirrors=2 layout=concat log=none fmr=off rdpol=round\nrvg a srl=log1 dcm=maps vols=v\nwrite a v 0 1 11\ndisk a 1 fail\nplex a v 1 det\nplex a v 0 det\nread a v 0 1\ncrash a 0\ndisk a 1 ok\nrecover a\nplex a v 1 att\nplex a v 0 det\nread a v 0 2\n";
+    let wanted =
+        "done\ndone\ndone\ndone\ndone\ndone\ndone 1\ndone\ndone\nno 10 lastplex\n11\ndone\ndone\nrecovered 1\nsite a up\ndisk 0 ok\ndisk 1 ok\nvol log1 64 none off\nplex 0 ACTIVE\nplex 1 ACTIVE\nvol maps 8 none off\nplex 0 ACTIVE\nplex 1 ACTIVE\nvol v 256 none off\nplex 0 ACTIVE\nplex 1 STALE\nrvg primary 1 a head 1 mark consistent session 2\ndone 4\ndone\n11\n00\n";
+    assert!(rt; is_done(&rt, rt.alloc(), script, wanted)?);
+    Ok(())
+}
+
+// The disk fails that an attach reads: it is refused, and done once the disk is back.
+#[test]
+fn an_attach_is_refused_where_nothing_can_be_copied(rt: HostRuntime) -> Result<(), Fail> {
+    let script =
+        b"site a 2 1024\ndg a init\nvol a log1 64 mirrors=2 layout=concat log=none fmr=off rdpol=round\nvol a maps 8 mirrors=2 layout=concat log=none fmr=off rdpol=round\nvol a v 256 mirrors=2 layout=concat log=none fmr=off rdpol=round\nrvg a srl=log1 dcm=maps vols=v\nwrite a v 0 1 11\napply a 1\nplex a v 1 det\ndisk a 0 fail\nplex a v 1 att\ndisk a 0 ok\nplex a v 1 att\nplex a v 0 det\nread a v 0 2\nwrite a v 1 1 22\n";
+    let wanted =
+        "done\ndone\ndone\ndone\ndone\ndone\ndone 1\ndone 1\ndone\ndone\nno 7 device 0\ndone\ndone 4\ndone\n11\n00\ndone 2\n";
+    assert!(rt; is_done(&rt, rt.alloc(), script, wanted)?);
+    Ok(())
+}
+
+// Whether an attach before which so many calls were let pass is answered so, and its plex then is in this state: the other one is detached only where
+// it takes part, and what was written while it did not is read.
+fn is_attached<H: Threads + Wait + Sync>(
+    handle: &H,
+    alloc: Global,
+    calls: u64,
+    pick: u64,
+    reply: &str,
+    state: &str,
+    last: &str,
+) -> Result<bool, OutOfMemory> {
+    let script = format!(in alloc;
+        "site a 2 1024\ndg a init\nvol a l 8 mirrors=2 layout=concat log=none fmr=off rdpol=round\nvol a m 8 mirrors=2 layout=concat log=none fmr=off rdpol=round\nvol a v 16 mirrors=2 layout=concat log=none fmr=off rdpol=round\nrvg a srl=l dcm=m vols=v\nplex a v 1 det\nwrite a v 0 2 22\napply a 1\nfuse a {calls} {pick}\nplex a v 1 att\nrecover a\nplex a v 0 det\nread a v 0 3\n"
+    )?;
+    let wanted = format!(in alloc;
+        "done\ndone\ndone\ndone\ndone\ndone\ndone\ndone 1\ndone 1\ndone\n{reply}\nrecovered 1\nsite a up\ndisk 0 ok\ndisk 1 ok\nvol l 8 none off\nplex 0 ACTIVE\nplex 1 ACTIVE\nvol m 8 none off\nplex 0 ACTIVE\nplex 1 ACTIVE\nvol v 16 none off\nplex 0 ACTIVE\nplex 1 {state}\nrvg primary 1 a head 1 mark consistent session 2\n{last}\n22\n22\n00\n"
+    )?;
+    is_done(handle, alloc, script.as_bytes(), &wanted)
+}
+
+// The fuse runs out in an attach, anywhere.
+#[test]
+fn an_attach_is_cut_anywhere(rt: HostRuntime) -> Result<(), Fail> {
+    let alloc = rt.alloc();
+    for pick in [0, u64::MAX] {
+        for calls in 0..30 {
+            assert!(rt;
+                is_attached(
+                    &rt,
+                    alloc,
+                    calls,
+                    pick,
+                    "no 6 down",
+                    "STALE",
+                    "no 10 lastplex"
+                )? || is_attached(&rt, alloc, calls, pick, "no 6 down", "ACTIVE", "done")?
+                    || is_attached(&rt, alloc, calls, pick, "done 1", "ACTIVE", "done")?,
+                "{calls} calls"
+            );
+        }
+        assert!(rt; is_attached(&rt, alloc, 0, pick, "no 6 down", "STALE", "no 10 lastplex")?);
+        assert!(rt; is_attached(&rt, alloc, 30, pick, "done 1", "ACTIVE", "done")?);
+    }
     Ok(())
 }

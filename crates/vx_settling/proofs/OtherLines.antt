@@ -36,7 +36,7 @@ use Rattle.vx_events.specs.OpenLines.{is_open}
 use Rattle.vx_order.specs.Calls.{is_data}
 use Rattle.vx_events.proofs.ReadsLeave.{read_by}
 use Rattle.vx_events.proofs.WritesBelow.{write_by}
-use Rattle.vx_events.specs.RvgOver.{BelowEnds, EndsOver, OverRvg, kind_named, loosened_at, missed_in, note_loosened, noting_over, fuse_behind}
+use Rattle.vx_events.specs.RvgOver.{BelowEnds, EndsOver, OverRvg, kind_named, loosened_at, missed_world, note_loosened, noting_over, fuse_behind}
 use Rattle.vx_events.specs.RvgSteps.{AsBefore, FoundOne, FullBy, StepFull, WorksAbove, WorksBeside, WorksFull, is_for_rvg, rvg_place}
 use Rattle.vx_events.specs.StepsOver.{WorksOver, group_place, is_for_group, refused_over}
 use Rattle.vx_events.specs.Strays.{gone_astray}
@@ -350,7 +350,7 @@ module _ (i : ℕ) (o : Option GroupNode) where
       below_notes : (line : ScriptLine) (s : ℕ) → eqb i s ≡ false → BelowEnds told d line s fails said new → HasNote i o new
       below_notes line s apart below =
           let w : MissedNote = below.missed in
-          let h : HasNote i o below.middle = group_notes (missed_in w d s) (in_stands d s (with_maps w (note_at (d.world.nodes s))) apart x) told fails said below.middle line s apart below.ends in
+          let h : HasNote i o below.middle = group_notes (missed_world w d s) (in_stands d s (with_maps w (note_at (d.world.nodes s))) apart x) told fails said below.middle line s apart below.ends in
           OtherNotes.as_notes i o below.middle (loosened_at below.loosens below.middle.world s) new below.left
           (OtherNotes.noting_notes i o below.middle.world s (note_loosened below.loosens (note_at (below.middle.world.nodes s))) apart h.note) h
 

@@ -9,7 +9,7 @@ use Rattle.vx_diskset.specs.Asked.{FuseGoesOn, SameFailing}
 use Rattle.vx_diskset.specs.OverAways.{DeportsBelow}
 use Rattle.vx_events.specs.GroupNotes.{note_at}
 use Rattle.vx_events.specs.LinkedFacts.{linked_fact}
-use Rattle.vx_events.specs.RvgOver.{missed_in}
+use Rattle.vx_events.specs.RvgOver.{missed_world}
 use Rattle.vx_events.specs.StepsOver.{fact_of_group}
 use Rattle.vx_events.specs.declared.said.Said.TheVariants.{Done}
 use Rattle.vx_yard.proofs.ChangeSite.{told_before}
@@ -106,7 +106,7 @@ returns-in-Ok-clause-above g c = λ d stands over.
     let start = unmapped_named d y c.args.name.now s c.index_mut.result.now stands seat over at may (deport_runs y.facts.items (in_files y) c.args.name.now c.requires.free may) in
     let then = overs_behind (DeportsBelow (Ok tt)) c.index_mut.result.now c.deport_group.new.self start.at.set start.at.is_set c.in-Ok.ensures.over in
     leads_above none_noted d (GroupDeport c.args.name.now) s Done y _ start.carries (place_at d y c.args.name.now s stands seat).number (λ fails next it. it)
-    (deport_below (missed_in none_noted d s) y _ c.args.name.now s c.index_mut.result.now c.deport_group.new.self then.set start.stands
+    (deport_below (missed_world none_noted d s) y _ c.args.name.now s c.index_mut.result.now c.deport_group.new.self then.set start.stands
     (record {
       at = start.at;
       up = start.up;
@@ -131,11 +131,11 @@ returns-in-Err-clause-above g c = λ d stands over.
     let may = deport_may y.facts.items (in_files y) c.args.name.now c.requires.free in
     let start = unmapped_named d y c.args.name.now s c.index_mut.result.now stands seat over at may (deport_runs y.facts.items (in_files y) c.args.name.now c.requires.free may) in
     let then = overs_behind (DeportsBelow (Err c.in-Err.stop)) c.index_mut.result.now c.deport_group.new.self start.at.set start.at.is_set c.in-Err.ensures.over in
-    let f = linked_fact (missed_in none_noted d s).world s in
+    let f = linked_fact (missed_world none_noted d s).world s in
     let reply = c.group_stopped.ensures f start.at.seat.fact in
     let same = reply_same s f c.in-Err.stop _ c.group_stopped.new.yard c.group_stopped.result reply in
     above_unmapped d y c.group_stopped.new.yard s (GroupDeport c.args.name.now) c.group_stopped.result start.carries (place_at d y c.args.name.now s stands seat).number (λ said fails next it. it)
-    (deport_below_stopped (missed_in none_noted d s) y c.group_stopped.new.yard c.args.name.now s c.index_mut.result.now c.deport_group.new.self then.set start.stands
+    (deport_below_stopped (missed_world none_noted d s) y c.group_stopped.new.yard c.args.name.now s c.index_mut.result.now c.deport_group.new.self then.set start.stands
     (record {
       at = start.at;
       up = start.up;

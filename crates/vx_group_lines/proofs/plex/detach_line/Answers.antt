@@ -8,7 +8,7 @@ use Rattle.vx_events.proofs.Opens.{closed_runs}
 use Rattle.vx_events.specs.Facts.{site_number}
 use Rattle.vx_events.specs.GroupNotes.{note_at}
 use Rattle.vx_events.specs.LinkedFacts.{linked_fact}
-use Rattle.vx_events.specs.RvgOver.{missed_in}
+use Rattle.vx_events.specs.RvgOver.{missed_world}
 use Rattle.vx_events.specs.StepsOver.{fact_of_group}
 use Rattle.vx_yard.proofs.ChangeSite.{told_before}
 use Rattle.vx_yard.proofs.Lists.{get_at}
@@ -174,7 +174,7 @@ returns-in-Ok-clause-above g c = λ d stands over closed.
     let at = get_at y.disk_sets.items s e c.site_of-site.ensures.disk_set c.index_mut.ensures.value in
     let may = detach_may y.facts.items (in_files y) c.args.name.now c.args.volume.now c.args.plex c.requires.free in
     let start = below_start d y c.args.name.now s e stands seat over (closed_runs (d.world.nodes (site_number d.world c.args.name.now)) over closed) may.may at in
-    let named = below_plex (missed_in start.missed d s) y c.args.name.now c.args.volume.now c.args.plex s c.number_of-place.result e start.at start.asks seat may at c.number_of-place.ensures in
+    let named = below_plex (missed_world start.missed d s) y c.args.name.now c.args.volume.now c.args.plex s c.number_of-place.result e start.at start.asks seat may at c.number_of-place.ensures in
     detached d y _ c.args.name.now c.args.volume.now c.args.plex _ c.number_of-place.result s e c.detach_plex.new.self start named c.min.ensures
     (record { there = at; later = c.in-Ok.ensures.later; disk_sets = refl; racks = refl }) c.in-Ok.ensures.failing c.in-Ok.ensures.since c.in-Ok.ensures.over refl (record { flight = refl; assemblies = refl; feeders = refl })
 
@@ -187,8 +187,8 @@ returns-in-Err-clause-above g c = λ d stands over closed.
     let at = get_at y.disk_sets.items s e c.site_of-site.ensures.disk_set c.index_mut.ensures.value in
     let may = detach_may y.facts.items (in_files y) c.args.name.now c.args.volume.now c.args.plex c.requires.free in
     let start = below_start d y c.args.name.now s e stands seat over (closed_runs (d.world.nodes (site_number d.world c.args.name.now)) over closed) may.may at in
-    let named = below_plex (missed_in start.missed d s) y c.args.name.now c.args.volume.now c.args.plex s c.number_of-place.result e start.at start.asks seat may at c.number_of-place.ensures in
-    let f = linked_fact (missed_in start.missed d s).world s in
+    let named = below_plex (missed_world start.missed d s) y c.args.name.now c.args.volume.now c.args.plex s c.number_of-place.result e start.at start.asks seat may at c.number_of-place.ensures in
+    let f = linked_fact (missed_world start.missed d s).world s in
     let reply = c.group_stopped.ensures f start.at.seat.fact in
     let same = reply_same s f c.in-Err.stop _ c.group_stopped.new.yard c.group_stopped.result reply in
     undetached d y c.group_stopped.new.yard c.args.name.now c.args.volume.now c.args.plex _ c.number_of-place.result s e c.detach_plex.new.self start named c.min.ensures
