@@ -43,6 +43,7 @@ pub mod OverDoubted
 pub mod Loosened
 pub mod OverHolds
 pub mod OverKnown
+pub mod OverGone
 pub mod OverRecovers
 pub mod OverSettles
 pub mod OverMaking

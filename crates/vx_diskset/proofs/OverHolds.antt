@@ -66,24 +66,24 @@ use Rattle.vx_diskset.proofs.StaysUp.{not_true}
 
 -- ---- tests
 
-dim_loose : (agreed loose : Bool) → (loose ≡ false → agreed ≡ true) → not agreed ≡ true → loose ≡ true
+pub dim_loose : (agreed loose : Bool) → (loose ≡ false → agreed ≡ true) → not agreed ≡ true → loose ≡ true
 dim_loose agreed true agrees dims = refl
 dim_loose true false agrees dims = absurd (let clash : false ≡ true = dims in cc)
 dim_loose false false agrees dims = absurd (let clash : false ≡ true = agrees refl in cc)
 
-or_either : (a b : Bool) → (a || b) ≡ true → (a ≡ true) ⊎ (b ≡ true)
+pub or_either : (a b : Bool) → (a || b) ≡ true → (a ≡ true) ⊎ (b ≡ true)
 or_either true b is = inl refl
 or_either false b is = inr is
 
-or_first : (a b : Bool) → (a || b) ≡ false → a ≡ false
+pub or_first : (a b : Bool) → (a || b) ≡ false → a ≡ false
 or_first true b is = absurd (let clash : true ≡ false = is in cc)
 or_first false b is = refl
 
-or_second : (a b : Bool) → (a || b) ≡ false → b ≡ false
+pub or_second : (a b : Bool) → (a || b) ≡ false → b ≡ false
 or_second true b is = absurd (let clash : true ≡ false = is in cc)
 or_second false b is = is
 
-true_by : (b : Bool) → not b ≡ false → b ≡ true
+pub true_by : (b : Bool) → not b ≡ false → b ≡ true
 true_by true is = refl
 true_by false is = absurd (let clash : true ≡ false = is in cc)
 
@@ -218,14 +218,14 @@ module _ {R : Type 0} {g : Ghosts R} (n : Node) (note : GroupNode) (idle : Idle 
         (it.rvg ∙ said.0, said.1)
 
     -- nothing is known of disks that tell nothing where their rack does
-    dark_here : IsTrue (laid_below laid).tells → (IsTrue (laid_disks laid).tells → ⊥) → middle.dark ≡ true
+    pub dark_here : IsTrue (laid_below laid).tells → (IsTrue (laid_disks laid).tells → ⊥) → middle.dark ≡ true
     dark_here below untold = bright_by middle.dark (λ bright. untold (group_here.lit bright below))
 
-    known : middle.dark ≡ true → (note.dark ≡ true) ⊎ (note.loose ≡ true)
+    pub known : middle.dark ≡ true → (note.dark ≡ true) ⊎ (note.loose ≡ true)
     known dark = ⊎_elim (λ dims. inr (dim_loose idle.agreed note.loose agrees dims)) (λ was. inl was) (or_either (not idle.agreed) note.dark (sym came_group.returns.dark ∙ dark))
 
     -- the import left the configuration sure
-    sure_here : is_sure laid.core ≡ true
+    pub sure_here : is_sure laid.core ≡ true
     sure_here = sure_by laid.core.inner.committed laid.core.held (group_here.at.lies.committed came_group.returns.loose came_group.returns.begun) (group_here.at.lies.images.free came_group.returns.loose came_group.returns.begun)
 
     pub ground_same : note_ground (noted_config laid.core.inner.config) laid.core middle ≡ middle
@@ -241,6 +241,21 @@ module _ {R : Type 0} {g : Ghosts R} (n : Node) (note : GroupNode) (idle : Idle 
     plain_again maps s is none =
         let untold : IsTrue (laid_disks laid).tells → ⊥ = λ told. never_none (sym (names_found told).0 ∙ none) in
         record { laid = laid; group = came_group; less = record { was = λ below. known (dark_here below untold); dark = λ below. dark_here below untold }; maps = maps; none = none; is = is }
+
+    -- ---- it is not known what the disks hold, and the replicated volume group that was found came up
+
+    pub found_risen : ((s : Shade R) → Lawful (shade_meaning g.meaning s)) → (beside : KeptBeside) → IsOverSite beside n → (IsTrue (laid_disks laid).tells → ⊥) → (u : Units) → laid.core.inner.config.rvg ≡ Some u → (s : OverSet R g) → Started u laid s
+        → FoundAgain beside n note (Down idle) s
+    found_risen laws beside over untold u has s started =
+        let site : Node = returned_with middle (record (below_rvg n) { group = Some ready }) in
+        let it = found_over_set laws n site middle u laid s came_group.up has untold started refl refl (burned_twice n.fuse) came_group.returns.cut beside over.1 over.4 in
+        record {
+          laid = laid;
+          group = came_group;
+          over = it.0;
+          less = found_less laws n site middle u laid s came_group.up has untold started refl refl (burned_twice n.fuse) came_group.returns.cut note it.0.next it.1 known;
+          to = λ k. subst (λ (e : GroupSite R g). (laid_disks laid).disk_faults k ≤ (site_disks e).disk_faults k) (sym started.site) (started.starts.since.counts k);
+        }
 
   -- ---- the site behind an import
 
@@ -332,16 +347,7 @@ module _ {R : Type 0} {g : Ghosts R} (n : Node) (note : GroupNode) (idle : Idle 
       -- the replicated volume group that was found came up
 
       pub found_again : (u : Units) → laid.core.inner.config.rvg ≡ Some u → (s : OverSet R g) → Started u laid s → FoundAgain beside n note (Down idle) s
-      found_again u has s started =
-          let site : Node = returned_with (middle laid by) (record (below_rvg n) { group = Some ready }) in
-          let it = found_over_set laws n site (middle laid by) u laid s (came_group laid by).up has untold started refl refl (burned_twice n.fuse) (came_group laid by).returns.cut beside over.1 over.4 in
-          record {
-            laid = laid;
-            group = came_group laid by;
-            over = it.0;
-            less = found_less laws n site (middle laid by) u laid s (came_group laid by).up has untold started refl refl (burned_twice n.fuse) (came_group laid by).returns.cut note it.0.next it.1 (known laid by);
-            to = λ k. subst (λ (e : GroupSite R g). (laid_disks laid).disk_faults k ≤ (site_disks e).disk_faults k) (sym started.site) (started.starts.since.counts k);
-          }
+      found_again = found_risen laid by laws beside over untold
 
       -- or it was refused
 

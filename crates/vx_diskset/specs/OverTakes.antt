@@ -37,11 +37,6 @@ gone_in fuse session next n = record n { session = session; fuse = fuse; group =
 abbrev pub fell_in : (session : ℕ) → GroupNode → Node → Node
 fell_in session next n = record n { state = IsDown; session = session; fuse = NoFuse; group = Some next }
 
--- the fuse behind a refusal: it is lost where the disks crashed
-abbrev pub fuse_held : (lost : Bool) → Fuse → Fuse
-fuse_held true fuse = NoFuse
-fuse_held false fuse = burned fuse
-
 module _ {R : Type 0} {g : Ghosts R} where
   -- the group came up with the replicated volume group that the site has, and that was not started
   pub record LostOver (n : Node) (note : GroupNode) (old : GroupSite R g) (s : OverSet R g) : Type 0 where
@@ -77,7 +72,6 @@ module _ {R : Type 0} {g : Ghosts R} where
 
   -- the import was refused; or it is not known what the disks hold, and what was found was refused. The site is deported still.
   pub record HeldAway (beside : KeptBeside) (n : Node) (note : GroupNode) (old : GroupSite R g) (s : OverSet R g) (stop : Stop) : Type 0 where
-    pub lost : Bool
     pub loosens : Bool
     pub dims : Bool
     -- imports disagree from then on, or it is not known from then on what the disks hold, only where nothing was known; or where the import had begun to write
@@ -86,8 +80,8 @@ module _ {R : Type 0} {g : Ghosts R} where
     pub dimmed : dims ≡ true → stops_early stop ≡ true → IsTrue (site_below (site_in s)).tells → (note.dark ≡ true) ⊎ (note.loose ≡ true)
     pub short : stop ≡ OutOfMemory → (loosens ≡ false) × (dims ≡ true → (note.loose ≡ true) ⊎ (note.dark ≡ true))
     pub why : ImportWhy (IsTrue (site_disks (site_in s)).tells) (KnownAway (IsTrue (site_disks (site_in s)).tells) (note_ready old note)) (as_imported old) (site_disks (site_in s)) stop
-    pub noted : SiteNoted (gone_in (fuse_held lost n.fuse) n.session (note_held loosens dims note) n) (note_held loosens dims note) (Over s)
-    pub stands : SiteStands beside (gone_in (fuse_held lost n.fuse) n.session (note_held loosens dims note) n) (Over s)
+    pub noted : SiteNoted (gone_in (burned n.fuse) n.session (note_held loosens dims note) n) (note_held loosens dims note) (Over s)
+    pub stands : SiteStands beside (gone_in (burned n.fuse) n.session (note_held loosens dims note) n) (Over s)
 
   -- The fuse ran out in the import; or it is not known what the disks hold, and it ran out behind that. The site is down.
   pub record HeldOff (beside : KeptBeside) (n : Node) (note : GroupNode) (old : GroupSite R g) (s : OverSet R g) : Type 0 where
