@@ -44,6 +44,7 @@ pub mod Loosened
 pub mod OverHolds
 pub mod OverKnown
 pub mod OverGone
+pub mod OverTakes
 pub mod OverRecovers
 pub mod OverSettles
 pub mod OverMaking

@@ -1,6 +1,6 @@
 -- The disks of a site whose group, with a replicated volume group over it, was deported: by each configuration that an import finds they keep its log and its content.
 use Rattle.std.proofs.Common.{◌≡◌, ◌∙◌, ◌⊎◌, inl, inr, ⊎_elim, ℕ, ◌-◌, ◌<◌, ◌≤◌, Bool, true, List, length, take, drop, IsTrue, ap, arith, refl, subst, sym}
-use Rattle.std.specs.Prelude.{None}
+use Rattle.std.specs.Prelude.{None, Option, Some}
 use Rattle.std.proofs.lemmas.List.{drop_all, length-take, take_all}
 use Rattle.vx_config.specs.Checks.{blocks_of, is_sound}
 use Rattle.vx_config.specs.declared.config.Config.{Config}
@@ -242,7 +242,7 @@ module _ {R : Type 0} {g : Ghosts R} (laws : (s : Shade R) → Lawful (shade_mea
   given_idle : (x y : Idle R g) → ◌≡◌ {A = GroupSite R g} (Deported x) (Deported y) → x ≡ y
   given_idle x y is = cc
 
-  given_site : (s : OverSite R g) (idle : Idle R g) → below_site s ≡ Deported idle → s ≡ GroupAway idle
+  pub given_site : (s : OverSite R g) (idle : Idle R g) → below_site s ≡ Deported idle → s ≡ GroupAway idle
   given_site (OriginSite f) idle is = absurd (cc)
   given_site (ReceiverSite f) idle is = absurd (cc)
   given_site (GroupAway x) idle is = ap (λ (i : Idle R g). GroupAway i) (given_idle x idle is)

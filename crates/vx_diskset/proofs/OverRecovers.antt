@@ -82,7 +82,7 @@ alone_by false b c first second third = absurd (let clash : false ≡ true = fir
 alone_by true false c first second third = absurd (let clash : false ≡ true = second in cc)
 alone_by true true false first second third = absurd (let clash : false ≡ true = third in cc)
 
-stands_alone : (n : Node) (links : List KeptLink) → is_origin n.role ≡ true → links ≡ [] → n.phase ≡ Quiet → is_alone (state_with n links) ≡ true
+pub stands_alone : (n : Node) (links : List KeptLink) → is_origin n.role ≡ true → links ≡ [] → n.phase ≡ Quiet → is_alone (state_with n links) ≡ true
 stands_alone n links origin none quiet =
     alone_by (is_origin n.role) (has_no_links links) (is_idle_phase n.phase) origin (ap (λ (ls : List KeptLink). has_no_links ls) none) (ap (λ (p : SPhase). is_idle_phase p) quiet)
 
