@@ -13,7 +13,7 @@ use Rattle.vx_events.specs.Facts.{site_number}
 use Rattle.vx_events.specs.Fails.{Fails}
 use Rattle.vx_events.specs.GroupNotes.{note_at}
 use Rattle.vx_events.specs.Parts.{StopsBetween, StopsDown, StopsInPart, StopsRead, StopsShort}
-use Rattle.vx_events.specs.RvgBack.{GroupHeld, GroupUnfound, KeptLost, LogFails, LogLacks, FindsNoRvg, FindsPlain, FindsRvg, RvgBack, RvgFinds, RvgUp}
+use Rattle.vx_events.specs.RvgBack.{GroupHeld, GroupUnfound, LogFails, LogLacks, FindsNoRvg, FindsPlain, FindsRvg, RvgBack, RvgFinds, RvgUp}
 use Rattle.vx_events.specs.OpenLines.{is_open}
 use Rattle.vx_events.specs.RvgMakes.{MakesRvg, RvgCut, RvgDone, RvgFails, RvgLacks}
 use Rattle.vx_events.specs.RvgNotes.{NotesLacking, NotesNarrowed, NotesNoRvg, NotesRvg}
@@ -60,8 +60,6 @@ module _ {T U : Type 0} (f : U → T) where
       LogFails site kept taken disk middle next gone has is of failed (back_told f s (d.world.nodes s) fails (note_at (d.world.nodes s)) middle back) keeps works session says left
   came_told d line s fails said new (LogLacks site kept taken middle next has is of back keeps works lacks says left) =
       LogLacks site kept taken middle next has is of (back_told f s (d.world.nodes s) fails (note_at (d.world.nodes s)) middle back) keeps works (λ u. lacks (f u)) says left
-  came_told d line s fails said new (KeptLost site kept taken disk middle next has is of failed back keeps works says left) =
-      KeptLost site kept taken disk middle next has is of failed (back_told f s (d.world.nodes s) fails (note_at (d.world.nodes s)) middle back) keeps works says left
   came_told d line s fails said new (GroupUnfound site kept taken lost why next has is of not leaves says left) = GroupUnfound site kept taken lost why next has is of not leaves says left
   came_told d line s fails said new (GroupHeld site kept taken lost disk next has is of failed notes says left) = GroupHeld site kept taken lost disk next has is of failed notes says left
 
@@ -162,9 +160,9 @@ module _ {T U : Type 0} (f : U → T) where
   stops_told d line new (StopsBetween never p s middle is moves left) = StopsBetween (λ u calm. never (f u) calm) p s middle is moves left
 
   part_told : (d : Doubted) (line : ScriptLine) (s : ℕ) (new : Doubted) → RvgShort T d line s new → RvgShort U d line s new
-  part_told d line s new (ShortGroup kept taken lost next has is notes left) = ShortGroup kept taken lost next has is notes left
-  part_told d line s new (ShortLog kept taken fails middle next has is of back keeps cut left) =
-      ShortLog kept taken fails middle next has is of (back_told f s (d.world.nodes s) fails (note_at (d.world.nodes s)) middle back) keeps cut left
+  part_told d line s new (ShortGroup site kept taken lost next has is notes left) = ShortGroup site kept taken lost next has is notes left
+  part_told d line s new (ShortLog site kept taken fails middle next has is of back keeps cut left) =
+      ShortLog site kept taken fails middle next has is of (back_told f s (d.world.nodes s) fails (note_at (d.world.nodes s)) middle back) keeps cut left
   part_told d line s new (ShortMade site srl maps volumes fails next is of notes left) = ShortMade site srl maps volumes fails next is of (no_rvg_told _ s fails _ (note_at (d.world.nodes s)) next notes) left
 
   pub short_told : (d : Doubted) (line : ScriptLine) (new : Doubted) → ShortFull T d line new → ShortFull U d line new

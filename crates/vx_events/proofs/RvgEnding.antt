@@ -10,7 +10,7 @@ use Rattle.vx_history.specs.Likes.{IsLike}
 use Rattle.vx_history.specs.Stops.{EventsEnd, AllDone as EventsDone, Halts, Cuts, Reads, IsLikeDoubted, IsOpen, all_fails, told_fails}
 use Rattle.vx_history.specs.World.{NoFuse, World}
 use Rattle.vx_history.specs.declared.event.Event.{Event}
-use Rattle.vx_history.specs.declared.event.Event.TheVariants.{Crash as CrashAt, Recover as RecoverAt, Fall as FallAt}
+use Rattle.vx_history.specs.declared.event.Event.TheVariants.{Recover as RecoverAt, Fall as FallAt}
 use Rattle.vx_script.specs.declared.line.ScriptLine.{ScriptLine}
 use Rattle.vx_script.specs.declared.line.ScriptLine.TheVariants.{Apply, Crash, Disk as DiskLine, Fuse as FuseLine, GroupDeport, GroupImport, PlexAttach, PlexDetach, Put, Raw, Read, Recover, Show, Site, Status, Write}
 use Rattle.vx_events.proofs.GroupStopping.{group_stops, noted_like}
@@ -30,7 +30,7 @@ use Rattle.vx_events.specs.GroupEnds.{KnowsNothing}
 use Rattle.vx_events.specs.GroupLines.{group_noted, noting}
 use Rattle.vx_events.specs.GroupNotes.{IsKnown, note_at}
 use Rattle.vx_events.specs.Lists.{Choice, events_of, recovery_of, crash_count}
-use Rattle.vx_events.specs.RvgBack.{FindsNoRvg, FindsPlain, FindsRvg, GroupHeld, GroupUnfound, IsLeftBack, KeptLost, IsLeftBut, LogFails, LogLacks, RvgBack, RvgFinds, RvgUp, fall_first, fuse_left, SessionLeft}
+use Rattle.vx_events.specs.RvgBack.{FindsNoRvg, FindsPlain, FindsRvg, GroupHeld, GroupUnfound, IsLeftBack, IsLeftBut, LogFails, LogLacks, RvgBack, RvgFinds, RvgUp, fall_first, fuse_left, SessionLeft}
 use Rattle.vx_events.specs.RvgMakes.{RvgStops}
 use Rattle.vx_events.specs.RvgOver.{BelowEnds, EndsOver, OpensFor, OverRvg, kind_named, missed_world, noting_over, fuse_behind}
 use Rattle.vx_events.specs.RvgParts.{RvgShort, ShortGroup, ShortLog, ShortMade}
@@ -122,9 +122,6 @@ module _ (told : Type 0) (d : Doubted) (line : ScriptLine) (s : ℕ) (fails : Fa
   back_stops (LogFails site kept taken disk middle next left has is are failed back keeps works (inr begun) says leads) =
       but_by true d s line taken next (fall_first (d.world.nodes s).state s kept ++ left) ((s, disk) ∷ []) new (told_behind (fall_first (d.world.nodes s).state s kept) left (falls_tell (d.world.nodes s).state s kept) ∙ ap all_fails begun) leads
   back_stops (LogLacks site kept taken middle next has is are back keeps works lacks says left) = fall_stops d s line kept taken true next new left
-  back_stops (KeptLost site kept taken disk middle next has is are failed back keeps works says left) =
-      done_by d s line taken next (fall_first (d.world.nodes s).state s kept ++ RecoverAt s None ∷ CrashAt s 0 ∷ []) [] new
-      (told_behind (fall_first (d.world.nodes s).state s kept) (RecoverAt s None ∷ CrashAt s 0 ∷ []) (falls_tell (d.world.nodes s).state s kept)) left
   back_stops (GroupUnfound site kept taken lost why next has is are not leaves says left) = fall_stops d s line kept taken lost next new left
   back_stops (GroupHeld site kept taken lost disk next has is are failed notes says left) = fall_stops d s line kept taken lost next new left
 
@@ -178,8 +175,8 @@ module _ (told : Type 0) (d : Doubted) (line : ScriptLine) (s : ℕ) (fails : Fa
 
 -- what want of memory leaves of a recovery or an import
 pub short_stops : (told : Type 0) (d : Doubted) (line : ScriptLine) (s : ℕ) (new : Doubted) → RvgShort told d line s new → RvgStops d new
-short_stops told d line s new (ShortGroup kept taken lost next has is notes left) = fall_stops d s line kept taken lost next new left
-short_stops told d line s new (ShortLog kept taken fails middle next has is are back keeps cut left) = fall_stops d s line kept taken true next new left
+short_stops told d line s new (ShortGroup site kept taken lost next has is notes left) = fall_stops d s line kept taken lost next new left
+short_stops told d line s new (ShortLog site kept taken fails middle next has is are back keeps cut left) = fall_stops d s line kept taken true next new left
 short_stops told d line s new (ShortMade site srl maps volumes fails next is are notes left) = ended_rvg d d new (same_doubted d) s next [] refl left
 
 -- ---- where a line writes its site is open

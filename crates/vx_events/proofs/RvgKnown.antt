@@ -22,7 +22,7 @@ use Rattle.vx_events.specs.GroupEnds.{BringsUp}
 use Rattle.vx_events.specs.GroupLines.{noting}
 use Rattle.vx_events.specs.GroupNotes.{Reconfigures, no_note, note_at}
 use Rattle.vx_events.specs.Known.{MayDarken}
-use Rattle.vx_events.specs.RvgBack.{FindsNoRvg, FindsPlain, FindsRvg, GroupHeld, GroupUnfound, IsLeftBack, KeptLost, LogFails, LogLacks, RvgBack, RvgFinds, RvgUp, fuse_left}
+use Rattle.vx_events.specs.RvgBack.{FindsNoRvg, FindsPlain, FindsRvg, GroupHeld, GroupUnfound, IsLeftBack, LogFails, LogLacks, RvgBack, RvgFinds, RvgUp, fuse_left}
 use Rattle.vx_events.specs.RvgMakes.{IsLeftRvg, MakesRvg, RvgCut, RvgDone, RvgFails, RvgLacks, units_at}
 use Rattle.vx_events.specs.RvgNotes.{NotesNarrowed}
 use Rattle.vx_events.specs.RvgOver.{BelowEnds, EndsOver, NotesLine, OverRvg, kind_named, missed_world, noting_over, fuse_behind}
@@ -104,7 +104,6 @@ module _ (told : Type 0) (tells : told) (d : Doubted) (s : ℕ) (known : (note_a
   back_known_too line free (LogFails site kept taken disk middle next left has is are failed back keeps works begun says leads) =
       absurd (no_rise here line said _ says free (subst BringsUp (sym is) tt))
   back_known_too line free (LogLacks site kept taken middle next has is are back keeps works lacks says left) = absurd (no_rise here line said _ says free (subst BringsUp (sym is) tt))
-  back_known_too line free (KeptLost site kept taken disk middle next has is are failed back keeps works says left) = absurd (no_rise here line said _ says free (subst BringsUp (sym is) tt))
   back_known_too line free (GroupUnfound site kept taken lost why next has is are not leaves says left) = absurd (no_rise here line said why says free (subst BringsUp (sym is) tt))
   back_known_too line free (GroupHeld site kept taken lost disk next has is are failed notes says left) = absurd (no_rise here line said _ says free (subst BringsUp (sym is) tt))
 

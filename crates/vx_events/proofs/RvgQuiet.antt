@@ -19,7 +19,7 @@ use Rattle.vx_events.specs.Fails.{Fails}
 use Rattle.vx_events.specs.GroupEnds.{BringsUp, FindsGroup, FindsNoGroup, GroupCut, GroupDoes, GroupDone, GroupEnds, GroupFails, GroupLacks, GroupNotFound, ImportFails, InitFails, KeptUnread, NotFoundLeaves}
 use Rattle.vx_events.specs.GroupMaps.{WithMaps}
 use Rattle.vx_events.specs.GroupNotes.{NotesBack, NotesRefused, NotesWrite, Reconfigures, no_note, note_at}
-use Rattle.vx_events.specs.RvgBack.{GroupHeld, GroupUnfound, KeptLost, LogFails, LogLacks, RvgBack, RvgFinds, RvgUp}
+use Rattle.vx_events.specs.RvgBack.{GroupHeld, GroupUnfound, LogFails, LogLacks, RvgBack, RvgFinds, RvgUp}
 use Rattle.vx_order.specs.Calls.{is_data}
 use Rattle.vx_events.proofs.ReadsLeave.{read_by, read_note}
 use Rattle.vx_events.proofs.WritesBelow.{write_by}
@@ -97,7 +97,6 @@ module _ (told : Type 0) (tells : told) (d : Doubted) (s : ℕ) (fails : Fails) 
   back_agrees line (LogLacks site kept taken middle next has is are back keeps works lacks says left) =
       agrees_at (new.world.nodes s) next (but_group true s line taken next d _ new left)
       (agrees_same works.worked next (ap (λ (g : GroupNode). g.loose) works.is) (ap (λ (g : GroupNode). g.begun) works.is) (came_agrees middle works.worked back works.works))
-  back_agrees line (KeptLost site kept taken disk middle next has is are failed back keeps works says left) = absurd (none disk failed)
   back_agrees line (GroupUnfound site kept taken lost why next has is are not leaves says left) =
       agrees_at (new.world.nodes s) next (but_group lost s line taken next d _ new left) (agrees_unfound why here next leaves a)
   back_agrees line (GroupHeld site kept taken lost disk next has is are failed notes says left) = absurd (none disk failed)

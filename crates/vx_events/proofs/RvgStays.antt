@@ -29,7 +29,7 @@ use Rattle.vx_events.specs.GroupLines.{group_noted, noting, plain_number}
 use Rattle.vx_events.specs.GroupMaps.{WithMaps}
 use Rattle.vx_events.specs.GroupNotes.{IsKnown, NotesBack, NotesCut, NotesDoubt, NotesRefused, NotesUnfound, NotesWrite, Reconfigures, no_note, note_at}
 use Rattle.vx_events.specs.GroupViews.{config_of}
-use Rattle.vx_events.specs.RvgBack.{FindsNoRvg, FindsPlain, FindsRvg, GroupHeld, GroupUnfound, IsLeftBack, IsLeftBut, KeptLost, LogFails, LogLacks, RvgBack, RvgFinds, RvgUp}
+use Rattle.vx_events.specs.RvgBack.{FindsNoRvg, FindsPlain, FindsRvg, GroupHeld, GroupUnfound, IsLeftBack, IsLeftBut, LogFails, LogLacks, RvgBack, RvgFinds, RvgUp}
 use Rattle.vx_events.specs.RvgFits.{KeepsRvg, KeptConfig, NoteKeepsRvg, config_rvg, rvg_noted}
 use Rattle.vx_events.specs.RvgOver.{BelowEnds, NotesLine, OverRvg, EndsOver, kind_named, missed_world}
 use Rattle.vx_events.specs.RvgViews.{is_over_rvg}
@@ -202,7 +202,6 @@ module _ (told : Type 0) (d : Doubted) (line : ScriptLine) (s : ℕ) (fails : Fa
   back_stays (RvgUp site kept taken middle next shown has is are back keeps works says shows left) = left_keeps taken next d _ left (works_keeps ⊥ middle next keeps works)
   back_stays (LogFails site kept taken disk middle next events has is are failed back keeps works begun says left) = but_keeps true taken next d _ left (left_cut ⊥ middle next keeps works)
   back_stays (LogLacks site kept taken middle next has is are back keeps works lacks says left) = but_keeps true taken next d _ left (left_cut ⊥ middle next keeps works)
-  back_stays (KeptLost site kept taken disk middle next has is are failed back keeps works says left) = left_keeps taken next d _ left (left_cut ⊥ middle next keeps works)
   back_stays (GroupUnfound site kept taken lost why next has is are not leaves says left) =
       but_keeps lost taken next d _ left (same_config here next (unfound_config why here next leaves))
   back_stays (GroupHeld site kept taken lost disk next has is are failed notes says left) =

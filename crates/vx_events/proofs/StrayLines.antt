@@ -23,7 +23,7 @@ use Rattle.vx_events.specs.LinkLists.{link_events}
 use Rattle.vx_events.specs.Lists.{Choice, crash_count, events_of}
 use Rattle.vx_events.specs.OpenLines.{is_open}
 use Rattle.vx_events.specs.Parts.{PartLeft, ReadFirst, StopsBetween, StopsDown, StopsInPart, StopsRead, StopsShort}
-use Rattle.vx_events.specs.RvgBack.{FindsNoRvg, FindsPlain, FindsRvg, GroupHeld, GroupUnfound, KeptLost, LogFails, LogLacks, RvgBack, RvgFinds, RvgUp, fall_first}
+use Rattle.vx_events.specs.RvgBack.{FindsNoRvg, FindsPlain, FindsRvg, GroupHeld, GroupUnfound, LogFails, LogLacks, RvgBack, RvgFinds, RvgUp, fall_first}
 use Rattle.vx_events.specs.RvgMakes.{MakesRvg, RvgCut, RvgDone, RvgFails, RvgLacks, noting_in, units_at}
 use Rattle.vx_events.specs.RvgNotes.{volume_events}
 use Rattle.vx_events.specs.GroupNotes.{IsKnown, note_at}
@@ -128,8 +128,6 @@ back_strays told d line s fails said new (LogFails site kept taken disk middle n
     left.strayed ∙ run_strays taken d (fall_first (d.world.nodes s).state s kept ++ begun)
 back_strays told d line s fails said new (LogLacks site kept taken middle next has is are back keeps works lacks says left) =
     left.strayed ∙ run_strays taken d (fall_first (d.world.nodes s).state s kept)
-back_strays told d line s fails said new (KeptLost site kept taken disk middle next has is are failed back keeps works says left) =
-    left.strayed ∙ run_strays taken d (fall_first (d.world.nodes s).state s kept ++ RecoverAt s None ∷ CrashAt s 0 ∷ [])
 back_strays told d line s fails said new (GroupUnfound site kept taken lost why next has is are not leaves says left) =
     left.strayed ∙ run_strays taken d (fall_first (d.world.nodes s).state s kept)
 back_strays told d line s fails said new (GroupHeld site kept taken lost disk next has is are failed notes says left) =
@@ -257,8 +255,8 @@ short_strays told d line new (StopsRead read) = read_strays d line new read
 short_strays told d line new (StopsBetween untold p s middle is moves left) = left.strayed ∙ moves.strayed
 
 rvg_short_strays : (told : Type 0) (d : Doubted) (line : ScriptLine) (s : ℕ) (new : Doubted) → RvgShort told d line s new → StraysAs d new
-rvg_short_strays told d line s new (ShortGroup kept taken lost next has is notes left) = left.strayed ∙ run_strays taken d (fall_first (d.world.nodes s).state s kept)
-rvg_short_strays told d line s new (ShortLog kept taken fails middle next has is are back keeps cut left) =
+rvg_short_strays told d line s new (ShortGroup site kept taken lost next has is notes left) = left.strayed ∙ run_strays taken d (fall_first (d.world.nodes s).state s kept)
+rvg_short_strays told d line s new (ShortLog site kept taken fails middle next has is are back keeps cut left) =
     left.strayed ∙ run_strays taken d (fall_first (d.world.nodes s).state s kept)
 rvg_short_strays told d line s new (ShortMade site srl maps volumes fails next is are notes left) = left.strayed
 

@@ -93,11 +93,6 @@ pub data RvgBack (told : Type 0) (d : Doubted) (line : ScriptLine) (s : ℕ) (fa
       → NotesBack told s (d.world.nodes s) fails (note_at (d.world.nodes s)) middle → NoteKeepsRvg (note_at (d.world.nodes s)) middle
       → WorksCut ⊥ s fails (note_at (d.world.nodes s)).cut middle next → LacksSession told (run_as taken d (fall_first (d.world.nodes s).state s kept)).world s
       → said ≡ Refused (Limit Number MOST_NUMBER) → IsLeftBut true s line taken next d (run_as taken d (fall_first (d.world.nodes s).state s kept)) new → RvgBack told d line s fails said new
-  -- the site came up, and what is kept of a write that was cut could not be read: it is down again
-  KeptLost : (site : List ℕ) (kept : ℕ) (taken : Bool) (disk : ℕ) (middle next : GroupNode) → is_over_rvg (d.world.nodes s) ≡ true → line ≡ Recover site → AreOf s fails
-      → Contains fails (s, disk) → NotesBack told s (d.world.nodes s) fails (note_at (d.world.nodes s)) middle → NoteKeepsRvg (note_at (d.world.nodes s)) middle
-      → WorksCut ⊥ s fails (note_at (d.world.nodes s)).cut middle next → said ≡ Refused (Device disk)
-      → IsLeftBack s line taken next d (run_as taken d (fall_first (d.world.nodes s).state s kept ++ RecoverAt s None ∷ CrashAt s 0 ∷ [])) new → RvgBack told d line s fails said new
   -- no group was found, and a site that is up crashed all the same
   GroupUnfound : (site : List ℕ) (kept : ℕ) (taken lost : Bool) (why : No) (next : GroupNode) → is_over_rvg (d.world.nodes s) ≡ true → line ≡ Recover site → AreOf s fails
       → NotFound s (note_at (d.world.nodes s)) fails why → NotFoundLeaves why (note_at (d.world.nodes s)) next → said ≡ Refused why

@@ -132,14 +132,14 @@ module _ {R : Type 0} {g : Ghosts R} where
     abbrev m : Node
     m = below_rvg ((missed_world start.missed d s).world.nodes s)
 
-    abbrev note : GroupNode
-    note = note_at ((missed_world start.missed d s).world.nodes s)
+    abbrev note_there : GroupNode
+    note_there = note_at ((missed_world start.missed d s).world.nodes s)
 
-    abbrev v : ℕ
-    v = plain_number (note_at ((missed_world start.missed d s).world.nodes s)) volume
+    abbrev number_there : ℕ
+    number_there = plain_number (note_at ((missed_world start.missed d s).world.nodes s)) volume
 
     whole : asked ≡ plex
-    whole = fits ∙ plex_fits m note (site_in start.at.set) volume plex start.asks named.at
+    whole = fits ∙ plex_fits m note_there (site_in start.at.set) volume plex start.asks named.at
 
     line_of : (r : Result ℕ Stop) (then : OverBehind (AttsBelow place asked r start.at.set) after) → BelowLine e (PlexAttach name volume plex) old new name s before after then.set
     line_of r then = record {
@@ -170,26 +170,28 @@ module _ {R : Type 0} {g : Ghosts R} where
     never_by count why clash = absurd (cc)
 
     pub attached : (count : ℕ) → OnOver (AttsBelow place asked (Ok count)) before after → new.facts.items ≡ old.facts.items → SameLoad old new → LeadsAboveIs d (PlexAttach name volume plex) old new (Ok (DoneAt count))
+    unfolding line_of
     attached count on facts load =
         let r : Result ℕ Stop = Ok count in
         let then : OverBehind (AttsBelow place asked r start.at.set) after = then_of r on in
-        let so : AttsBelow v plex r start.at.set then.set = att_so place asked v plex r start.at.set then.set named.number whole then.holds in
-        let refused : (no : No) → refuses_att (site_in start.at.set) v plex ≡ Some no → r ≡ Err (StopsBy no) = λ no is. so.refused m note no start.asks is in
+        let so : AttsBelow number_there plex r start.at.set then.set = att_so place asked number_there plex r start.at.set then.set named.number whole then.holds in
+        let refused : (no : No) → refuses_att (site_in start.at.set) number_there plex ≡ Some no → r ≡ Err (StopsBy no) = λ no is. so.refused m note_there no start.asks is in
         above_is d old new name s before (PlexAttach name volume plex) (Ok (DoneAt count)) start start.number (λ said fails next ends. ends) (
           DoneAt count,
           refl,
           attach_done e old new name volume plex place s before after then.set start.stands (line_of r then) named start.asks count
-              (so.called m note start.asks) (so.maps m note start.asks)
-              (zero_by (site_in start.at.set) v plex count (refuses_att (site_in start.at.set) v plex) refl refused (λ free on. so.already m note start.asks free on))
+              (so.called m note_there start.asks) (so.maps m note_there start.asks)
+              (zero_by (site_in start.at.set) number_there plex count (refuses_att (site_in start.at.set) number_there plex) refl refused (λ free on. so.already m note_there start.asks free on))
               (λ off. so.count off) (λ no is. never_by count no (refused no is)) facts load,
         )
 
     pub unattached : (mid : Yard R g) (result : Result Said OutOfMemory) → Midway old mid → (stop : Stop) → OnOver (AttsBelow place asked (Err stop)) before after → reply_noted s (linked_fact (missed_world start.missed d s).world s) stop mid new result
         → LeadsAboveIs d (PlexAttach name volume plex) old new result
+    unfolding line_of
     unattached mid result half stop on refusal =
         let r : Result ℕ Stop = Err stop in
         let then : OverBehind (AttsBelow place asked r start.at.set) after = then_of r on in
-        let so : AttsBelow v plex r start.at.set then.set = att_so place asked v plex r start.at.set then.set named.number whole then.holds in
+        let so : AttsBelow number_there plex r start.at.set then.set = att_so place asked number_there plex r start.at.set then.set named.number whole then.holds in
         above_is d old new name s before (PlexAttach name volume plex) result start start.number (λ said fails next ends. ends)
         (attach_halts e old new name volume plex place s before after then.set start.stands (line_of r then) named start.asks mid result half stop
-        (so.called m note start.asks) (so.maps m note start.asks) refusal)
+        (so.called m note_there start.asks) (so.maps m note_there start.asks) refusal)

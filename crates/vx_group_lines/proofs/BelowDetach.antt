@@ -127,14 +127,14 @@ module _ {R : Type 0} {g : Ghosts R} where
     abbrev e : Doubted
     e = missed_world start.missed d s
 
-    abbrev note : GroupNode
-    note = note_at ((missed_world start.missed d s).world.nodes s)
+    abbrev note_there : GroupNode
+    note_there = note_at ((missed_world start.missed d s).world.nodes s)
 
-    abbrev v : ℕ
-    v = plain_number (note_at ((missed_world start.missed d s).world.nodes s)) volume
+    abbrev number_there : ℕ
+    number_there = plain_number (note_at ((missed_world start.missed d s).world.nodes s)) volume
 
     whole : asked ≡ plex
-    whole = fits ∙ plex_fits (below_rvg (e.world.nodes s)) note (site_in start.at.set) volume plex start.asks named.at
+    whole = fits ∙ plex_fits (below_rvg (e.world.nodes s)) note_there (site_in start.at.set) volume plex start.asks named.at
 
     line_of : (r : Result (Unit {0}) Stop) (then : OverBehind (DetsBelow place asked r start.at.set) after) → BelowLine e (PlexDetach name volume plex) old new name s before after then.set
     line_of r then = record {
@@ -162,23 +162,25 @@ module _ {R : Type 0} {g : Ghosts R} where
     then_of r on = overs_behind (DetsBelow place asked r) before after start.at.set start.at.is_set on
 
     pub detached : OnOver (DetsBelow place asked (Ok (tt {0}))) before after → new.facts.items ≡ old.facts.items → SameLoad old new → LeadsAboveIs d (PlexDetach name volume plex) old new (Ok Done)
+    unfolding line_of
     detached on facts load =
         let r : Result (Unit {0}) Stop = Ok (tt {0}) in
         let then : OverBehind (DetsBelow place asked r start.at.set) after = then_of r on in
-        let so : DetsBelow v plex r start.at.set then.set = det_so place asked v plex r start.at.set then.set named.number whole then.holds in
+        let so : DetsBelow number_there plex r start.at.set then.set = det_so place asked number_there plex r start.at.set then.set named.number whole then.holds in
         above_is d old new name s before (PlexDetach name volume plex) (Ok Done) start start.number (λ said fails next ends. ends) (
           Done,
           refl,
           det_done e old new name volume plex place s before after then.set start.stands (line_of r then) named start.asks
-              (so.called (below_rvg (e.world.nodes s)) note start.asks) (so.maps (below_rvg (e.world.nodes s)) note start.asks) (λ no is. so.refused (below_rvg (e.world.nodes s)) note no start.asks is) facts load,
+              (so.called (below_rvg (e.world.nodes s)) note_there start.asks) (so.maps (below_rvg (e.world.nodes s)) note_there start.asks) (λ no is. so.refused (below_rvg (e.world.nodes s)) note_there no start.asks is) facts load,
         )
 
     pub undetached : (mid : Yard R g) (result : Result Said OutOfMemory) → Midway old mid → (stop : Stop) → OnOver (DetsBelow place asked (Err stop)) before after → reply_noted s (linked_fact (missed_world start.missed d s).world s) stop mid new result
         → LeadsAboveIs d (PlexDetach name volume plex) old new result
+    unfolding line_of
     undetached mid result half stop on refusal =
         let r : Result (Unit {0}) Stop = Err stop in
         let then : OverBehind (DetsBelow place asked r start.at.set) after = then_of r on in
-        let so : DetsBelow v plex r start.at.set then.set = det_so place asked v plex r start.at.set then.set named.number whole then.holds in
+        let so : DetsBelow number_there plex r start.at.set then.set = det_so place asked number_there plex r start.at.set then.set named.number whole then.holds in
         above_is d old new name s before (PlexDetach name volume plex) result start start.number (λ said fails next ends. ends)
         (det_halts e old new name volume plex place s before after then.set start.stands (line_of r then) named start.asks mid result half stop
-        (so.called (below_rvg (e.world.nodes s)) note start.asks) (so.maps (below_rvg (e.world.nodes s)) note start.asks) refusal)
+        (so.called (below_rvg (e.world.nodes s)) note_there start.asks) (so.maps (below_rvg (e.world.nodes s)) note_there start.asks) refusal)

@@ -43,6 +43,11 @@ use Rattle.vx_group_lines.proofs.PlexPlaces.{PlexesIn, names_apart, only_named, 
 use Rattle.vx_group_lines.proofs.Tests.{PlexMay}
 use Rattle.vx_group_lines.specs.Noting.{HasConfig, number_in}
 
+-- the volume of this name has this number in the group, and so many plexes
+pub record BelowPlex (note : GroupNode) (volume : List ℕ) (plex place : ℕ) : Type 0 where
+  pub number : place ≡ plain_number note volume
+  pub at : PlexAt note volume plex
+
 module _ {R : Type 0} {g : Ghosts R} where
   -- a group that is up has the configuration that is noted, which is sound
   record SoundUp (note : GroupNode) (e : GroupSite R g) : Type 0 where
@@ -62,11 +67,6 @@ module _ {R : Type 0} {g : Ghosts R} where
   sound_up n note (SiteDown idle) it = absurd it
   sound_up n note (Marked rack) it = absurd it
   sound_up n note SiteGone it = absurd it
-
-  -- the volume of this name has this number in the group, and so many plexes
-  pub record BelowPlex (note : GroupNode) (volume : List ℕ) (plex place : ℕ) : Type 0 where
-    pub number : place ≡ plain_number note volume
-    pub at : PlexAt note volume plex
 
   pub below_plex : (d : Doubted) (y : Yard R g) (name volume : List ℕ) (plex s place : ℕ) (e : DiskSet R g) (at : BelowAt d y name s e) → UpNoted (below_rvg (d.world.nodes s)) (note_at (d.world.nodes s)) (site_in at.set)
       → seat_of y.facts.items name ≡ Some s → PlexMay y.facts.items name volume plex → slice_get y.disk_sets.items s ≡ Some e → ((c : Config) → HasConfig s c y → place ≡ number_in c.volumes volume)

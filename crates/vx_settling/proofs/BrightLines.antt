@@ -27,7 +27,7 @@ use Rattle.vx_events.specs.GroupLines.{cut_events, group_events, group_noted, no
 use Rattle.vx_events.specs.GroupNotes.{IsKnown, no_note, note_at}
 use Rattle.vx_events.specs.Known.{MayDarken, SaysNo}
 use Rattle.vx_events.specs.Lines.{is_of_links}
-use Rattle.vx_events.specs.RvgBack.{GroupHeld, GroupUnfound, IsLeftBack, KeptLost, LogFails, LogLacks, RvgBack, RvgUp, fall_first}
+use Rattle.vx_events.specs.RvgBack.{GroupHeld, GroupUnfound, IsLeftBack, LogFails, LogLacks, RvgBack, RvgUp, fall_first}
 use Rattle.vx_events.specs.Brights.{AllBright, IsBright, IsBrightNote}
 use Rattle.vx_events.specs.RvgMakes.{IsLeftRvg, MakesRvg, RvgCut, RvgDone, RvgFails, RvgLacks, noting_in, units_at}
 use Rattle.vx_events.specs.RvgNotes.{volume_events}
@@ -113,7 +113,6 @@ module _ (told : Type 0) (tells : told) (d : Doubted) (b : AllBright d) (fails :
   rises_bright line s held here (LogFails site kept taken disk middle next events has is are failed back keeps works begun says left) =
       absurd (loud said line _ held says (subst BringsUp (sym is) tt))
   rises_bright line s held here (LogLacks site kept taken middle next has is are back keeps works lacks says left) = absurd (loud said line _ held says (subst BringsUp (sym is) tt))
-  rises_bright line s held here (KeptLost site kept taken disk middle next has is are failed back keeps works says left) = absurd (loud said line _ held says (subst BringsUp (sym is) tt))
   rises_bright line s held here (GroupUnfound site kept taken lost why next has is are not leaves says left) = absurd (loud said line why held says (subst BringsUp (sym is) tt))
   rises_bright line s held here (GroupHeld site kept taken lost disk next has is are failed notes says left) = absurd (loud said line _ held says (subst BringsUp (sym is) tt))
 

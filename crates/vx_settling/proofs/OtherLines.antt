@@ -29,7 +29,7 @@ use Rattle.vx_events.specs.LinkEnds.{AppliesCut, AppliesPart, AreLeft, LinkEnds,
 use Rattle.vx_events.specs.Lists.{Choice, crash_count, events_of}
 use Rattle.vx_events.specs.LinkFinds.{ApplyCut, ApplyHalts, EndsBetween, FindsOther, GivesUp, HeaderCut, HeaderHalts, IsStored, IsUnread, KeepsOther, LosesOther, MovesBetween, ReadsNone, SendsOther, SettlesOther, TakesOther}
 use Rattle.vx_events.specs.LinkLists.{link_events}
-use Rattle.vx_events.specs.RvgBack.{FindsNoRvg, FindsPlain, FindsRvg, GroupHeld, GroupUnfound, IsLeftBack, IsLeftBut, KeptLost, LogFails, LogLacks, RvgBack, RvgFinds, RvgUp, fall_first, fuse_left, unmade_site}
+use Rattle.vx_events.specs.RvgBack.{FindsNoRvg, FindsPlain, FindsRvg, GroupHeld, GroupUnfound, IsLeftBack, IsLeftBut, LogFails, LogLacks, RvgBack, RvgFinds, RvgUp, fall_first, fuse_left, unmade_site}
 use Rattle.vx_events.specs.RvgMakes.{IsLeftRvg, MakesRvg, RvgCut, RvgDone, RvgFails, RvgLacks, noting_in, units_at}
 use Rattle.vx_events.specs.RvgNotes.{volume_events}
 use Rattle.vx_events.specs.OpenLines.{is_open}
@@ -301,8 +301,6 @@ module _ (i : ℕ) (o : Option GroupNode) where
           fell line s apart taken true next (fall_first (d.world.nodes s).state s kept ++ leaves) left
       rises_notes line s apart (LogLacks site kept taken middle next has is are back keeps works lacks says left) =
           fell line s apart taken true next (fall_first (d.world.nodes s).state s kept) left
-      rises_notes line s apart (KeptLost site kept taken disk middle next has is are failed back keeps works says left) =
-          rose line s apart taken next (fall_first (d.world.nodes s).state s kept ++ RecoverAt s None ∷ CrashAt s 0 ∷ []) left
       rises_notes line s apart (GroupUnfound site kept taken lost why next has is are not leaves says left) =
           fell line s apart taken lost next (fall_first (d.world.nodes s).state s kept) left
       rises_notes line s apart (GroupHeld site kept taken lost disk next has is are failed notes says left) =
