@@ -1,6 +1,6 @@
 -- Disks by themselves, of a site that was deported, as its note has them: behind a start that was refused, or an import of which nothing is known any more.
 use Rattle.std.proofs.Common.{◌≡◌, ◌∙◌, ℕ, Bool, List, true, false, IsTrue, ap, refl, subst, sym}
-use Rattle.std.specs.Prelude.{IsFalse, Option}
+use Rattle.std.specs.Prelude.{Option}
 use Rattle.vx_disk.specs.Shelf.{Meaning}
 use Rattle.vx_disk.specs.declared.shelf.Shelf.{Ghosts}
 use Rattle.vx_grouped.proofs.AlikeLemmas.{less_deported}
@@ -15,18 +15,11 @@ use Rattle.vx_grouped.specs.SiteReturns.{TellsNone}
 use Rattle.vx_grouped.specs.declared.group_site.GroupSite.TheVariants.{Deported, Down}
 use Rattle.vx_grouped.specs.declared.idle.Idle.{Idle}
 use Rattle.vx_history.specs.Groups.{GroupNode}
-use Rattle.vx_history.specs.Steps.{burned}
-use Rattle.vx_history.specs.World.{Fuse, FuseLit, FuseSet, NoFuse, Node}
+use Rattle.vx_history.specs.World.{Fuse, NoFuse, Node}
 use Rattle.vx_model.specs.Content.{Write}
 use Rattle.vx_model.specs.declared.site.SiteState.TheVariants.{Deported as IsAway, Down as IsDown}
 use Rattle.vx_diskset.specs.OverRises.{note_held}
 use Rattle.vx_diskset.specs.OverStarts.{Revived}
-
--- disks that have no fuse have the one that is noted as it burned
-pub has_burned : (f : Fuse) (m : Meaning) → IsFalse m.armed → HasFuse (burned f) m
-has_burned NoFuse m unarmed = unarmed
-has_burned (FuseSet calls) m unarmed = tt
-has_burned (FuseLit most) m unarmed = tt
 
 -- the same disks by another node
 pub gone_as : (a k : Node) (note : GroupNode) (agreed told : Bool) (m : Meaning) → NotesGroup k note → k.state ≡ IsAway → HasFuse k.fuse m → a.disks ≡ k.disks → a.blocks ≡ k.blocks → GroupAway a note agreed told m → GroupAway k note agreed told m

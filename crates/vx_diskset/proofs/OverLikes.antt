@@ -7,6 +7,7 @@ use Rattle.vx_disk.specs.Shelf.{Image, Meaning}
 use Rattle.vx_disk.specs.declared.shelf.Shelf.{Ghosts}
 use Rattle.vx_events.specs.RvgNotes.{inside_of}
 use Rattle.vx_ground.specs.Lifted.{laid_volumes}
+use Rattle.vx_grouped.specs.declared.idle.Idle.{Idle}
 use Rattle.vx_history.specs.Groups.{GroupNode}
 use Rattle.vx_history.specs.World.{Fuse, Node, NoFuse}
 use Rattle.vx_kept.specs.Groups.{group_meaning}
@@ -143,11 +144,15 @@ module _ (beside : KeptBeside) (n : Node) (group : Option GroupNode) (fuse : Fus
   ground_as : IsOverSite beside n → IsOverSite beside k
   ground_as it = (has, it.1, it.2, it.3, it.4, it.5)
 
+  -- of one that was deported no fuse is said
+  idle_as : {R : Type 0} {g : Ghosts R} (idle : Idle R g) → OverStands beside n (GroupAway idle) → OverStands beside k (GroupAway idle)
+  idle_as idle it = (it.0, rests_as (λ c. AwayLeft c beside n (idle_ready idle)) (λ c. AwayLeft c beside k (idle_ready idle)) (idle_ready idle) (left_as (idle_ready idle)) it.1)
+
   module _ {R : Type 0} {g : Ghosts R} (lit : (x : Meaning) → FuseOn n.fuse x → FuseOn fuse x) (unlit : n.fuse ≡ NoFuse → fuse ≡ NoFuse) where
     stands_as : (s : OverSite R g) → OverStands beside n s → OverStands beside k s
     stands_as (OriginSite f) it = up_as f.core (laid_volumes f.laid) (lit (laid_volumes f.laid) it.fuse) it
     stands_as (ReceiverSite f) it = receiver_as f.core f.waiting (laid_volumes f.laid) (lit (laid_volumes f.laid) it.fuse) it
-    stands_as (GroupAway idle) it = (it.0, rests_as (λ c. AwayLeft c beside n (idle_ready idle)) (λ c. AwayLeft c beside k (idle_ready idle)) (idle_ready idle) (left_as (idle_ready idle)) it.1)
+    stands_as (GroupAway idle) it = idle_as idle it
     stands_as (GroupFell idle) it = (
       it.0,
       unlit it.1,
@@ -163,3 +168,12 @@ over_like beside n k o is has units lit unlit stands =
     let same : units_by k.group n.disks ≡ units_of n = ap (λ (d : ℕ). units_by k.group d) (sym (ap (λ (x : Node). x.disks) is)) ∙ units in
     subst (λ (x : Node). SiteStands beside x (Over o)) (sym is)
     (ground_as beside n k.group k.fuse stands.0.0 has same stands.0, stands_as beside n k.group k.fuse stands.0.0 has same lit unlit o.site stands.1)
+
+-- and so it is of one that was deported with any fuse
+pub idle_like : {R : Type 0} {g : Ghosts R} (beside : KeptBeside) (n k : Node) (o : OverSet R g) (idle : Idle R g) → o.site ≡ GroupAway idle → k ≡ record n { group = k.group; fuse = k.fuse } → (k.group ≡ None → ⊥) → units_of k ≡ units_of n
+    → SiteStands beside n (Over o) → SiteStands beside k (Over o)
+idle_like {R} {g} beside n k o idle at is has units stands =
+    let same : units_by k.group n.disks ≡ units_of n = ap (λ (d : ℕ). units_by k.group d) (sym (ap (λ (x : Node). x.disks) is)) ∙ units in
+    let there : OverStands beside n (GroupAway idle) = subst (λ (x : OverSite R g). OverStands beside n x) at stands.1 in
+    subst (λ (x : Node). SiteStands beside x (Over o)) (sym is)
+    (ground_as beside n k.group k.fuse stands.0.0 has same stands.0, subst (λ (x : OverSite R g). OverStands beside (let m : Node = record n { group = k.group; fuse = k.fuse } in m) x) (sym at) (idle_as beside n k.group k.fuse stands.0.0 has same idle there))

@@ -1,8 +1,10 @@
 -- An import of a site that was deported, whose group of disks has a replicated volume group: what it comes to.
 use Rattle.std.proofs.Common.{◌≡◌, ◌∙◌, ◌⊎◌, inl, inr, ⊎_elim, ℕ, ◌+◌, ◌≤◌, Bool, true, false, IsTrue, length, ap, arith, refl, subst, sym}
-use Rattle.std.specs.Prelude.{Err, Ok, Option, None, Result, Some, not, ◌&&◌}
+use Rattle.std.specs.Prelude.{Err, IsFalse, Ok, Option, None, Result, Some, not, ◌&&◌}
 use Rattle.std.proofs.lemmas.Option.{same_Some}
+use Rattle.std.proofs.lemmas.Bool.{false_from_ne_true}
 use Rattle.vx_disk.specs.Counts.{Rose}
+use Rattle.vx_disk.specs.Disks.{Disks}
 use Rattle.vx_disk.specs.Moves.{Anything}
 use Rattle.vx_disk.specs.Racks.{IsRack}
 use Rattle.vx_disk.specs.Shelf.{Lawful, Meaning}
@@ -25,7 +27,7 @@ use Rattle.vx_grouped.specs.declared.laid.Laid.{Laid}
 use Rattle.vx_history.specs.Groups.{GroupNode}
 use Rattle.vx_history.specs.Steps.{burned, crashed, worked}
 use Rattle.vx_history.specs.Stops.{IsFused}
-use Rattle.vx_history.specs.World.{NoFuse, Node, Fuse, FuseLit, FuseSet}
+use Rattle.vx_history.specs.World.{NoFuse, Node, Fuse}
 use Rattle.vx_model.specs.declared.errors.Stop.{Stop}
 use Rattle.vx_model.specs.declared.errors.Stop.TheVariants.{No as Refused, OutOfMemory}
 use Rattle.vx_model.specs.declared.no.No.{No}
@@ -35,10 +37,12 @@ use Rattle.vx_model.specs.declared.site.SiteState.TheVariants.{Deported as IsAwa
 use Rattle.vx_model.specs.declared.units.Units.{Units}
 use Rattle.vx_untold.specs.Shades.{shade_meaning, rack_of}
 use Rattle.vx_untold.specs.declared.shade.Shade.{Shade}
-use Rattle.vx_watched.specs.Since.{CalledSince}
+use Rattle.vx_untold.specs.declared.shade.Shade.TheVariants.{Bright, Dark}
+use Rattle.vx_grouped.specs.Readies.{ready_of}
+use Rattle.vx_watched.specs.Since.{CalledSince, FuseGoes, is_rack}
 use Rattle.vx_watched.specs.Traces.{TellsLess}
 use Rattle.vx_model.specs.declared.site.SiteState.{SiteState}
-use Rattle.vx_grouped.specs.SiteReturns.{ImportRefused, ImportWhy, KnownAway, TellsNone, returned_with, stops_early}
+use Rattle.vx_grouped.specs.SiteReturns.{ImportRefused, ImportWhy, KeepsFuse, KnownAway, TellsNone, returned_with, stops_early}
 use Rattle.vx_grouped.specs.SetFuses.{HasFuse}
 use Rattle.vx_srl.specs.Views.{most_number}
 use Rattle.vx_model.specs.declared.state.State.{State}
@@ -48,7 +52,6 @@ use Rattle.vx_ground.proofs.AccountLemmas.{ground_none}
 use Rattle.vx_watched.proofs.SinceLemmas.{since_none}
 use Rattle.vx_diskset.proofs.OverCrash.{ready_under}
 use Rattle.vx_diskset.proofs.GroupStands.{IsLikeGroup, down_like}
-use Rattle.vx_diskset.specs.Fuses.{FuseOn}
 use Rattle.vx_diskset.specs.Aboves.{InsideOf, below_site, site_in}
 use Rattle.vx_diskset.specs.GroupSets.{cut_value}
 use Rattle.vx_diskset.specs.Holds.{KeptBeside, most_header, state_with}
@@ -56,7 +59,7 @@ use Rattle.vx_diskset.specs.Layouts.{config_units, units_by, units_of}
 use Rattle.vx_diskset.specs.Noted.{AgreesStill, FoundNamed, NotedOn, NotesWorked, RestsNamed, SiteNoted, TidyNote, below_rvg}
 use Rattle.vx_diskset.specs.OverRises.{CameGroup, FoundAgain, PlainAgain, RoseAgain, SessionFrom, StartLost, came_with, note_held}
 use Rattle.vx_diskset.specs.OverStarts.{BehindImport, BroughtBy, FellBack, Revived, StandsOff, StartFails, Started, StartsOn, StartsOver, TakesOver, TriedOn, UpUnless, WithUnits, all_latest, is_alone, is_dark, BackAt}
-use Rattle.vx_diskset.specs.OverTakes.{HeldAway, HeldOff, LostAway, LostOff, LostOver, OverTakes, TakesAbove, TakesAgain, TakesFound, TakesHeld, TakesHeldOff, TakesLost, TakesLostOff, TakesPlain, fell_in, gone_in}
+use Rattle.vx_diskset.specs.OverTakes.{HeldAway, HeldOff, LostAway, LostOff, LostOver, OverTakes, TakesAbove, TakesAgain, TakesFound, TakesHeld, TakesHeldOff, TakesLost, TakesLostOff, TakesPlain, fell_in, fuse_gone, gone_in}
 use Rattle.vx_diskset.specs.Stands.{AwayLeft, IsOverSite, OverStands, RestsOver, SiteStands, idle_ready}
 use Rattle.vx_diskset.specs.Works.{LogBlocks, OnlyLog}
 use Rattle.vx_diskset.specs.declared.disk_set.DiskSet.{DiskSet}
@@ -71,12 +74,12 @@ use Rattle.vx_diskset.proofs.OverAway.{given_site}
 use Rattle.vx_diskset.proofs.OverDims.{away_dim, away_still, fell_dim, less_left}
 use Rattle.vx_diskset.proofs.OverDisks.{LeavesLess, idle_less, named_less}
 use Rattle.vx_diskset.proofs.OverFalls.{crash_fallen, crash_named}
-use Rattle.vx_diskset.proofs.OverGone.{has_burned, held_fell, held_gone, risen_gone}
+use Rattle.vx_diskset.proofs.OverGone.{gone_as, held_fell, held_gone, risen_gone}
 use Rattle.vx_diskset.proofs.OverHas.{HasVolumes, away_has}
 use Rattle.vx_diskset.proofs.OverHolds.{CameUp, agreed_told, agrees_down, came_away, came_group, dark_here, dim_loose, down_for, found_risen, ground_same, group_here, known, names_found, never_both, never_none, or_second, sure_here, true_by, or_first}
 use Rattle.vx_diskset.proofs.OverKept.{fell_site}
 use Rattle.vx_diskset.proofs.OverKnown.{agreed_known, bright_known, counts_known, down_known, inner_known, inside_known, moved_known, named_config, named_known, ready_known, rose_known, rvg_known, seen_known, units_known}
-use Rattle.vx_diskset.proofs.OverLikes.{over_like}
+use Rattle.vx_diskset.proofs.OverLikes.{idle_like}
 use Rattle.vx_diskset.proofs.OverLost.{InSession, left_there, lost_away, lost_stands, starting_in, still_in}
 use Rattle.vx_diskset.proofs.OverMoved.{moved, moved_is}
 use Rattle.vx_diskset.proofs.OverNoted.{cut_down}
@@ -94,13 +97,31 @@ off_is : (stop : Stop) → stops_down stop ≡ true → stop ≡ Refused IsOff
 off_is (Refused IsOff) off = refl
 off_is other off = absurd (let clash : false ≡ true = off in cc)
 
-lit_burned : (f : Fuse) (m : Meaning) → FuseOn f m → FuseOn (burned f) m
-lit_burned NoFuse m on = on
-lit_burned (FuseSet calls) m on = tt
-lit_burned (FuseLit most) m on = on
+-- what is told of disks is told of them as an import sees them
+ready_disks : {R : Type 0} (meaning : R → Meaning) (agreed : Bool) (s : Shade R) → (shade_meaning meaning (ready_of agreed s)).disks ≡ (shade_meaning meaning s).disks
+ready_disks meaning true s = refl
+ready_disks meaning false (Dark r) = refl
+ready_disks meaning false (Bright r) = refl
 
-none_burned : (f : Fuse) → f ≡ NoFuse → burned f ≡ NoFuse
-none_burned f is = ap (λ (x : Fuse). burned x) is
+-- the fuse of disks that may be lost
+has_gone : (lost : Bool) (f : Fuse) (m : Meaning) → (lost ≡ true → IsFalse m.armed) → HasFuse (burned f) m → HasFuse (fuse_gone lost f) m
+has_gone true f m unarmed has = unarmed refl
+has_gone false f m unarmed has = has
+
+fuse_then : (a b c : Option (ℕ × ℕ)) → FuseGoes a b → FuseGoes b c → FuseGoes a c
+fuse_then a b c first second = record { set = second.set ∙ first.set; left = omega (arith, first.left, second.left); pick = second.pick ∙ first.pick }
+
+some_disks : (o : Option Disks) → is_rack o ≡ true → (d : Disks) × (o ≡ Some d)
+some_disks None is = absurd (let clash : false ≡ true = is in cc)
+some_disks (Some d) is = (d, refl)
+
+-- that of disks behind calls that all passed
+fuse_since : (idle old mid now : Meaning) → old.disks ≡ idle.disks → is_rack mid.disks ≡ is_rack idle.disks → KeepsFuse old mid → CalledSince mid now → (IsTrue now.down → ⊥) → KeepsFuse old now
+fuse_since idle old mid now same rack first since up = record {
+  goes = λ o x at there.
+      let between = some_disks mid.disks (rack ∙ ap (λ (y : Option Disks). is_rack y) (sym same ∙ at)) in
+      fuse_then o.fuse between.0.fuse x.fuse (first.goes o between.0 at between.1) ((since.told between.0 x between.1 there).fuse (false_from_ne_true now.down up));
+}
 
 -- of a crash nothing but the disks of the group is noted
 fell_like : (n : Node) (w : GroupNode) (m : Node) → m.state ≡ IsDown → m.disks ≡ n.disks → m.blocks ≡ n.blocks → m.group ≡ Some w → m.fuse ≡ NoFuse → (ready : GroupNode) → IsLikeGroup (crashed (returned_with w (record (below_rvg n) { group = Some ready })) 0) (below_rvg m)
@@ -144,10 +165,10 @@ module _ {R : Type 0} {g : Ghosts R} (racks : (s : Shade R) → IsRack (shade_me
 
     -- disks that tell nothing, by themselves or down
     module _ (x : Idle R g) (untold : IsTrue (idle_ready x).tells → ⊥) (s : OverSet R g) where
-      dim_away : s.site ≡ GroupAway x → SiteStands beside (gone_in (burned n.fuse) n.session held n) (Over s)
-      dim_away at =
-          subst (λ (st : SiteState). SiteStands beside (let m : Node = record n { state = st; fuse = burned n.fuse; group = Some held } in m) (Over s)) (sym state)
-          (away_dim beside n (Some held) (sym same_units) (λ is. never_none is) (λ c. AwayLeft c beside n (idle_ready idle)) (idle_ready idle) rests over x untold (burned n.fuse) s at)
+      dim_away : (fuse : Fuse) → s.site ≡ GroupAway x → SiteStands beside (gone_in fuse n.session held n) (Over s)
+      dim_away fuse at =
+          subst (λ (st : SiteState). SiteStands beside (let m : Node = record n { state = st; fuse = fuse; group = Some held } in m) (Over s)) (sym state)
+          (away_dim beside n (Some held) (sym same_units) (λ is. never_none is) (λ c. AwayLeft c beside n (idle_ready idle)) (idle_ready idle) rests over x untold fuse s at)
 
       dim_fell : s.site ≡ GroupFell x → SiteStands beside (fell_in n.session held n) (Over s)
       dim_fell at = fell_dim beside n (Some held) (sym same_units) (λ is. never_none is) (λ c. AwayLeft c beside n (idle_ready idle)) (idle_ready idle) rests over x untold laws s at
@@ -168,45 +189,67 @@ module _ {R : Type 0} {g : Ghosts R} (racks : (s : Shade R) → IsRack (shade_me
     why_held : ImportWhy (IsTrue (site_disks (site_in s)).tells) (KnownAway (IsTrue (site_disks (site_in s)).tells) ready) (idle_ready idle) (site_disks (site_in s)) stop
     why_held = subst (λ (e : GroupSite R g). ImportWhy (IsTrue (site_disks e).tells) (KnownAway (IsTrue (site_disks e).tells) ready) (idle_ready idle) (site_disks e) stop) (sym at) refused.2
 
-    -- before it wrote
-    away_early : stops_early stop ≡ true → HeldAway beside n note (Deported idle) s stop
-    away_early early = record {
-      loosens = false;
-      dims = not idle.agreed;
-      loose = λ is. absurd (let clash : false ≡ true = is in cc);
-      dimmed = λ dims so told. inr (dim_loose idle.agreed note.loose away.agrees dims);
-      short = λ is. (refl, λ dims. inl (dim_loose idle.agreed note.loose away.agrees dims));
-      why = why_held;
-      noted = held_site false (not idle.agreed) (gone_in (burned n.fuse) n.session (note_held false (not idle.agreed) note) n) s (Deported now) at refl cuts
-          (subst (λ (b : Bool). AwayNoted (worked (dimmed_site (not b) ready site_ready)) (note_dimmed (not b) ready) (Deported now)) early refused.0)
-          (named_less (units_of n) (length (entries_noted note)) (idle_ready idle) (idle_ready now) (less_left (idle_ready idle) (idle_ready now) (by.less early)) names);
-      stands = over_like beside n (gone_in (burned n.fuse) n.session (note_held false (not idle.agreed) note) n) s refl (λ none. never_none none) (sym same_units) (λ x lit. lit_burned n.fuse x lit) (none_burned n.fuse)
-          (away_still beside n s stop early over idle now state rests by.less site_at);
-    }
+    -- the fuse is lost with the disks, or no call that passed was not let pass
+    module _ (lost : Bool) (unarmed : lost ≡ true → IsFalse (idle_disks now).armed) (fused : lost ≡ false → KeepsFuse (idle_ready idle) (idle_disks now)) where
+      held_fuse : lost ≡ false → KeepsFuse (idle_ready idle) (site_disks (site_in s))
+      held_fuse is = subst (λ (e : GroupSite R g). KeepsFuse (idle_ready idle) (site_disks e)) (sym at) (fused is)
 
-    -- or behind that
-    away_late : stops_early stop ≡ false → HeldAway beside n note (Deported idle) s stop
-    away_late late =
-        let none : TellsNone (idle_disks now) = by.dark late in
-        let under = ready_under g now.agreed now.rack in
-        record {
-          loosens = false;
-          dims = true;
-          loose = λ is. absurd (let clash : false ≡ true = is in cc);
-          dimmed = λ dims early. absurd (never_both (stops_early stop) early late);
-          short = λ is. absurd (never_both (stops_early stop) (ap (λ (x : Stop). stops_early x) is) late);
-          why = why_held;
-          noted = held_site false true (gone_in (burned n.fuse) n.session (note_held false true note) n) s (Deported now) at refl cuts
-              (subst (λ (b : Bool). AwayNoted (worked (dimmed_site (not b) ready site_ready)) (note_dimmed (not b) ready) (Deported now)) late refused.0) (named_dim false true now none);
-          stands = dim_away false true now (λ told. never_both (idle_disks now).tells (under.tells told) none.tells) s site_at;
-        }
+      -- a note of the same configuration
+      gone_note : (k : Node) (a : Node) (next : GroupNode) → k.state ≡ IsAway → k.fuse ≡ fuse_gone lost n.fuse → a.disks ≡ k.disks → a.blocks ≡ k.blocks → a.fuse ≡ burned n.fuse → k.group ≡ Some next → AwayNoted a next (Deported now) → NotedOn (below_rvg k) next (Deported now)
+      gone_note k a next there fuse disks blocks was noted it =
+          gone_as a (below_rvg k) next now.agreed (idle_below now).tells (idle_disks now) (record { is = noted; none = record { role = refl; volumes = refl; log = refl; safe = refl; running = refl } }) there
+          (subst (λ (f : Fuse). HasFuse f (idle_disks now)) (sym fuse) (has_gone lost n.fuse (idle_disks now) unarmed (subst (λ (f : Fuse). HasFuse f (idle_disks now)) was it.fuse))) disks blocks it
 
-    away_by : (t : Bool) → stops_early stop ≡ t → HeldAway beside n note (Deported idle) s stop
-    away_by true early = away_early early
-    away_by false late = away_late late
+      -- before it wrote
+      away_early : stops_early stop ≡ true → HeldAway beside n note (Deported idle) s stop
+      away_early early =
+          let k : Node = gone_in (fuse_gone lost n.fuse) n.session (note_held false (not idle.agreed) note) n in
+          record {
+            loosens = false;
+            dims = not idle.agreed;
+            loose = λ is. absurd (let clash : false ≡ true = is in cc);
+            dimmed = λ dims so told. inr (dim_loose idle.agreed note.loose away.agrees dims);
+            short = λ is. (refl, λ dims. inl (dim_loose idle.agreed note.loose away.agrees dims));
+            why = why_held;
+            lost = lost;
+            fuse = held_fuse;
+            noted = held_site false (not idle.agreed) k s (Deported now) at refl cuts
+                (gone_note k (worked (dimmed_site false ready site_ready)) (note_held false (not idle.agreed) note) state refl refl refl refl refl
+                (subst (λ (b : Bool). AwayNoted (worked (dimmed_site (not b) ready site_ready)) (note_dimmed (not b) ready) (Deported now)) early refused.0))
+                (named_less (units_of n) (length (entries_noted note)) (idle_ready idle) (idle_ready now) (less_left (idle_ready idle) (idle_ready now) (by.less early)) names);
+            stands = idle_like beside n k s now site_at refl (λ none. never_none none) (sym same_units) (away_still beside n s stop early over idle now state rests by.less site_at);
+          }
+
+      -- or behind that
+      away_late : stops_early stop ≡ false → HeldAway beside n note (Deported idle) s stop
+      away_late late =
+          let none : TellsNone (idle_disks now) = by.dark late in
+          let under = ready_under g now.agreed now.rack in
+          let k : Node = gone_in (fuse_gone lost n.fuse) n.session (note_held false true note) n in
+          record {
+            loosens = false;
+            dims = true;
+            loose = λ is. absurd (let clash : false ≡ true = is in cc);
+            dimmed = λ dims early. absurd (never_both (stops_early stop) early late);
+            short = λ is. absurd (never_both (stops_early stop) (ap (λ (x : Stop). stops_early x) is) late);
+            why = why_held;
+            lost = lost;
+            fuse = held_fuse;
+            noted = held_site false true k s (Deported now) at refl cuts
+                (gone_note k (worked (dimmed_site true ready site_ready)) (note_held false true note) state refl refl refl refl refl
+                (subst (λ (b : Bool). AwayNoted (worked (dimmed_site (not b) ready site_ready)) (note_dimmed (not b) ready) (Deported now)) late refused.0)) (named_dim false true now none);
+            stands = dim_away false true now (λ told. never_both (idle_disks now).tells (under.tells told) none.tells) s (fuse_gone lost n.fuse) site_at;
+          }
+
+      away_in_by : (t : Bool) → stops_early stop ≡ t → HeldAway beside n note (Deported idle) s stop
+      away_in_by true early = away_early early
+      away_in_by false late = away_late late
 
     away_refused : HeldAway beside n note (Deported idle) s stop
-    away_refused = away_by (stops_early stop) refl
+    away_refused = ⊎_elim
+        (λ (unarmed : IsFalse (idle_disks now).armed). away_in_by true (λ is. unarmed) (λ is. absurd (let clash : true ≡ false = is in cc)) (stops_early stop) refl)
+        (λ (fused : KeepsFuse (idle_ready idle) (idle_disks now)). away_in_by false (λ is. absurd (let clash : false ≡ true = is in cc)) (λ is. fused) (stops_early stop) refl)
+        refused.1
 
   -- its fuse ran out
 
@@ -523,7 +566,7 @@ module _ {R : Type 0} {g : Ghosts R} (racks : (s : Shade R) → IsRack (shade_me
 
           held_taken : HeldAway beside n note (Deported idle) s stop
           held_taken =
-              let k : Node = gone_in (burned n.fuse) n.session (note_held (not x.agreed) (not idle.agreed) note) n in
+              let k : Node = gone_in NoFuse n.session (note_held (not x.agreed) (not idle.agreed) note) n in
               record {
                 loosens = not x.agreed;
                 dims = not idle.agreed;
@@ -531,13 +574,15 @@ module _ {R : Type 0} {g : Ghosts R} (racks : (s : Shade R) → IsRack (shade_me
                 dimmed = λ dims early below. inr (dim_loose idle.agreed note.loose away.agrees dims);
                 short = λ is. (ap not (back.agreed ∙ agreed_by (is_dark fell.fell.rack) refl is), λ dims. inl (dim_loose idle.agreed note.loose away.agrees dims));
                 why = subst (λ (e : GroupSite R g). ImportWhy (IsTrue (site_disks e).tells) (KnownAway (IsTrue (site_disks e).tells) ready) (idle_ready idle) (site_disks e) stop) (sym at) (why_untold stop on tried);
+                lost = true;
+                fuse = λ is. absurd (let clash : true ≡ false = is in cc);
                 noted = held_site (not x.agreed) (not idle.agreed) k s (Deported x) at refl (ap (λ (o : Option CutWrite). cut_value o) cuts)
                     (held_gone (below_rvg n) note idle.agreed (idle_below idle).tells (idle_disks idle) away (not x.agreed) (not idle.agreed) (idle_below x).tells x.agreed (idle_disks x) (λ tight. true_by x.agreed (or_first (not x.agreed) note.loose tight)) none_x
                     (back.alike.contents.units ∙ units_last) (λ v. back.alike.contents.size v ∙ size_last v) (λ lit below. absurd (untold (group_up.lit (came.returns.dark ∙ lit) (below_last (back.told below))))) (below_rvg k)
-                    (record { is = refl; none = record { role = refl; volumes = refl; log = refl; safe = refl; running = refl } }) state (has_burned n.fuse (idle_disks x) (back.armed ∙ stopped_last.unarmed))
+                    (record { is = refl; none = record { role = refl; volumes = refl; log = refl; safe = refl; running = refl } }) state (back.armed ∙ stopped_last.unarmed)
                     (λ off. let clash : true ≡ false = sym off ∙ back.up in cc) refl refl)
                     (named_dim (not x.agreed) (not idle.agreed) x none_x);
-                stands = dim_away (not x.agreed) (not idle.agreed) x (λ told. never_both (idle_disks x).tells ((ready_under g x.agreed x.rack).tells told) none_x.tells) s (given_site s.site x at);
+                stands = dim_away (not x.agreed) (not idle.agreed) x (λ told. never_both (idle_disks x).tells ((ready_under g x.agreed x.rack).tells told) none_x.tells) s NoFuse (given_site s.site x at);
               }
 
         -- they are down
@@ -561,9 +606,24 @@ module _ {R : Type 0} {g : Ghosts R} (racks : (s : Shade R) → IsRack (shade_me
     same_units_of : (u : Units) → laid.core.inner.config.rvg ≡ Some u → IsTrue (laid_disks laid).tells → u ≡ units_of n
     same_units_of u has told = same_Some u (units_of n) (sym has ∙ (names_found n note idle away.agrees names laid risen told).0)
 
+    brought_fuse : KeepsFuse (idle_ready idle) (laid_disks laid)
+    brought_fuse = (by.imported (below_rvg n) note away).1
+
+    started_fuse : (u : Units) (s : OverSet R g) → Started u laid s → (IsTrue (site_disks (site_in s)).down → ⊥) → KeepsFuse (idle_ready idle) (site_disks (site_in s))
+    started_fuse u s it up =
+        fuse_since (idle_disks idle) (idle_ready idle) (laid_disks laid) (site_disks (site_in s)) (ready_disks g.meaning idle.agreed idle.rack) by.since.rack brought_fuse
+        (subst (λ (e : GroupSite R g). CalledSince (laid_disks laid) (site_disks e)) (sym it.site) it.starts.since) up
+
+    started_up : (u : Units) (s : OverSet R g) → Started u laid s → (k : Node) (next : GroupNode) → SiteNoted k next (Over s) → IsTrue (site_disks (site_in s)).down → ⊥
+    started_up u s it k next noted = subst (λ (e : GroupSite R g). NotedOn (below_rvg k) next e → IsTrue (site_disks e).down → ⊥) (sym it.site) (λ up. up.at.up) noted.0
+
     started_by : (u : Units) → laid.core.inner.config.rvg ≡ Some u → (s : OverSet R g) → Started u laid s → (b : Bool) → (laid_disks laid).tells ≡ b → OverTakes beside n note (Deported idle) (Over s) (Ok tt)
-    started_by u has s started true told = TakesAgain s refl refl (taken told s (subst (λ (x : Units). Started x laid s) (same_units_of u has told) started))
-    started_by u has s started false dim = TakesFound s refl refl (found_taken (λ told. never_both (laid_disks laid).tells told dim) u has s started)
+    started_by u has s started true told =
+        let it : RoseAgain beside n note (Deported idle) s = taken told s (subst (λ (x : Units). Started x laid s) (same_units_of u has told) started) in
+        TakesAgain s refl refl (started_fuse u s started (started_up u s started (came_with (burned n.fuse) it.over.next n) it.over.next it.over.noted)) it
+    started_by u has s started false dim =
+        let it : FoundAgain beside n note (Deported idle) s = found_taken (λ told. never_both (laid_disks laid).tells told dim) u has s started in
+        TakesFound s refl refl (started_fuse u s started (started_up u s started it.over.node it.over.next it.over.noted)) it
 
     module _ (u : Units) (has : laid.core.inner.config.rvg ≡ Some u) (s : OverSet R g) (stop : Stop) (off : StartFails true u laid cut s stop) where
       gone_end : (x : Idle R g) → site_in s ≡ Deported x → Revived off.idle x → stops_down stop ≡ false → (b : Bool) → (laid_disks laid).tells ≡ b → OverTakes beside n note (Deported idle) (Over s) (Err stop)
@@ -600,7 +660,7 @@ module _ {R : Type 0} {g : Ghosts R} (racks : (s : Shade R) → IsRack (shade_me
     start_units : (o : Option Units) → laid.core.inner.config.rvg ≡ o → (new : DiskSet R g) (r : Result (Unit {0}) Stop) → WithUnits true o laid cut new r → OverTakes beside n note (Deported idle) new r
     start_units None has new r it =
         let s : GroupSet R g = record { site = Up laid; cut = None } in
-        TakesPlain s it.0 it.1 (plain_taken (λ told. never_none (sym (names_found n note idle away.agrees names laid risen told).0 ∙ has)) s refl has)
+        TakesPlain s it.0 it.1 brought_fuse (plain_taken (λ told. never_none (sym (names_found n note idle away.agrees names laid risen told).0 ∙ has)) s refl has)
     start_units (Some u) has new r it = start_in u has new r it
 
   -- ---- refused

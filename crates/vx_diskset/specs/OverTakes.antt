@@ -5,7 +5,7 @@ use Rattle.vx_disk.specs.declared.shelf.Shelf.{Ghosts}
 use Rattle.vx_grouped.specs.ConfigMoves.{LosesSome}
 use Rattle.vx_grouped.specs.GroupSites.{laid_disks, site_below, site_disks}
 use Rattle.vx_grouped.specs.SiteEnds.{ConfigGoes}
-use Rattle.vx_grouped.specs.SiteReturns.{ImportWhy, KnownAway, as_imported, is_dimmed, stops_early}
+use Rattle.vx_grouped.specs.SiteReturns.{ImportWhy, KeepsFuse, KnownAway, as_imported, is_dimmed, stops_early}
 use Rattle.vx_grouped.specs.declared.group_site.GroupSite.{GroupSite}
 use Rattle.vx_grouped.specs.declared.group_site.GroupSite.TheVariants.{Up}
 use Rattle.vx_grouped.specs.declared.laid.Laid.{Laid}
@@ -32,6 +32,11 @@ use Rattle.vx_diskset.specs.declared.over_set.OverSet.{OverSet}
 -- a site that is deported still, with this note of its group and this fuse, in this session of its log
 abbrev pub gone_in : Fuse → (session : ℕ) → GroupNode → Node → Node
 gone_in fuse session next n = record n { session = session; fuse = fuse; group = Some next }
+
+-- the fuse behind an import that was refused: it may be lost
+abbrev pub fuse_gone : (lost : Bool) → Fuse → Fuse
+fuse_gone true f = NoFuse
+fuse_gone false f = burned f
 
 -- one that is down then
 abbrev pub fell_in : (session : ℕ) → GroupNode → Node → Node
@@ -80,8 +85,11 @@ module _ {R : Type 0} {g : Ghosts R} where
     pub dimmed : dims ≡ true → stops_early stop ≡ true → IsTrue (site_below (site_in s)).tells → (note.dark ≡ true) ⊎ (note.loose ≡ true)
     pub short : stop ≡ OutOfMemory → (loosens ≡ false) × (dims ≡ true → (note.loose ≡ true) ⊎ (note.dark ≡ true))
     pub why : ImportWhy (IsTrue (site_disks (site_in s)).tells) (KnownAway (IsTrue (site_disks (site_in s)).tells) (note_ready old note)) (as_imported old) (site_disks (site_in s)) stop
-    pub noted : SiteNoted (gone_in (burned n.fuse) n.session (note_held loosens dims note) n) (note_held loosens dims note) (Over s)
-    pub stands : SiteStands beside (gone_in (burned n.fuse) n.session (note_held loosens dims note) n) (Over s)
+    -- the fuse is lost, or no call that passed was not let pass
+    pub lost : Bool
+    pub fuse : lost ≡ false → KeepsFuse (as_imported old) (site_disks (site_in s))
+    pub noted : SiteNoted (gone_in (fuse_gone lost n.fuse) n.session (note_held loosens dims note) n) (note_held loosens dims note) (Over s)
+    pub stands : SiteStands beside (gone_in (fuse_gone lost n.fuse) n.session (note_held loosens dims note) n) (Over s)
 
   -- The fuse ran out in the import; or it is not known what the disks hold, and it ran out behind that. The site is down.
   pub record HeldOff (beside : KeptBeside) (n : Node) (note : GroupNode) (old : GroupSite R g) (s : OverSet R g) : Type 0 where
@@ -93,9 +101,9 @@ module _ {R : Type 0} {g : Ghosts R} where
 
   -- what an import comes to
   pub data OverTakes (beside : KeptBeside) (n : Node) (note : GroupNode) (old : GroupSite R g) (new : DiskSet R g) (r : Result (Unit {0}) Stop) : Type 0 where
-    TakesAgain : (s : OverSet R g) → new ≡ Over s → r ≡ Ok tt → RoseAgain beside n note old s → OverTakes beside n note old new r
-    TakesFound : (s : OverSet R g) → new ≡ Over s → r ≡ Ok tt → FoundAgain beside n note old s → OverTakes beside n note old new r
-    TakesPlain : (s : GroupSet R g) → new ≡ OfGroup s → r ≡ Ok tt → PlainAgain n note old s → OverTakes beside n note old new r
+    TakesAgain : (s : OverSet R g) → new ≡ Over s → r ≡ Ok tt → KeepsFuse (as_imported old) (site_disks (site_in s)) → RoseAgain beside n note old s → OverTakes beside n note old new r
+    TakesFound : (s : OverSet R g) → new ≡ Over s → r ≡ Ok tt → KeepsFuse (as_imported old) (site_disks (site_in s)) → FoundAgain beside n note old s → OverTakes beside n note old new r
+    TakesPlain : (s : GroupSet R g) → new ≡ OfGroup s → r ≡ Ok tt → KeepsFuse (as_imported old) (site_disks s.site) → PlainAgain n note old s → OverTakes beside n note old new r
     TakesLost : (s : OverSet R g) (stop : Stop) → new ≡ Over s → r ≡ Err stop → LostAway beside n note old s stop → OverTakes beside n note old new r
     TakesLostOff : (s : OverSet R g) → new ≡ Over s → r ≡ Err (Refused IsOff) → LostOff beside n note old s → OverTakes beside n note old new r
     TakesHeld : (s : OverSet R g) (stop : Stop) → new ≡ Over s → r ≡ Err stop → HeldAway beside n note old s stop → OverTakes beside n note old new r

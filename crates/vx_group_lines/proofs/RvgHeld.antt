@@ -230,7 +230,7 @@ module _ {R : Type 0} {g : Ghosts R} (d : Doubted) (s kept : ℕ) (taken : Bool)
     pub held_memory : stop ≡ MemoryStop → RaisesShort d (Recover name) s kept taken old new
     held_memory is = record {
       next = left;
-      part = ShortGroup name kept taken true next rests.over refl
+      part = ShortGroup kept taken true next rests.over tt
           (subst (λ (k : GroupNode). NotesShort k next) (note_before d s kept taken rests old new o p call)
           (subst (λ (l : Bool). NotesShort note (note_held l h.dims note)) (sym (h.short is).0) (held_short h.dims note (h.short is).1)))
           (left_is d s kept taken rests old new o p call name next);

@@ -198,7 +198,7 @@ module _ {R : Type 0} {g : Ghosts R} (d : Doubted) (s kept : ℕ) (taken : Bool)
     lost_short : (name : List ℕ) → r.worked ≡ r.group.middle → RaisesShort d (Recover name) s kept taken old new
     lost_short name unbegun = record {
       next = left_world d s kept taken rests old new o p call lost_note;
-      part = ShortLog name kept taken (fails 0) r.group.middle lost_note rests.over refl (calls_are_of b old new s o p call (many 0)) (back 0) keeps
+      part = ShortLog kept taken (fails 0) r.group.middle lost_note rests.over tt (calls_are_of b old new s o p call (many 0)) (back 0) keeps
           (cut_before ∙ ap (λ (x : GroupNode). let k : GroupNode = record x { cut = (note_at (d.world.nodes s)).cut } in k) unbegun) (left_is d s kept taken rests old new o p call name lost_note);
       stands = rests_stands d s kept taken rests old new o p call r.session lost_note table named r.noted r.stands (left_world d s kept taken rests old new o p call lost_note) arrives refl facts;
       carries = λ before. rests_carries d s kept taken rests old new o p call r.session lost_note table named r.noted r.stands (left_world d s kept taken rests old new o p call lost_note) arrives refl load before;
