@@ -177,3 +177,28 @@ idle_like {R} {g} beside n k o idle at is has units stands =
     let there : OverStands beside n (GroupAway idle) = subst (λ (x : OverSite R g). OverStands beside n x) at stands.1 in
     subst (λ (x : Node). SiteStands beside x (Over o)) (sym is)
     (ground_as beside n k.group k.fuse stands.0.0 has same stands.0, subst (λ (x : OverSite R g). OverStands beside (let m : Node = record n { group = k.group; fuse = k.fuse } in m) x) (sym at) (idle_as beside n k.group k.fuse stands.0.0 has same idle there))
+
+-- who fed a site that is down has nothing to do with its disks
+pub fed_like : {R : Type 0} {g : Ghosts R} (beside : KeptBeside) (n : Node) (fed : ℕ) (o : OverSet R g) (idle : Idle R g) → o.site ≡ GroupFell idle → SiteStands beside n (Over o) → SiteStands beside (record n { fed_by = fed }) (Over o)
+fed_like {R} {g} beside n fed o idle at stands =
+    let there : OverStands beside n (GroupFell idle) = subst (λ (x : OverSite R g). OverStands beside n x) at stands.1 in (
+      stands.0,
+      subst (λ (x : OverSite R g). OverStands beside (let m : Node = record n { fed_by = fed } in m) x) (sym at) (
+        there.0,
+        there.1,
+        fed_rests (idle_ready idle) there.2,
+        there.3,
+      ),
+    )
+  where
+    fed_rests : (x : Meaning) → RestsOver (λ c. FellOver c beside n x) beside n x → RestsOver (λ c. FellOver c beside (let m : Node = record n { fed_by = fed } in m) x) beside (let m : Node = record n { fed_by = fed } in m) x
+    fed_rests x it = record {
+      config = it.config;
+      sure = it.sure;
+      lies = it.lies;
+      there = it.there;
+      low = it.low;
+      logged = it.logged;
+      begun = it.begun;
+      left = λ told. let was : FellOver it.config beside n x = it.left told in record { extends = was.extends; found = was.found };
+    }

@@ -79,7 +79,7 @@ use Rattle.vx_diskset.proofs.OverHas.{HasVolumes, away_has}
 use Rattle.vx_diskset.proofs.OverHolds.{CameUp, agreed_told, agrees_down, came_away, came_group, dark_here, dim_loose, down_for, found_risen, ground_same, group_here, known, names_found, never_both, never_none, or_second, sure_here, true_by, or_first}
 use Rattle.vx_diskset.proofs.OverKept.{fell_site}
 use Rattle.vx_diskset.proofs.OverKnown.{agreed_known, bright_known, counts_known, down_known, inner_known, inside_known, moved_known, named_config, named_known, ready_known, rose_known, rvg_known, seen_known, units_known}
-use Rattle.vx_diskset.proofs.OverLikes.{idle_like}
+use Rattle.vx_diskset.proofs.OverLikes.{fed_like, idle_like}
 use Rattle.vx_diskset.proofs.OverLost.{InSession, left_there, lost_away, lost_stands, starting_in, still_in}
 use Rattle.vx_diskset.proofs.OverMoved.{moved, moved_is}
 use Rattle.vx_diskset.proofs.OverNoted.{cut_down}
@@ -171,7 +171,9 @@ module _ {R : Type 0} {g : Ghosts R} (racks : (s : Shade R) → IsRack (shade_me
           (away_dim beside n (Some held) (sym same_units) (λ is. never_none is) (λ c. AwayLeft c beside n (idle_ready idle)) (idle_ready idle) rests over x untold fuse s at)
 
       dim_fell : s.site ≡ GroupFell x → SiteStands beside (fell_in n.session held n) (Over s)
-      dim_fell at = fell_dim beside n (Some held) (sym same_units) (λ is. never_none is) (λ c. AwayLeft c beside n (idle_ready idle)) (idle_ready idle) rests over x untold laws s at
+      dim_fell at =
+          fed_like beside (let m : Node = record n { state = IsDown; fuse = NoFuse; group = Some held } in m) n.other s x at
+          (fell_dim beside n (Some held) (sym same_units) (λ is. never_none is) (λ c. AwayLeft c beside n (idle_ready idle)) (idle_ready idle) rests over x untold laws s at)
 
     -- no import of them finds anything
     named_dim : (x : Idle R g) → TellsNone (idle_disks x) → FoundNamed (units_of n) (length (entries_noted note)) (idle_ready x)
@@ -463,7 +465,8 @@ module _ {R : Type 0} {g : Ghosts R} (racks : (s : Shade R) → IsRack (shade_me
                 session = begun.0;
                 from = begun.1;
                 noted = off_noted begun.0 (ends_of lost_moved.3);
-                stands = lost_stands racks laws beside n laid told has mid since only fell.fell fell.is begun.0 begun.1 begun.2 rest lost_units IsDown NoFuse last ready_is fell.rested over refl refl s (fell_site s.site last at);
+                stands = fed_like beside (let m : Node = record n { state = IsDown; session = begun.0; fuse = NoFuse; group = Some rest } in m) n.other s last (fell_site s.site last at)
+                    (lost_stands racks laws beside n laid told has mid since only fell.fell fell.is begun.0 begun.1 begun.2 rest lost_units IsDown NoFuse last ready_is fell.rested over refl refl s (fell_site s.site last at));
               }
 
       -- what was started stands by itself

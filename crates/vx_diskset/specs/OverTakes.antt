@@ -38,9 +38,9 @@ abbrev pub fuse_gone : (lost : Bool) → Fuse → Fuse
 fuse_gone true f = NoFuse
 fuse_gone false f = burned f
 
--- one that is down then
+-- one that is down then; who fed it is forgotten
 abbrev pub fell_in : (session : ℕ) → GroupNode → Node → Node
-fell_in session next n = record n { state = IsDown; session = session; fuse = NoFuse; group = Some next }
+fell_in session next n = record n { state = IsDown; fed_by = n.other; session = session; fuse = NoFuse; group = Some next }
 
 module _ {R : Type 0} {g : Ghosts R} where
   -- the group came up with the replicated volume group that the site has, and that was not started

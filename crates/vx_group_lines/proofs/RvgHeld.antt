@@ -41,7 +41,7 @@ use Rattle.vx_yard.specs.declared.yard.Yard.{Yard}
 use Rattle.vx_group_lines.specs.RvgRises.{RaisesFor, RaisesShort, RestsSo, rests_as}
 use Rattle.vx_group_lines.proofs.Dimming.{knows_none, no_call, none_found}
 use Rattle.vx_group_lines.proofs.GroupAt.{lit_down}
-use Rattle.vx_group_lines.proofs.RvgComing.{DownCall, fell_noted, rest_named}
+use Rattle.vx_group_lines.proofs.RvgComing.{DownCall, RestCall, fell_noted, rest_call, rest_named}
 use Rattle.vx_group_lines.proofs.RvgRests.{left_arrives, left_is, left_world, rests_carries, rests_stands}
 use Rattle.vx_group_lines.proofs.RvgReturns.{call_named, calls_are_of, calls_at, calls_rose}
 use Rattle.vx_group_lines.proofs.RvgRose.{note_before}
@@ -82,6 +82,9 @@ module _ {R : Type 0} {g : Ghosts R} (d : Doubted) (s kept : ℕ) (taken : Bool)
   abbrev n : Node
   n = (rests_as d s kept taken).world.nodes s
 
+  abbrev resting : RestCall b old new s o (Over p)
+  resting = rest_call b old new s o (Over p) call
+
   abbrev note : GroupNode
   note = note_at ((rests_as d s kept taken).world.nodes s)
 
@@ -102,11 +105,11 @@ module _ {R : Type 0} {g : Ghosts R} (d : Doubted) (s kept : ℕ) (taken : Bool)
 
   -- what the calls named
   abbrev fails : ℕ → Fails
-  fails many = calls_at b old new s o p call many
+  fails many = calls_at b old new s o p resting many
 
   fails_in : (many disk : ℕ) → disk < many → Rose ((as_imported (site_in o)).disk_faults disk) ((site_disks (site_in p)).disk_faults disk) → Contains (fails many) (s, disk)
   fails_in many disk low rose =
-      call_named b old new s o p call many disk ((as_imported (site_in o)).disk_faults disk) ((site_disks (site_in p)).disk_faults disk) low (omega (arith, (imported_same {R = R} {g = g} (site_in o)).counts disk)) rose (omega arith)
+      call_named b old new s o p resting many disk ((as_imported (site_in o)).disk_faults disk) ((site_disks (site_in p)).disk_faults disk) low (omega (arith, (imported_same {R = R} {g = g} (site_in o)).counts disk)) rose (omega arith)
 
   abbrev import_units : ℕ
   import_units = (as_imported (site_in o)).units
@@ -147,14 +150,14 @@ module _ {R : Type 0} {g : Ghosts R} (d : Doubted) (s kept : ℕ) (taken : Bool)
       works = ends;
       stands = rests_stands d s kept taken rests old new o p call n.session next table named h.noted h.stands left (left_arrives d s kept taken rests old new o p call next) refl facts;
       carries = λ was. rests_carries d s kept taken rests old new o p call n.session next table named h.noted h.stands left (left_arrives d s kept taken rests old new o p call next) refl load was;
-      rose = calls_rose b old new s o p call many;
+      rose = calls_rose b old new s o p resting many;
     }
 
     -- what was found, of which nothing was known, was refused
     held_unknown : (many : ℕ) (why : No) → FailsOrNone (fails many) s why → KnowsNothing (IsTold new) note → RaisesFor d (Recover name) s kept taken (Refused why) old new
     held_unknown many why because nothing =
         held_for many why
-        (inr (FindsNoRvg kept taken true next why rests.over (calls_are_of b old new s o p call many) tt (nothing_before nothing) because
+        (inr (FindsNoRvg kept taken true next why rests.over (calls_are_of b old new s o p resting many) tt (nothing_before nothing) because
         (subst (λ (k : GroupNode). NotesUnfound k next) (note_before d s kept taken rests old new o p call) (held_unfound h.loosens h.dims note)) refl
         (left_is d s kept taken rests old new o p call name next)))
 
@@ -162,7 +165,7 @@ module _ {R : Type 0} {g : Ghosts R} (d : Doubted) (s kept : ℕ) (taken : Bool)
     held_unfound_for : (many : ℕ) (why : No) → NotFound s note (fails many) why → NotFoundLeaves why note next → RaisesFor d (Recover name) s kept taken (Refused why) old new
     held_unfound_for many why not leaves =
         held_for many why
-        (inl (GroupUnfound name kept taken true why next rests.over refl (calls_are_of b old new s o p call many)
+        (inl (GroupUnfound name kept taken true why next rests.over refl (calls_are_of b old new s o p resting many)
         (subst (λ (k : GroupNode). NotFound s k (fails many) why) (note_before d s kept taken rests old new o p call) not)
         (subst (λ (k : GroupNode). NotFoundLeaves why k next) (note_before d s kept taken rests old new o p call) leaves) refl (left_is d s kept taken rests old new o p call name next)))
 
@@ -186,7 +189,7 @@ module _ {R : Type 0} {g : Ghosts R} (d : Doubted) (s kept : ℕ) (taken : Bool)
         by true is = held_unknown (disk + 1) (Device disk) failed (nothing_by (h.loose is))
         by false is =
             held_for (disk + 1) (Device disk)
-            (inl (GroupHeld name kept taken true disk next rests.over refl (calls_are_of b old new s o p call (disk + 1)) failed
+            (inl (GroupHeld name kept taken true disk next rests.over refl (calls_are_of b old new s o p resting (disk + 1)) failed
             (subst (λ (k : GroupNode). NotesRefused k next) (note_before d s kept taken rests old new o p call)
             (subst (λ (l : Bool). NotesRefused note (note_held l h.dims note)) (sym is) (held_refused h.dims note))) refl (left_is d s kept taken rests old new o p call name next)))
 

@@ -54,7 +54,7 @@ use Rattle.vx_above.proofs.Tables.{table_like}
 use Rattle.vx_above.proofs.RiseWorlds.{own_headers, own_is, own_node}
 use Rattle.vx_group_lines.specs.RvgRises.{RaisesFor, RaisesShort, RestsSo, rests_as, rests_world}
 use Rattle.vx_group_lines.proofs.Arriving.{Arrives}
-use Rattle.vx_group_lines.proofs.RvgComing.{DownCall, rest_named, rest_noted}
+use Rattle.vx_group_lines.proofs.RvgComing.{DownCall, RestCall, rest_call, rest_named, rest_noted}
 use Rattle.vx_group_lines.proofs.RvgReturns.{call_named, calls_are_of, calls_at, calls_rose, extra_at, group_back, group_keeps, group_works, many_at, named_again}
 use Rattle.vx_group_lines.proofs.RvgRests.{begun_is, begun_left, begun_world, headers_begun, left_arrives, left_is, left_none, left_world, rests_carries, rests_stands}
 use Rattle.vx_group_lines.proofs.RvgRose.{note_before}
@@ -80,6 +80,9 @@ module _ {R : Type 0} {g : Ghosts R} (d : Doubted) (s kept : ℕ) (taken : Bool)
   abbrev n : Node
   n = (rests_as d s kept taken).world.nodes s
 
+  abbrev resting : RestCall b old new s o (Over p)
+  resting = rest_call b old new s o (Over p) call
+
   abbrev note : GroupNode
   note = note_at ((rests_as d s kept taken).world.nodes s)
 
@@ -104,27 +107,27 @@ module _ {R : Type 0} {g : Ghosts R} (d : Doubted) (s kept : ℕ) (taken : Bool)
   -- ---- its note
 
   abbrev extra : ℕ → ℕ
-  extra more = extra_at b old new s o p call r.laid r.group p r.to last r.worked r.works r.goes r.agrees + more
+  extra more = extra_at b old new s o p resting r.laid r.group p r.to last r.worked r.works r.goes r.agrees + more
 
   abbrev many : ℕ → ℕ
-  many more = many_at b old new s o p call r.laid r.group p r.to last (extra more)
+  many more = many_at b old new s o p resting r.laid r.group p r.to last (extra more)
 
   abbrev fails : ℕ → Fails
-  fails more = calls_at b old new s o p call (many more)
+  fails more = calls_at b old new s o p resting (many more)
 
   back : (more : ℕ) → NotesBack (IsTold new) s (d.world.nodes s) (fails more) (note_at (d.world.nodes s)) r.group.middle
   back more =
       subst (λ (k : GroupNode). NotesBack (IsTold new) s (d.world.nodes s) (fails more) k r.group.middle) (note_before d s kept taken rests old new o p call)
-      (group_back b old new s o p call r.laid r.group p r.to last (d.world.nodes s) (extra more) rests.disks rests.blocks (λ _. r.told))
+      (group_back b old new s o p resting r.laid r.group p r.to last (d.world.nodes s) (extra more) rests.disks rests.blocks (λ _. r.told))
 
   keeps_here : NoteKeepsRvg note r.group.middle
-  keeps_here = group_keeps b old new s o p call r.laid r.group p r.to last r.told r.named
+  keeps_here = group_keeps b old new s o p resting r.laid r.group p r.to last r.told r.named
 
   keeps : NoteKeepsRvg (note_at (d.world.nodes s)) r.group.middle
   keeps = subst (λ (k : GroupNode). NoteKeepsRvg k r.group.middle) (note_before d s kept taken rests old new o p call) keeps_here
 
   works : (more : ℕ) → NotesWork ⊥ s (fails more) r.group.middle r.worked
-  works more = group_works b old new s o p call r.laid r.group p r.to last r.worked r.works r.goes r.agrees (extra more) (omega arith)
+  works more = group_works b old new s o p resting r.laid r.group p r.to last r.worked r.works r.goes r.agrees (extra more) (omega arith)
 
   -- the same as the site noted it before it came to rest
   cut_before : lost_note ≡ (let k : GroupNode = record r.worked { cut = (note_at (d.world.nodes s)).cut } in k)
@@ -192,13 +195,13 @@ module _ {R : Type 0} {g : Ghosts R} (d : Doubted) (s kept : ℕ) (taken : Bool)
       works = inl ends;
       stands = rests_stands d s kept taken rests old new o p call r.session lost_note table named r.noted r.stands (left_world d s kept taken rests old new o p call lost_note) arrives refl facts;
       carries = λ before. rests_carries d s kept taken rests old new o p call r.session lost_note table named r.noted r.stands (left_world d s kept taken rests old new o p call lost_note) arrives refl load before;
-      rose = calls_rose b old new s o p call (many more);
+      rose = calls_rose b old new s o p resting (many more);
     }
 
     lost_short : (name : List ℕ) → r.worked ≡ r.group.middle → RaisesShort d (Recover name) s kept taken old new
     lost_short name unbegun = record {
       next = left_world d s kept taken rests old new o p call lost_note;
-      part = ShortLog kept taken (fails 0) r.group.middle lost_note rests.over tt (calls_are_of b old new s o p call (many 0)) (back 0) keeps
+      part = ShortLog kept taken (fails 0) r.group.middle lost_note rests.over tt (calls_are_of b old new s o p resting (many 0)) (back 0) keeps
           (cut_before ∙ ap (λ (x : GroupNode). let k : GroupNode = record x { cut = (note_at (d.world.nodes s)).cut } in k) unbegun) (left_is d s kept taken rests old new o p call name lost_note);
       stands = rests_stands d s kept taken rests old new o p call r.session lost_note table named r.noted r.stands (left_world d s kept taken rests old new o p call lost_note) arrives refl facts;
       carries = λ before. rests_carries d s kept taken rests old new o p call r.session lost_note table named r.noted r.stands (left_world d s kept taken rests old new o p call lost_note) arrives refl load before;
@@ -223,18 +226,18 @@ module _ {R : Type 0} {g : Ghosts R} (d : Doubted) (s kept : ℕ) (taken : Bool)
           works = inl ends;
           stands = rests_stands d s kept taken rests old new o p call r.session lost_note table named r.noted r.stands e arrives headers facts;
           carries = λ before. rests_carries d s kept taken rests old new o p call r.session lost_note table named r.noted r.stands e arrives headers load before;
-          rose = calls_rose b old new s o p call (many more);
+          rose = calls_rose b old new s o p resting (many more);
         }
 
   -- a disk failed
   module _ (disk : ℕ) (rose : Rose ((site_disks (site_in o)).disk_faults disk) ((site_disks (site_in p)).disk_faults disk)) where
     failed : Contains (fails (disk + 1)) (s, disk)
-    failed = call_named b old new s o p call (many (disk + 1)) disk (was.disk_faults disk) (now.disk_faults disk) (omega arith) (omega arith) rose (omega arith)
+    failed = call_named b old new s o p resting (many (disk + 1)) disk (was.disk_faults disk) (now.disk_faults disk) (omega arith) (omega arith) rose (omega arith)
 
     fails_end : (name : List ℕ) (left : List Event) (e : Doubted) → SessionLeft s disk left → IsLeftBut true s (Recover name) taken lost_note d (run_as taken d (fall_first (d.world.nodes s).state s kept ++ left)) e
         → RvgBack (IsTold new) d (Recover name) s (fails (disk + 1)) (Refused (Device disk)) e
     fails_end name left e session leaves =
-        LogFails name kept taken disk r.group.middle lost_note left rests.over refl (calls_are_of b old new s o p call (many (disk + 1))) failed (back (disk + 1)) keeps (works_cut (disk + 1)) session refl leaves
+        LogFails name kept taken disk r.group.middle lost_note left rests.over refl (calls_are_of b old new s o p resting (many (disk + 1))) failed (back (disk + 1)) keeps (works_cut (disk + 1)) session refl leaves
 
     pub lost_device : (name : List ℕ) → SessionFrom n r.session → new.facts.items ≡ slice_set old.facts.items s (linked_fact (rests_as d s kept taken).world s) → SameLoad old new
         → RaisesFor d (Recover name) s kept taken (Refused (Device disk)) old new
@@ -259,7 +262,7 @@ module _ {R : Type 0} {g : Ghosts R} (d : Doubted) (s kept : ℕ) (taken : Bool)
   lost_limit name what most same is lacks facts load =
       subst (λ (why : No). RaisesFor d (Recover name) s kept taken (Refused why) old new) (sym is)
       (lost_for same facts load name 0 (Refused (Limit Number MOST_NUMBER))
-      (LogLacks name kept taken r.group.middle lost_note rests.over refl (calls_are_of b old new s o p call (many 0)) (back 0) keeps (works_cut 0) (λ _. omega (arith, lacks, stamps)) refl
+      (LogLacks name kept taken r.group.middle lost_note rests.over refl (calls_are_of b old new s o p resting (many 0)) (back 0) keeps (works_cut 0) (λ _. omega (arith, lacks, stamps)) refl
       (left_is d s kept taken rests old new o p call name lost_note)))
 
   -- memory was wanted
