@@ -48,16 +48,16 @@ use Rattle.vx_group_lines.proofs.RvgRose.{note_before}
 
 -- ---- the note
 
-held_refused : (dims : Bool) (note : GroupNode) → NotesRefused note (note_held false dims note)
+pub held_refused : (dims : Bool) (note : GroupNode) → NotesRefused note (note_held false dims note)
 held_refused true note = inr refl
 held_refused false note = inl refl
 
-held_unfound : (loosens dims : Bool) (note : GroupNode) → NotesUnfound note (note_held loosens dims note)
+pub held_unfound : (loosens dims : Bool) (note : GroupNode) → NotesUnfound note (note_held loosens dims note)
 held_unfound false dims note = inl (held_refused dims note)
 held_unfound true true note = inr (inr refl)
 held_unfound true false note = inr (inl refl)
 
-held_short : (dims : Bool) (note : GroupNode) → (dims ≡ true → (note.loose ≡ true) ⊎ (note.dark ≡ true)) → NotesShort note (note_held false dims note)
+pub held_short : (dims : Bool) (note : GroupNode) → (dims ≡ true → (note.loose ≡ true) ⊎ (note.dark ≡ true)) → NotesShort note (note_held false dims note)
 held_short false note more = inl refl
 held_short true note more = ⊎_elim
     (λ (loose : note.loose ≡ true). inr (loose, refl))
@@ -65,11 +65,11 @@ held_short true note more = ⊎_elim
     (more refl)
 
 -- a note that is as it was: the import had written nothing, and nothing was found
-record AsNoted (loosens dims : Bool) : Type 0 where
-  tight : loosens ≡ false
-  lit : dims ≡ false
+pub record AsNoted (loosens dims : Bool) : Type 0 where
+  pub tight : loosens ≡ false
+  pub lit : dims ≡ false
 
-held_same : (loosens dims : Bool) (note : GroupNode) → AsNoted loosens dims → note_held loosens dims note ≡ note
+pub held_same : (loosens dims : Bool) (note : GroupNode) → AsNoted loosens dims → note_held loosens dims note ≡ note
 held_same loosens dims note it =
     ap (λ (b : Bool). note_held b dims note) it.tight ∙ ap (λ (b : Bool). note_held false b note) it.lit
 

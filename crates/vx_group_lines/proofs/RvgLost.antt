@@ -1,6 +1,6 @@
 -- What a recovery of a site whose group has a replicated volume group leads its yard to, where the group came up and the replicated volume group did not.
-use Rattle.std.proofs.Common.{◌≡◌, ◌∙◌, ◌++◌, ◌+◌, ◌<◌, ◌≤◌, ℕ, zero, suc, Bool, true, false, List, [], ◌∷◌, length, map, ap, sym, subst, refl, arith, inl, inr, ⊎_elim}
-use Rattle.std.specs.Prelude.{Contains, Option, Some, slice_get, slice_set}
+use Rattle.std.proofs.Common.{◌≡◌, ◌∙◌, ◌++◌, ◌+◌, ◌<◌, ◌≤◌, ℕ, Bool, true, false, List, [], ◌∷◌, map, ap, sym, subst, refl, arith, inl, inr, ⊎_elim}
+use Rattle.std.specs.Prelude.{Contains, Option, Some, slice_set}
 use Rattle.vx_model.specs.declared.errors.Stop.{Stop}
 use Rattle.vx_model.specs.declared.limits.TheConstants.{MOST_NUMBER}
 use Rattle.vx_model.specs.declared.no.Counted.{Counted}
@@ -10,7 +10,6 @@ use Rattle.vx_model.specs.declared.no.No.TheVariants.{Device, Limit}
 use Rattle.vx_disk.specs.Counts.{Rose}
 use Rattle.vx_disk.specs.Shelf.{Meaning}
 use Rattle.vx_disk.specs.declared.shelf.Shelf.{Ghosts}
-use Rattle.vx_config.specs.Changes.{Matched}
 use Rattle.vx_config.specs.declared.config.Config.{Config}
 use Rattle.vx_history.specs.Doubts.{Doubted}
 use Rattle.vx_history.specs.Groups.{GroupNode}
@@ -18,15 +17,13 @@ use Rattle.vx_history.specs.World.{Node}
 use Rattle.vx_history.specs.declared.event.Event.{Event}
 use Rattle.vx_history.specs.declared.event.Event.TheVariants.{Recover as RecoverAt}
 use Rattle.vx_script.specs.declared.line.ScriptLine.TheVariants.{Recover}
-use Rattle.vx_grouped.specs.ConfigMoves.{AnyState, OpensMoves, StateMoves, VolumeMoves, none_again}
 use Rattle.vx_grouped.specs.GroupSites.{laid_disks, site_disks}
-use Rattle.vx_grouped.specs.SiteReturns.{as_imported}
 use Rattle.vx_diskset.proofs.NotedLikes.{cut_none}
 use Rattle.vx_diskset.specs.Aboves.{site_in}
 use Rattle.vx_diskset.specs.DiskSets.{no_number}
 use Rattle.vx_diskset.specs.Holds.{beside_of, most_header}
 use Rattle.vx_diskset.specs.Noted.{IsNamed}
-use Rattle.vx_diskset.specs.OverRises.{LostAgain, SessionFrom, note_ready, rest_in}
+use Rattle.vx_diskset.specs.OverRises.{LostAgain, SessionFrom, rest_in}
 use Rattle.vx_diskset.specs.declared.disk_set.DiskSet.TheVariants.{Over}
 use Rattle.vx_diskset.specs.declared.over_set.OverSet.{OverSet}
 use Rattle.vx_events.proofs.RvgStays.{loses, then_keeps}
@@ -48,8 +45,6 @@ use Rattle.vx_yard.proofs.CrashLine.{rose_still}
 use Rattle.vx_yard.specs.Stands.{RoseAll}
 use Rattle.vx_yard.specs.Yards.{IsTold, count_of}
 use Rattle.vx_yard.specs.declared.yard.Yard.{Yard}
-use Rattle.vx_above.proofs.Changing.{notes_table}
-use Rattle.vx_above.proofs.Losing.{fact_moves, facts_move, same_map}
 use Rattle.vx_above.proofs.Tables.{table_like}
 use Rattle.vx_above.proofs.RiseWorlds.{own_headers, own_is, own_node}
 use Rattle.vx_group_lines.specs.RvgRises.{RaisesFor, RaisesShort, RestsSo, rests_as, rests_world}
@@ -58,14 +53,8 @@ use Rattle.vx_group_lines.proofs.RvgComing.{DownCall, RestCall, rest_call, rest_
 use Rattle.vx_group_lines.proofs.RvgReturns.{call_named, calls_are_of, calls_at, calls_rose, extra_at, group_back, group_keeps, group_works, many_at, named_again}
 use Rattle.vx_group_lines.proofs.RvgRests.{begun_is, begun_left, begun_world, headers_begun, left_arrives, left_is, left_none, left_world, rests_carries, rests_stands}
 use Rattle.vx_group_lines.proofs.RvgRose.{note_before}
-
--- two lists that are as long match wherever they do in the places of one
-all_matched : {A : Type 0} (P : A → A → Type 0) (us vs : List A) → length us ≡ length vs → ((v : ℕ) → v < length us → Matched P (slice_get us v) (slice_get vs v)) → (v : ℕ) → Matched P (slice_get us v) (slice_get vs v)
-all_matched P [] [] same each v = tt
-all_matched P [] (y ∷ ys) same each v = absurd (omega (arith, same))
-all_matched P (x ∷ xs) [] same each v = absurd (omega (arith, same))
-all_matched P (x ∷ xs) (y ∷ ys) same each zero = each 0 (omega arith)
-all_matched P (x ∷ xs) (y ∷ ys) same each (suc v) = all_matched P xs ys (omega (arith, same)) (λ k below. each (suc k) (omega (arith, below))) v
+use Rattle.vx_group_lines.proofs.RvgShown.{shown_same}
+use Rattle.vx_diskset.specs.Layouts.{units_of}
 
 -- the numbers of a log have nothing to do with the disks that are made to fail
 own_stamp : (b : Bool) (was n : Node) → most_stamp (own_node b was n) ≡ most_stamp n
@@ -148,22 +137,8 @@ module _ {R : Type 0} {g : Ghosts R} (d : Doubted) (s kept : ℕ) (taken : Bool)
 
   -- ---- what is seen of it
 
-  -- the import found the volumes that were noted
-  found_same : map plain_fact r.group.config.now.volumes ≡ map plain_fact r.group.config.was.volumes
-  found_same = ⊎_elim
-      (λ (tight : note.loose ≡ false).
-      same_map plain_fact (VolumeMoves (OpensMoves (as_imported (site_in o)) mid)) (fact_moves (OpensMoves (as_imported (site_in o)) mid)) r.group.config.was.volumes r.group.config.now.volumes
-      (r.group.config.opens r.told tight ((rest_noted b old new s o (Over p) call).3.tidy tight)))
-      (λ (many_same : length r.group.config.now.volumes ≡ length r.group.config.was.volumes).
-      same_map plain_fact (VolumeMoves AnyState) (fact_moves AnyState) r.group.config.was.volumes r.group.config.now.volumes
-      (all_matched (VolumeMoves AnyState) r.group.config.was.volumes r.group.config.now.volumes (sym many_same) (λ v below. r.group.config.change.volumes r.told v below)))
-      r.seen
-
   table_same : map plain_fact (entries_noted lost_note) ≡ map plain_fact (entries_noted note)
-  table_same =
-      notes_table r.worked r.goes.now r.goes.noted_now ∙ facts_move none_again (StateMoves mid now) mid now r.goes.was r.goes.now r.goes.change
-      ∙ sym (notes_table r.group.middle r.goes.was r.goes.noted) ∙ notes_table r.group.middle r.group.config.now r.group.config.noted_now ∙ found_same
-      ∙ sym (notes_table (note_ready (site_in o) note) r.group.config.was r.group.config.noted)
+  table_same = shown_same n note (site_in o) (site_in p) r.laid r.group r.told (units_of n) (rest_noted b old new s o (Over p) call).3 r.seen r.worked r.goes
 
   rvg_same : rvg_noted lost_note ≡ rvg_noted note
   rvg_same =
