@@ -152,6 +152,13 @@ module _ {R : Type 0} {g : Ghosts R} (b : Doubted) (old new : Yard R g) (s : ℕ
             (placed_as (VolumeMoves AnyState) VolumeStays (slice_get group.config.was.volumes v) (slice_get group.config.now.volumes v) (λ x y _ _ moves. volume_stays x y moves)
             (group.config.change.volumes tells v (slice_get_within group.config.was.volumes v e is)))
 
+    -- the fuse of the disks ran out in the calls of the log
+    pub group_fused : (Off : Type 0) → Off → (next : GroupNode) → NoteWorks group.middle next → (goes : ConfigGoes (LosesSome (laid_disks laid) (site_disks (site_in x))) group.middle next (Up laid) (site_in x)) → (extra : ℕ) → length goes.was.disks ≤ extra
+        → NotesWork Off s (calls_at (many_at extra)) group.middle next
+    group_fused Off off next works goes extra enough =
+        works_note s (many_at extra) (calls_at (many_at extra)) mid now (names_mid extra) Off middle next goes.was goes.now goes.noted goes.noted_now (omega (arith, enough)) goes.change
+        (record { works = works; quiet = λ none never agreed. absurd (never off) })
+
     -- what the calls of the log made of it then
     module _ (next : GroupNode) (works : NoteWorks group.middle next) (goes : ConfigGoes (LosesSome (laid_disks laid) (site_disks (site_in x))) group.middle next (Up laid) (site_in x))
         (agrees : AgreesStill group.middle next (laid_disks laid) (site_disks (site_in x))) where
