@@ -30,7 +30,8 @@ use Rattle.vx_diskset.specs.declared.group_set.GroupSet.{GroupSet}
 use Rattle.vx_diskset.specs.declared.over_set.OverSet.{OverSet}
 use Rattle.vx_events.proofs.OverSeats.{fact_apart}
 use Rattle.vx_events.proofs.RvgEvents.{rvg_apart}
-use Rattle.vx_events.specs.Facts.{site_number}
+use Rattle.vx_events.specs.Facts.{seat_of, site_number}
+use Rattle.vx_events.specs.RvgSteps.{is_for_rvg}
 use Rattle.vx_events.specs.GroupNotes.{note_at}
 use Rattle.vx_events.specs.GroupViews.{plain_fact}
 use Rattle.vx_events.specs.LinkedFacts.{linked_fact}
@@ -39,13 +40,14 @@ use Rattle.vx_events.specs.declared.said.Said.{Said}
 use Rattle.vx_events.specs.declared.said.Said.TheVariants.{Done}
 use Rattle.vx_yard.proofs.Carrying.{SameLoad}
 use Rattle.vx_yard.proofs.Lists.{set_same}
-use Rattle.vx_yard.proofs.NamedSite.{fact_of}
+use Rattle.vx_yard.proofs.NamedSite.{fact_of, place_at}
 use Rattle.vx_yard.proofs.OneSite.{Changed}
 use Rattle.vx_yard.specs.AboveLines.{LeadsAbove, LeadsAboveIs}
 use Rattle.vx_yard.specs.GroupFacts.{group_up_facts}
 use Rattle.vx_yard.specs.Standing.{StandsFor}
 use Rattle.vx_yard.specs.Writes.{below_facts}
 use Rattle.vx_yard.specs.declared.yard.Yard.{Yard}
+use Rattle.vx_above.proofs.SeenSites.{state_placed}
 use Rattle.vx_above.proofs.OverSites.{OverIs, note_is, over_set, site_noted}
 use Rattle.vx_group_lines.specs.Noting.{IsNotedRefusal, made_facts, reply_noted}
 use Rattle.vx_group_lines.proofs.AwayCalls.{AwayCall}
@@ -55,6 +57,7 @@ use Rattle.vx_group_lines.proofs.AwayLost.{lost_disk, lost_fuse, lost_number, lo
 use Rattle.vx_group_lines.proofs.AwayPlain.{away_plain}
 use Rattle.vx_group_lines.proofs.AwayRose.{away_rose}
 use Rattle.vx_group_lines.proofs.GroupEnding.{Midway, lets_on, load_on}
+use Rattle.vx_group_lines.proofs.Tests.{AwayMay}
 
 never_done : {stop : Stop} → (let x : Result (Unit {0}) Stop = Err stop in x ≡ Ok tt) → ⊥
 never_done is = cc
@@ -64,6 +67,26 @@ never_err is = cc
 
 stopped_by : {a b : Stop} → (let x : Result (Unit {0}) Stop = Err a in x ≡ Err b) → a ≡ b
 stopped_by is = cc
+
+-- what a line that no test refuses begins with, at such a site
+pub record AwayAbove {R : Type 0} {g : Ghosts R} (d : Doubted) (y : Yard R g) (name : List ℕ) (s : ℕ) : Type 0 where
+  pub number : site_number d.world name ≡ s
+  pub below : s < d.world.sites
+  pub over : is_over_rvg (d.world.nodes s) ≡ true
+  pub away : (d.world.nodes s).state ≡ IsAway
+  pub fact : slice_get y.facts.items s ≡ Some (linked_fact d.world s)
+
+pub away_above : {R : Type 0} {g : Ghosts R} (d : Doubted) (y : Yard R g) (name : List ℕ) (s : ℕ) → StandsFor d y → seat_of y.facts.items name ≡ Some s → AwayMay y.facts.items name → is_for_rvg d.world (GroupImport name) ≡ true → AwayAbove d y name s
+away_above d y name s stands seat may over =
+    let place = place_at d y name s stands seat in
+    let rvg : is_over_rvg (d.world.nodes s) ≡ true = ap (λ (k : ℕ). is_over_rvg (d.world.nodes k)) (sym place.number) ∙ over in
+    record {
+      number = place.number;
+      below = place.below;
+      over = rvg;
+      away = state_placed d y name s stands seat may.site ∙ may.away;
+      fact = fact_of d y s stands place.below ∙ ap (λ (x : SiteFacts). Some x) (fact_apart d.world s (rvg_apart (d.world.nodes s) rvg));
+    }
 
 module _ {R : Type 0} {g : Ghosts R} (d : Doubted) (old new : Yard R g) (name : List ℕ) (s : ℕ) (number : site_number d.world name ≡ s) (before after : DiskSet R g) (stands : StandsFor d old) (below : s < d.world.sites)
     (over : is_over_rvg (d.world.nodes s) ≡ true) (away : (d.world.nodes s).state ≡ IsAway) (changed : Changed old new s before after) (failing : SameFailing before after) where

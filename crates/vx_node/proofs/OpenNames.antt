@@ -11,7 +11,7 @@ use Rattle.vx_order.specs.Subject.{first_name, second_name}
 use Rattle.vx_order.specs.declared.facts.SiteFacts.{SiteFacts}
 use Rattle.vx_order.specs.declared.facts.VolumeKind.{VolumeKind}
 use Rattle.vx_script.specs.declared.line.ScriptLine.{ScriptLine}
-use Rattle.vx_script.specs.declared.line.ScriptLine.TheVariants.{Deliver, GroupImport, Link, PlexAttach, PlexDetach, Put, Volume, Write}
+use Rattle.vx_script.specs.declared.line.ScriptLine.TheVariants.{Deliver, Link, PlexAttach, PlexDetach, Put, Volume, Write}
 use Rattle.vx_events.proofs.Places.{some_same}
 use Rattle.vx_events.proofs.Refused.{named, passes}
 use Rattle.vx_events.proofs.RvgEvents.{rvg_apart}
@@ -35,7 +35,6 @@ use Rattle.vx_node.specs.OpenSites.{block_volume, halted_site, open_second, open
 
 first_of : (line : ScriptLine) (site : List ℕ) → open_site line ≡ Some site → first_name line ≡ Some site
 unfolding first_name
-first_of (GroupImport name) site is = is
 first_of (Volume name volume blocks mirrors layout log map policy) site is = is
 first_of (Write name volume start count fill) site is = is
 first_of (Put name volume start bytes) site is = is
@@ -110,7 +109,6 @@ module _ {R : Type 0} {g : Ghosts R} where
 
 module _ (w : World) where
   pub open_nowhere : (line : ScriptLine) → halted_site line ≡ None → open_site line ≡ None → is_open w line ≡ false
-  open_nowhere (GroupImport name) runs none = absurd (cc)
   open_nowhere (Volume name volume blocks mirrors layout log map policy) runs none = absurd (cc)
   open_nowhere (PlexDetach name volume plex) runs none = absurd (cc)
   open_nowhere (PlexAttach name volume plex) runs none = absurd (cc)
@@ -135,7 +133,6 @@ module _ (w : World) where
   either_first name site second b is over = ap (λ (x : Bool). x || over_rvg_at w second) (over_first name site b is over)
 
   pub open_there : (line : ScriptLine) (site : List ℕ) → open_site line ≡ Some site → block_volume line ≡ None → over_rvg_at w site ≡ true → is_open w line ≡ true
-  open_there (GroupImport name) site is none over = over_first name site true is over
   open_there (Volume name volume blocks mirrors layout log map policy) site is none over = over_first name site true is over
   open_there (Write name volume start count fill) site is none over = absurd (cc)
   open_there (Put name volume start bytes) site is none over = absurd (cc)
@@ -167,7 +164,6 @@ module _ (w : World) where
   volume_off name site volume is off = ap (λ (b : Bool). b && not (is_data (kind_named (w.nodes (site_number w name)) volume))) (over_first name site false is off)
 
   pub open_not : (line : ScriptLine) (site : List ℕ) → open_site line ≡ Some site → open_second line ≡ None → over_rvg_at w site ≡ false → is_open w line ≡ false
-  open_not (GroupImport name) site is none off = over_first name site false is off
   open_not (Volume name volume blocks mirrors layout log map policy) site is none off = over_first name site false is off
   open_not (Write name volume start count fill) site is none off = volume_off name site volume is off
   open_not (Put name volume start bytes) site is none off = volume_off name site volume is off

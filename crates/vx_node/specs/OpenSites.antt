@@ -1,11 +1,10 @@
 -- The names in a line by which it is told whether it is open.
 use Rattle.std.specs.Prelude.{ℕ, List, Option, Some, None}
 use Rattle.vx_script.specs.declared.line.ScriptLine.{ScriptLine}
-use Rattle.vx_script.specs.declared.line.ScriptLine.TheVariants.{GroupImport, Link, PlexAttach, PlexDetach, Put, Volume, Write}
+use Rattle.vx_script.specs.declared.line.ScriptLine.TheVariants.{Link, PlexAttach, PlexDetach, Put, Volume, Write}
 
 -- a site: where a replicated volume group is over its group, the line is open, or writes blocks
 abbrev pub open_site : ScriptLine → Option (List ℕ)
-open_site (GroupImport site) = Some site
 open_site (Volume site volume blocks mirrors layout log map policy) = Some site
 open_site (Write site volume start count fill) = Some site
 open_site (Put site volume start bytes) = Some site

@@ -21,8 +21,7 @@ fn open_site(line: &ScriptLine) -> Option<Name>
     ensures { result ≡ open_site line.now }
 {
     match line {
-        ScriptLine::GroupImport { site }
-        | ScriptLine::Volume { site, .. }
+        ScriptLine::Volume { site, .. }
         | ScriptLine::Write { site, .. }
         | ScriptLine::Put { site, .. } => Some(*site),
         ScriptLine::Link { primary, .. } => Some(*primary),
