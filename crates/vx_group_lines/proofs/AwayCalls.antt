@@ -83,7 +83,8 @@ fallen_seen : (n : Node) (session : ℕ) (next : GroupNode) → is_over_rvg n �
 fallen_seen n session next over table links is =
     let m : Node = fell_in session next n in
     let over_m : is_over_rvg m ≡ true = over_again n m next over refl refl in
-    let first : SiteFacts = down_fact (record (seen_fact n) { links = [] }) in
+    let base : SiteFacts = record (seen_fact n) { links = [] } in
+    let first : SiteFacts = down_fact base in
     let last : SiteFacts = record (seen_fact m) { links = [] } in
     ap (λ (f : SiteFacts). down_fact f) is ∙ facts_is first last refl refl refl refl (over ∙ sym over_m) (table_by n over ∙ sym table ∙ sym (table_by m over_m)) refl refl
 
