@@ -59,7 +59,7 @@ use Rattle.vx_diskset.specs.Layouts.{config_units, units_by, units_of}
 use Rattle.vx_diskset.specs.Noted.{AgreesStill, FoundNamed, NotedOn, NotesWorked, RestsNamed, SiteNoted, TidyNote, below_rvg}
 use Rattle.vx_diskset.specs.OverRises.{CameGroup, FoundAgain, PlainAgain, RoseAgain, SessionFrom, StartLost, came_with, note_held}
 use Rattle.vx_diskset.specs.OverStarts.{BehindImport, BroughtBy, FellBack, Revived, StandsOff, StartFails, Started, StartsOn, StartsOver, TakesOver, TriedOn, UpUnless, WithUnits, all_latest, is_alone, is_dark, BackAt}
-use Rattle.vx_diskset.specs.OverTakes.{HeldAway, HeldOff, LostAway, LostOff, LostOver, OverTakes, TakesAbove, TakesAgain, TakesFound, TakesHeld, TakesHeldOff, TakesLost, TakesLostOff, TakesPlain, fell_in, fuse_gone, gone_in}
+use Rattle.vx_diskset.specs.OverTakes.{HeldAway, HeldOff, LostAway, LostOff, LostOver, OverTakes, TakesAbove, TakesAgain, TakesFound, TakesHeld, TakesHeldOff, TakesLost, TakesLostOff, TakesPlain, fallen_in, fuse_gone, gone_in}
 use Rattle.vx_diskset.specs.Stands.{AwayLeft, IsOverSite, OverStands, RestsOver, SiteStands, idle_ready}
 use Rattle.vx_diskset.specs.Works.{LogBlocks, OnlyLog}
 use Rattle.vx_diskset.specs.declared.disk_set.DiskSet.{DiskSet}
@@ -170,7 +170,7 @@ module _ {R : Type 0} {g : Ghosts R} (racks : (s : Shade R) → IsRack (shade_me
           subst (λ (st : SiteState). SiteStands beside (let m : Node = record n { state = st; fuse = fuse; group = Some held } in m) (Over s)) (sym state)
           (away_dim beside n (Some held) (sym same_units) (λ is. never_none is) (λ c. AwayLeft c beside n (idle_ready idle)) (idle_ready idle) rests over x untold fuse s at)
 
-      dim_fell : s.site ≡ GroupFell x → SiteStands beside (fell_in n.session held n) (Over s)
+      dim_fell : s.site ≡ GroupFell x → SiteStands beside (fallen_in n.session held n) (Over s)
       dim_fell at =
           fed_like beside (let m : Node = record n { state = IsDown; fuse = NoFuse; group = Some held } in m) n.other s x at
           (fell_dim beside n (Some held) (sym same_units) (λ is. never_none is) (λ c. AwayLeft c beside n (idle_ready idle)) (idle_ready idle) rests over x untold laws s at)
@@ -261,7 +261,7 @@ module _ {R : Type 0} {g : Ghosts R} (racks : (s : Shade R) → IsRack (shade_me
         let it : ImportRefused true site_ready ready (idle_ready idle) (Down now) (Refused IsOff) = by.imported (below_rvg n) note away in
         let none : TellsNone (idle_disks now) = by.dark refl in
         let under = ready_under g now.agreed now.rack in
-        let k : Node = fell_in n.session (note_held false true note) n in
+        let k : Node = fallen_in n.session (note_held false true note) n in
         record {
           loosens = false;
           loose = λ is. absurd (let clash : false ≡ true = is in cc);
@@ -446,10 +446,10 @@ module _ {R : Type 0} {g : Ghosts R} (racks : (s : Shade R) → IsRack (shade_me
           down_either (inl up) = down_known racks laws beside n note idle away.agrees names over inside laid risen told has mid last fell ground since less only up
           down_either (inr it) = fallen_last it
 
-          off_noted : (session : ℕ) → Ends → SiteNoted (fell_in session rest n) rest (Over s)
+          off_noted : (session : ℕ) → Ends → SiteNoted (fallen_in session rest n) rest (Over s)
           off_noted session ends =
-              lost_site (fell_in session rest n) (Down last) at refl
-              (down_for (crashed lost_node 0) (below_rvg (fell_in session rest n)) worked_note note.cut last (record { is = refl; none = record { role = refl; volumes = refl; log = refl; safe = refl; running = refl } }) refl refl refl refl (down_either ends))
+              lost_site (fallen_in session rest n) (Down last) at refl
+              (down_for (crashed lost_node 0) (below_rvg (fallen_in session rest n)) worked_note note.cut last (record { is = refl; none = record { role = refl; volumes = refl; log = refl; safe = refl; running = refl } }) refl refl refl refl (down_either ends))
               (found_last ends)
 
           ends_of : (UpNoted lost_node worked_note (Up mid) × AgreesStill middle worked_note (laid_disks laid) (laid_disks mid)) ⊎ (CutNoted lost_node worked_note (Up mid) × IsFused (burned n.fuse)) → Ends
@@ -591,7 +591,7 @@ module _ {R : Type 0} {g : Ghosts R} (racks : (s : Shade R) → IsRack (shade_me
         -- they are down
         held_fused : site_in s ≡ Down last → stop ≡ Refused IsOff → HeldOff beside n note (Deported idle) s
         held_fused at is =
-            let k : Node = fell_in n.session (note_held (not last.agreed) true note) n in
+            let k : Node = fallen_in n.session (note_held (not last.agreed) true note) n in
             let off : IsTrue (laid_disks mid).down = off_tried u laid mid IsOff refl (subst (λ (w : Stop). TriedOn u laid mid w) is tried) in
             record {
               loosens = not last.agreed;

@@ -39,8 +39,8 @@ fuse_gone true f = NoFuse
 fuse_gone false f = burned f
 
 -- one that is down then; who fed it is forgotten
-abbrev pub fell_in : (session : ℕ) → GroupNode → Node → Node
-fell_in session next n = record n { state = IsDown; fed_by = n.other; session = session; fuse = NoFuse; group = Some next }
+abbrev pub fallen_in : (session : ℕ) → GroupNode → Node → Node
+fallen_in session next n = record n { state = IsDown; fed_by = n.other; session = session; fuse = NoFuse; group = Some next }
 
 module _ {R : Type 0} {g : Ghosts R} where
   -- the group came up with the replicated volume group that the site has, and that was not started
@@ -72,8 +72,8 @@ module _ {R : Type 0} {g : Ghosts R} where
     pub fused : IsFused n.fuse
     pub session : ℕ
     pub from : SessionFrom n session
-    pub noted : SiteNoted (fell_in session (record over.worked { cut = note.cut }) n) (record over.worked { cut = note.cut }) (Over s)
-    pub stands : SiteStands beside (fell_in session (record over.worked { cut = note.cut }) n) (Over s)
+    pub noted : SiteNoted (fallen_in session (record over.worked { cut = note.cut }) n) (record over.worked { cut = note.cut }) (Over s)
+    pub stands : SiteStands beside (fallen_in session (record over.worked { cut = note.cut }) n) (Over s)
 
   -- the import was refused; or it is not known what the disks hold, and what was found was refused. The site is deported still.
   pub record HeldAway (beside : KeptBeside) (n : Node) (note : GroupNode) (old : GroupSite R g) (s : OverSet R g) (stop : Stop) : Type 0 where
@@ -96,8 +96,8 @@ module _ {R : Type 0} {g : Ghosts R} where
     pub loosens : Bool
     pub loose : loosens ≡ true → IsTrue (site_below (site_in s)).tells → (note.dark ≡ true) ⊎ (note.loose ≡ true)
     pub fused : IsFused n.fuse
-    pub noted : SiteNoted (fell_in n.session (note_held loosens true note) n) (note_held loosens true note) (Over s)
-    pub stands : SiteStands beside (fell_in n.session (note_held loosens true note) n) (Over s)
+    pub noted : SiteNoted (fallen_in n.session (note_held loosens true note) n) (note_held loosens true note) (Over s)
+    pub stands : SiteStands beside (fallen_in n.session (note_held loosens true note) n) (Over s)
 
   -- what an import comes to
   pub data OverTakes (beside : KeptBeside) (n : Node) (note : GroupNode) (old : GroupSite R g) (new : DiskSet R g) (r : Result (Unit {0}) Stop) : Type 0 where

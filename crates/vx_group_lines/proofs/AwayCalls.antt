@@ -20,7 +20,7 @@ use Rattle.vx_diskset.specs.Aboves.{below_site, site_in}
 use Rattle.vx_diskset.specs.Asked.{FailsAs, FusedAs, SameFailing, disks_told}
 use Rattle.vx_diskset.specs.Holds.{KeptBeside, beside_of, header_links}
 use Rattle.vx_diskset.specs.Noted.{IsNamed, NotedOver, NotedOn, SiteNoted, below_rvg}
-use Rattle.vx_diskset.specs.OverTakes.{fell_in, gone_in}
+use Rattle.vx_diskset.specs.OverTakes.{fallen_in, gone_in}
 use Rattle.vx_diskset.specs.Stands.{OverStands, RoleIs, SiteStands}
 use Rattle.vx_diskset.specs.declared.disk_set.DiskSet.{DiskSet}
 use Rattle.vx_diskset.specs.declared.disk_set.DiskSet.TheVariants.{Over}
@@ -78,10 +78,10 @@ gone_seen n fuse session next over away table =
     (ap (λ (t : SiteState). group_by t m) away ∙ sym (ap (λ (t : SiteState). group_by t n) away)) refl
 
 -- and of one that is down then
-fallen_seen : (n : Node) (session : ℕ) (next : GroupNode) → is_over_rvg n ≡ true → over_table (fell_in session next n) next ≡ over_table n (note_at n) → (links : SiteFacts) → links ≡ (let f : SiteFacts = record (seen_fact n) { links = [] } in f)
-    → down_fact links ≡ (let f : SiteFacts = record (seen_fact (fell_in session next n)) { links = [] } in f)
+fallen_seen : (n : Node) (session : ℕ) (next : GroupNode) → is_over_rvg n ≡ true → over_table (fallen_in session next n) next ≡ over_table n (note_at n) → (links : SiteFacts) → links ≡ (let f : SiteFacts = record (seen_fact n) { links = [] } in f)
+    → down_fact links ≡ (let f : SiteFacts = record (seen_fact (fallen_in session next n)) { links = [] } in f)
 fallen_seen n session next over table links is =
-    let m : Node = fell_in session next n in
+    let m : Node = fallen_in session next n in
     let over_m : is_over_rvg m ≡ true = over_again n m next over refl refl in
     let base : SiteFacts = record (seen_fact n) { links = [] } in
     let first : SiteFacts = down_fact base in
@@ -220,11 +220,11 @@ module _ {R : Type 0} {g : Ghosts R} where
   -- ---- a site that is down then
 
   module _ (d : Doubted) (old new : Yard R g) (s : ℕ) (o p : OverSet R g) (call : AwayCall d old new s o (Over p)) (session : ℕ) (next : GroupNode)
-      (table : over_table (fell_in session next (d.world.nodes s)) next ≡ over_table (d.world.nodes s) (note_at (d.world.nodes s))) (named : IsNamed (fell_in session next (d.world.nodes s)))
-      (noted : SiteNoted (fell_in session next (d.world.nodes s)) next (Over p)) (stood : SiteStands (beside_of d s) (fell_in session next (d.world.nodes s)) (Over p))
-      (e : Doubted) (arrives : Arrives d e s (fell_in session next (d.world.nodes s)) (d.world.gathering s)) (headers : e.world.headers s ≡ d.world.headers s) where
+      (table : over_table (fallen_in session next (d.world.nodes s)) next ≡ over_table (d.world.nodes s) (note_at (d.world.nodes s))) (named : IsNamed (fallen_in session next (d.world.nodes s)))
+      (noted : SiteNoted (fallen_in session next (d.world.nodes s)) next (Over p)) (stood : SiteStands (beside_of d s) (fallen_in session next (d.world.nodes s)) (Over p))
+      (e : Doubted) (arrives : Arrives d e s (fallen_in session next (d.world.nodes s)) (d.world.gathering s)) (headers : e.world.headers s ≡ d.world.headers s) where
     abbrev m : Node
-    m = fell_in session next (d.world.nodes s)
+    m = fallen_in session next (d.world.nodes s)
 
     fell_apart : is_over_group m ≡ false
     fell_apart = rvg_apart m (over_again (d.world.nodes s) m next call.over refl refl)

@@ -26,7 +26,7 @@ use Rattle.vx_diskset.specs.Asked.{FusedAs}
 use Rattle.vx_diskset.specs.Holds.{beside_of}
 use Rattle.vx_diskset.specs.Noted.{IsNamed, below_rvg}
 use Rattle.vx_diskset.specs.OverRises.{note_held, note_ready}
-use Rattle.vx_diskset.specs.OverTakes.{HeldAway, HeldOff, fell_in, fuse_gone, gone_in}
+use Rattle.vx_diskset.specs.OverTakes.{HeldAway, HeldOff, fallen_in, fuse_gone, gone_in}
 use Rattle.vx_diskset.specs.declared.disk_set.DiskSet.{DiskSet}
 use Rattle.vx_diskset.specs.declared.disk_set.DiskSet.TheVariants.{Over}
 use Rattle.vx_diskset.specs.declared.over_set.OverSet.{OverSet}
@@ -236,7 +236,7 @@ module _ {R : Type 0} {g : Ghosts R} (d : Doubted) (old new : Yard R g) (name : 
     dark = note_held h.loosens true note
 
     abbrev q : Node
-    q = fell_in n.session dark n
+    q = fallen_in n.session dark n
 
     abbrev fell : Doubted
     fell = happened d (FallAt s) false

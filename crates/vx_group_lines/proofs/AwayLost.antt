@@ -27,7 +27,7 @@ use Rattle.vx_diskset.specs.Holds.{beside_of, most_header}
 use Rattle.vx_diskset.specs.Layouts.{units_of}
 use Rattle.vx_diskset.specs.Noted.{CutRests, IsNamed}
 use Rattle.vx_diskset.specs.OverRises.{SessionFrom}
-use Rattle.vx_diskset.specs.OverTakes.{LostAway, LostOff, LostOver, fell_in, gone_in}
+use Rattle.vx_diskset.specs.OverTakes.{LostAway, LostOff, LostOver, fallen_in, gone_in}
 use Rattle.vx_diskset.specs.declared.disk_set.DiskSet.TheVariants.{Over}
 use Rattle.vx_diskset.specs.declared.over_set.OverSet.{OverSet}
 use Rattle.vx_events.proofs.RvgStays.{loses, then_keeps}
@@ -225,7 +225,7 @@ module _ {R : Type 0} {g : Ghosts R} (d : Doubted) (old new : Yard R g) (name : 
     off_note = lost_note r.over
 
     abbrev q : Node
-    q = fell_in r.session off_note n
+    q = fallen_in r.session off_note n
 
     abbrev enough : ℕ
     enough = length r.over.goes.was.disks
@@ -244,7 +244,7 @@ module _ {R : Type 0} {g : Ghosts R} (d : Doubted) (old new : Yard R g) (name : 
     cut_for es e session leaves =
         TakeCut name r.over.group.middle off_note es call.over refl (calls_are_of d old new s o p resting (many r.over enough)) r.fused (back r.over enough) (keeps r.over) (record { worked = r.over.worked; works = works_off; is = refl }) session refl leaves
 
-    off_in : (e : Doubted) → Arrives d e s (fell_in r.session off_note n) (d.world.gathering s) → e.world.headers s ≡ d.world.headers s → RvgTakes (IsTold new) d (GroupImport name) s (fails r.over enough) (Refused IsOff) e
+    off_in : (e : Doubted) → Arrives d e s (fallen_in r.session off_note n) (d.world.gathering s) → e.world.headers s ≡ d.world.headers s → RvgTakes (IsTold new) d (GroupImport name) s (fails r.over enough) (Refused IsOff) e
         → LeadsAbove d (GroupImport name) (Refused IsOff) old new
     off_in e arrives headers ends = record {
       next = e;
@@ -256,7 +256,7 @@ module _ {R : Type 0} {g : Ghosts R} (d : Doubted) (old new : Yard R g) (name : 
     }
 
     -- before the next session, or in it
-    still_down : Arrives d (down_from d) s (fell_in n.session off_note n) (d.world.gathering s)
+    still_down : Arrives d (down_from d) s (fallen_in n.session off_note n) (d.world.gathering s)
     still_down = arrives_worked d (happened d (FallAt s) false) s (fallen_site n) off_note (d.world.gathering s) (arrives_fallen d d s n (d.world.gathering s) begins call.below call.away some)
 
     module _ (less : n.session < MOST_NUMBER) where
@@ -272,7 +272,7 @@ module _ {R : Type 0} {g : Ghosts R} (d : Doubted) (old new : Yard R g) (name : 
       first_below : s < first.world.sites
       first_below = omega (arith, call.below, first_arrives.site.sites)
 
-      begun_down : Arrives d (down_from first) s (fell_in (n.session + 1) off_note n) (d.world.gathering s)
+      begun_down : Arrives d (down_from first) s (fallen_in (n.session + 1) off_note n) (d.world.gathering s)
       begun_down = arrives_worked d (happened first (FallAt s) false) s (fallen_site first_node) off_note (d.world.gathering s) (arrives_fallen d first s first_node (d.world.gathering s) first_arrives first_below call.away some)
 
       down_headers : (down_from first).world.headers s ≡ d.world.headers s
@@ -281,9 +281,9 @@ module _ {R : Type 0} {g : Ghosts R} (d : Doubted) (old new : Yard R g) (name : 
     pub lost_fuse : LeadsAbove d (GroupImport name) (Refused IsOff) old new
     lost_fuse = ⊎_elim
         (λ (same : r.session ≡ n.session).
-        off_in (down_from d) (subst (λ (k : ℕ). Arrives d (down_from d) s (fell_in k off_note n) (d.world.gathering s)) (sym same) still_down)
+        off_in (down_from d) (subst (λ (k : ℕ). Arrives d (down_from d) s (fallen_in k off_note n) (d.world.gathering s)) (sym same) still_down)
         (fallen_headers d d s n (d.world.gathering s) begins call.below call.away some) (cut_for [] (down_from d) (inl refl) (record { world = refl; after = λ i. refl; strayed = refl })))
         (λ (next_one : (r.session ≡ n.session + 1) × (n.session < MOST_NUMBER)).
-        off_in (down_from (first next_one.1)) (subst (λ (k : ℕ). Arrives d (down_from (first next_one.1)) s (fell_in k off_note n) (d.world.gathering s)) (sym next_one.0) (begun_down next_one.1))
+        off_in (down_from (first next_one.1)) (subst (λ (k : ℕ). Arrives d (down_from (first next_one.1)) s (fallen_in k off_note n) (d.world.gathering s)) (sym next_one.0) (begun_down next_one.1))
         (down_headers next_one.1) (cut_for (RecoverAt s (Some 0) ∷ []) (down_from (first next_one.1)) (inr refl) (record { world = refl; after = λ i. refl; strayed = refl })))
         r.from
