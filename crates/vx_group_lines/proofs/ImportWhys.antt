@@ -126,7 +126,7 @@ why_disk other = 0
 abbrev pub unfused_with : GroupNode → Node → Node
 unfused_with note n = record n { group = Some note; fuse = NoFuse }
 
-same_disks : (o n : Option Disks) → (P : Disks → Disks → Type 0) → WithDisks o n P → is_rack n ≡ is_rack o
+pub same_disks : (o n : Option Disks) → (P : Disks → Disks → Type 0) → WithDisks o n P → is_rack n ≡ is_rack o
 same_disks None None P it = refl
 same_disks None (Some n) P it = absurd it
 same_disks (Some o) None P it = absurd it
