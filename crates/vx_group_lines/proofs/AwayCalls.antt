@@ -53,7 +53,7 @@ use Rattle.vx_above.proofs.OverSites.{over_again, site_named, site_noted}
 use Rattle.vx_group_lines.specs.Noting.{made_facts}
 use Rattle.vx_group_lines.proofs.Arriving.{Arrives, arrives_none}
 use Rattle.vx_group_lines.proofs.GroupAt.{loose_away}
-use Rattle.vx_group_lines.proofs.ImportWhys.{imported_disks, same_disks, sits_away}
+use Rattle.vx_group_lines.proofs.ImportWhys.{imported_disks, failing_rack, sits_away}
 use Rattle.vx_group_lines.proofs.RvgComing.{RestCall, none_after, some_data}
 use Rattle.vx_group_lines.proofs.RvgWorlds.{beside_as}
 
@@ -155,7 +155,7 @@ module _ {R : Type 0} {g : Ghosts R} where
     -- the fuse behind calls of which each passed
     pub away_fused : (m : Node) (k : Meaning) → m.fuse ≡ burned (d.world.nodes s).fuse → disks_told after ≡ k.disks → KeepsFuse (as_imported (site_in o)) k → FusedAs m after
     away_fused m k is told keeps =
-        fused_goes n m (Over o) after is (same_disks (disks_told (Over o)) (disks_told after) (λ a b. (u : ℕ) → b.failing u ≡ a.failing u) call.failing.told)
+        fused_goes n m (Over o) after is (failing_rack (disks_told (Over o)) (disks_told after) (λ a b. (u : ℕ) → b.failing u ≡ a.failing u) call.failing.told)
         (λ x y at now. keeps.goes x y (imported_disks (site_in o) ∙ at) (sym told ∙ now)) (call.stands.fuses s (Over o) call.below call.changed.there)
 
     -- ---- such a site behind the line
