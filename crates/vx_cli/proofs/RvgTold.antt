@@ -165,9 +165,9 @@ module _ {T U : Type 0} (f : U → T) where
   stops_told d line new (StopsBetween never p s middle is moves left) = StopsBetween (λ u calm. never (f u) calm) p s middle is moves left
 
   part_told : (d : Doubted) (line : ScriptLine) (s : ℕ) (new : Doubted) → RvgShort T d line s new → RvgShort U d line s new
-  part_told d line s new (ShortGroup site kept taken lost next has is notes left) = ShortGroup site kept taken lost next has is notes left
-  part_told d line s new (ShortLog site kept taken fails middle next has is of back keeps cut left) =
-      ShortLog site kept taken fails middle next has is of (back_told f s (d.world.nodes s) fails (note_at (d.world.nodes s)) middle back) keeps cut left
+  part_told d line s new (ShortGroup kept taken lost next has is notes left) = ShortGroup kept taken lost next has is notes left
+  part_told d line s new (ShortLog kept taken fails middle next has is of back keeps cut left) =
+      ShortLog kept taken fails middle next has is of (back_told f s (d.world.nodes s) fails (note_at (d.world.nodes s)) middle back) keeps cut left
   part_told d line s new (ShortMade site srl maps volumes fails next is of notes left) = ShortMade site srl maps volumes fails next is of (no_rvg_told _ s fails _ (note_at (d.world.nodes s)) next notes) left
 
   pub short_told : (d : Doubted) (line : ScriptLine) (new : Doubted) → ShortFull T d line new → ShortFull U d line new

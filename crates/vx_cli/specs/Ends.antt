@@ -14,7 +14,7 @@ use Rattle.vx_events.specs.RvgParts.{ShortFull, short_place}
 use Rattle.vx_events.specs.RvgViews.{is_over_rvg}
 use Rattle.vx_script.specs.Lines.{split_lines, whole_lines_of}
 use Rattle.vx_script.specs.declared.line.ScriptLine.{ScriptLine}
-use Rattle.vx_script.specs.declared.line.ScriptLine.TheVariants.{Recover, Rvg}
+use Rattle.vx_script.specs.declared.line.ScriptLine.TheVariants.{GroupImport, Recover, Rvg}
 use Rattle.vx_cli.specs.Reading.{MayHave}
 use Rattle.vx_cli.specs.Runs.{RunsLines, fails_of_lines}
 use Rattle.vx_cli.specs.Texts.{bad_text, IsTextCut}
@@ -91,9 +91,10 @@ abbrev pub PartOfNext : Type 0 → List (List ℕ) → Doubted → Doubted → T
 PartOfNext told [] d last = last ≡ d
 PartOfNext told (line ∷ lines) d last = PartOfLine told (script_line line) d last
 
--- whether want of memory may leave a part of a line that makes a replicated volume group, or of a recovery of a site that has one over its group
+-- whether want of memory may leave a part of a line that makes a replicated volume group, or of a recovery or an import of a site that has one over its group
 abbrev pub may_short : World → ScriptLine → Bool
 may_short w (Rvg site srl maps volumes) = true
+may_short w (GroupImport site) = is_over_rvg (w.nodes (short_place w (GroupImport site)))
 may_short w (Recover site) = is_over_rvg (w.nodes (short_place w (Recover site)))
 may_short w other = false
 

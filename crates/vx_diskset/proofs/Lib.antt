@@ -15,6 +15,7 @@ pub mod OverCalling
 pub mod OverCalls
 pub mod OverClean
 pub mod OverCame
+pub mod OverHas
 pub mod OverUp
 pub mod OverMoved
 pub mod OverLost
@@ -43,6 +44,9 @@ pub mod OverDoubted
 pub mod OverWrites
 pub mod Loosened
 pub mod OverHolds
+pub mod OverKnown
+pub mod OverGone
+pub mod OverTakes
 pub mod OverRecovers
 pub mod OverSettles
 pub mod OverMaking

@@ -1,6 +1,6 @@
 -- The disks of a site whose group, with a replicated volume group over it, was deported: by each configuration that an import finds they keep its log and its content.
 use Rattle.std.proofs.Common.{◌≡◌, ◌∙◌, ◌⊎◌, inl, inr, ⊎_elim, ℕ, ◌-◌, ◌<◌, ◌≤◌, Bool, true, List, length, take, drop, IsTrue, ap, arith, refl, subst, sym}
-use Rattle.std.specs.Prelude.{None}
+use Rattle.std.specs.Prelude.{None, Option, Some}
 use Rattle.std.proofs.lemmas.List.{drop_all, length-take, take_all}
 use Rattle.vx_config.specs.Checks.{blocks_of, is_sound}
 use Rattle.vx_config.specs.declared.config.Config.{Config}
@@ -45,13 +45,19 @@ use Rattle.vx_untold.specs.Shades.{shade_meaning}
 use Rattle.vx_untold.specs.declared.shade.Shade.{Shade}
 use Rattle.vx_volume.specs.Plexes.{Inside, active}
 use Rattle.vx_volume.proofs.PlaceLemmas.{has_of}
+use Rattle.vx_events.specs.RvgFits.{config_rvg, entries_noted, rvg_noted}
+use Rattle.vx_events.specs.GroupViews.{config_of, volumes_of}
+use Rattle.vx_grouped.specs.SiteEnds.{NewestCommitted}
+use Rattle.vx_history.specs.Groups.{GroupNode}
+use Rattle.vx_diskset.specs.Noted.{RestsNamed}
+use Rattle.vx_diskset.proofs.OverNoted.{note_read}
 use Rattle.vx_diskset.specs.Aboves.{AboveStays, above_in, below_site, site_in}
 use Rattle.vx_diskset.specs.Holds.{KeptBeside, most_header, state_with}
 use Rattle.vx_diskset.specs.Lasts.{HasLast, LeftWith}
 use Rattle.vx_diskset.specs.Layouts.{LiesOn, units_of}
 use Rattle.vx_diskset.specs.Needs.{NoneNeeds}
 use Rattle.vx_diskset.specs.OverAways.{given_up}
-use Rattle.vx_diskset.specs.Stands.{AwayOver, IsOverSite, IsReceiverAt, IsUpAt, OverStands, RestsOver, SiteStands, idle_ready}
+use Rattle.vx_diskset.specs.Stands.{AwayLeft, IsOverSite, IsReceiverAt, IsUpAt, OverStands, RestsOver, SiteStands, idle_ready}
 use Rattle.vx_diskset.specs.declared.above.Above.{Above}
 use Rattle.vx_diskset.specs.declared.above.Above.TheVariants.{Nothing, Origin, Receiver}
 use Rattle.vx_diskset.specs.declared.disk_set.DiskSet.TheVariants.{Over}
@@ -208,7 +214,7 @@ module _ {R : Type 0} {g : Ghosts R} (beside : KeptBeside) (n : Node) (l : Laid 
     left_base : IsTrue (laid_volumes l).tells → LeftWith (units_of after) after.ring (state_with after beside.links) after.session (most_header beside after) after.log after.base (laid_volumes l)
     left_base tells = subst (λ (k : Content). LeftWith (units_of n) n.ring (state_with n beside.links) n.session (most_header beside n) (take n.safe n.log) k (laid_volumes l)) same_base (left tells)
 
-    pub away_rests : RestsOver (λ k. AwayOver k beside after r) beside after r
+    pub away_rests : RestsOver (λ k. AwayLeft k beside after r) beside after r
     away_rests = record {
       config = at;
       sure = sure;
@@ -219,12 +225,12 @@ module _ {R : Type 0} {g : Ghosts R} (beside : KeptBeside) (n : Node) (l : Laid 
       low = low;
       logged = long;
       begun = λ tells. begun (told_up tells);
-      left = λ tells. record {
+      left = λ tells. inl (record {
         extends = λ i x each is. (kin i x each is).shape;
         left = λ i x opened readable each is opens.
             left_still_with (units_of after) after.ring (state_with after beside.links) after.session (most_header beside after) after.log after.base (laid_volumes l) (group_meaning opened (λ v. 0) r) (tells ∙ sym (told_up tells))
             (size_is i x each is readable opened opens) (left_up i x each is readable opened opens) (left_base (told_up tells));
-      };
+      });
     }
 
 -- ---- of a site
@@ -236,7 +242,7 @@ module _ {R : Type 0} {g : Ghosts R} (laws : (s : Shade R) → Lawful (shade_mea
   given_idle : (x y : Idle R g) → ◌≡◌ {A = GroupSite R g} (Deported x) (Deported y) → x ≡ y
   given_idle x y is = cc
 
-  given_site : (s : OverSite R g) (idle : Idle R g) → below_site s ≡ Deported idle → s ≡ GroupAway idle
+  pub given_site : (s : OverSite R g) (idle : Idle R g) → below_site s ≡ Deported idle → s ≡ GroupAway idle
   given_site (OriginSite f) idle is = absurd (cc)
   given_site (ReceiverSite f) idle is = absurd (cc)
   given_site (GroupAway x) idle is = ap (λ (i : Idle R g). GroupAway i) (given_idle x idle is)
@@ -245,7 +251,7 @@ module _ {R : Type 0} {g : Ghosts R} (laws : (s : Shade R) → Lawful (shade_mea
 
   module _ (beside : KeptBeside) (n : Node) (idle : Idle R g) (over : IsOverSite beside n) (running : n.halted ≡ None) where
     abbrev Rests : Type 0
-    Rests = RestsOver (λ k. AwayOver k beside (given_up n) (idle_ready idle)) beside (given_up n) (idle_ready idle)
+    Rests = RestsOver (λ k. AwayLeft k beside (given_up n) (idle_ready idle)) beside (given_up n) (idle_ready idle)
 
     origin_away : (l : Laid R g) (core : Core) → DeportedBy (wide l.core).config l.core.inner (laid_disks l) (idle_disks idle) → IsSound core (laid_volumes l) → IsUpAt beside n core (laid_volumes l) → Rests
     origin_away l core it sound up =
@@ -281,3 +287,27 @@ module _ {R : Type 0} {g : Ghosts R} (laws : (s : Shade R) → Lawful (shade_mea
       let was : OverUp beside n (above_in old) (site_in old) = over_to beside n old.site state stands.1 in
       let it : OverUp beside n a e = subst (λ (x : GroupSite R g). OverUp beside n a x) (sym site_is) (subst (λ (x : Above). OverUp beside n x (site_in old)) (sym above_is) was) in
       away_stands beside n idle stands.0 running new at (away_by beside n idle stands.0 running e a (subst (λ (x : GroupSite R g). SiteCloses e x) gone closes) sound it)
+
+-- ---- what an import may find of it
+
+found_inj : {a b : Config} → Found a ≡ Found b → a ≡ b
+found_inj e = cc
+
+module _ {R : Type 0} {g : Ghosts R} where
+  -- each configuration is the one that is noted
+  pub newest_named : (note : GroupNode) (e : GroupSite R g) (units : Units) → NewestCommitted note e → rvg_noted note ≡ Some units → RestsNamed units (length (entries_noted note)) e
+  newest_named note (Up laid) units it named = absurd it
+  newest_named note (Deported idle) units it named =
+      let under : IsUnder (idle_ready idle) (idle_disks idle) = ready_under g idle.agreed idle.rack in
+      let read : config_of note.config ≡ Some (at_serial 0 it.0) = note_read note it.0 it.1 in
+      record {
+        each = λ i x each is.
+            let found : finds (idle_disks idle) i ≡ Found x = sym (found_same (idle_disks idle) (idle_ready idle) under.units under.size (λ u. true) i) ∙ is in
+            let same : x ≡ it.0 = found_inj (sym found ∙ it.2.finds i (λ u b. under.leaves u b (i u b) (each u b))) in (
+              ap (λ (c : Config). c.rvg) same ∙ sym (ap (λ (o : Option Config). config_rvg o) read) ∙ named,
+              ap (λ (c : Config). length c.volumes) same ∙ sym (ap (λ (o : Option Config). length (volumes_of o)) read),
+            );
+      }
+  newest_named note (Down idle) units it named = absurd it
+  newest_named note (Marked rack) units it named = absurd it
+  newest_named note Gone units it named = absurd it

@@ -11,7 +11,7 @@ use Rattle.vx_disk.specs.Shelf.{Each, Image, Keeps, Meaning}
 use Rattle.vx_events.specs.RvgNotes.{inside_of}
 use Rattle.vx_history.specs.World.{Node}
 use Rattle.vx_group.specs.Resumes.{stopped}
-use Rattle.vx_kept.specs.Groups.{found as finds}
+use Rattle.vx_kept.specs.Groups.{found as finds, group_meaning}
 use Rattle.vx_kept.specs.Keeping.{Extends}
 use Rattle.vx_kept.proofs.Low.{found_same}
 use Rattle.vx_group.specs.Holding.{wide}
@@ -33,9 +33,11 @@ use Rattle.vx_rvg.specs.Views.{unit_of}
 use Rattle.vx_diskset.specs.Holds.{KeptBeside, most_header, state_with}
 use Rattle.vx_diskset.specs.Lasts.{FoundWith, LeftWith}
 use Rattle.vx_diskset.specs.Layouts.{IsLaid, IsLaidBy, units_of}
-use Rattle.vx_diskset.specs.Stands.{FellOver, RestsOver, RvgSettles}
+use Rattle.vx_diskset.specs.Stands.{AwayOver, FellOver, RestsOver, RvgSettles}
 use Rattle.vx_diskset.proofs.CrashGroup.{keeps_option}
 use Rattle.vx_diskset.proofs.Laying.{sizes_of}
+use Rattle.vx_diskset.proofs.OverDisks.{seen_less}
+use Rattle.vx_diskset.proofs.StartGroup.{left_still_with}
 use Rattle.vx_volume.specs.Plexes.{Inside}
 use Rattle.vx_group.specs.Settles.{LivesAgree}
 use Rattle.vx_kept.proofs.Narrower.{wanted_sound}
@@ -212,3 +214,30 @@ module _ {beside : KeptBeside} (n : Node) (r first : Meaning) (core : GroupCore)
       (λ v b there low. keeps_block (unit_of (units_of n).vols v) b (vol_inside (units_of n) v there) (vol_low v b there low))
       (sizes_of (units_of n) n.ring n.volumes n.base (inner_meaning (wide core) m) fell_laid)
       (fell.found mine.image mine.config (shown rests.config mine.config mine.image) seen_each seen_config (shows rests.config mine.config mine.image))
+
+-- ---- of disks that were deported
+
+module _ {beside : KeptBeside} (n : Node) (r first : Meaning) (core : GroupCore) (m : Meaning) (alike : Alike r first) (brings : BringsVolumes first core m) (rests : RestsOver (λ c. AwayOver c beside n r) beside n r) (told : IsTrue m.tells) where
+  abbrev given : TookVolumes first core m
+  given = took r first core m alike brings told
+
+  abbrev away : AwayOver rests.config beside n r
+  away = rests.left (told_rest r first core m alike brings told)
+
+  given_config : finds r given.image ≡ Found given.config
+  given_config = found_rest r first core m alike brings told
+
+  given_each : Each r.leaves given.image
+  given_each = each_rest r first core m alike brings told
+
+  pub away_laid : IsLaid (units_of n) n.ring n.volumes n.base.size (inner_meaning (wide core) m)
+  away_laid = laid_up r first core m alike brings told rests.config (away.extends given.image given.config given_each given_config) n rests.lies rests.there
+
+  pub away_there : (k : ℕ) → inside_of (units_of n) k ≡ true → k < (inner_meaning (wide core) m).units
+  away_there k is = let low = rests.there k is in let many = units_low r first core m alike brings told rests.config (away.extends given.image given.config given_each given_config) in omega (arith, low, many)
+
+  pub away_left : LeftWith (units_of n) n.ring (state_with n beside.links) n.session (most_header beside n) n.log n.base (inner_meaning (wide core) m)
+  away_left =
+      left_still_with (units_of n) n.ring (state_with n beside.links) n.session (most_header beside n) n.log n.base (group_meaning given.opened (λ v. 0) r) (inner_meaning (wide core) m) (brings.tells ∙ alike.contents.tells) given.goes.size
+      (λ u b v left. ⊎_elim (λ was. seen_less r.tells first.tells given.opened r.leaves first.leaves (λ tells. sym alike.contents.tells ∙ tells) alike.contents.leaves u b v was) (λ none. absurd none) (given.goes.leaves u b v left))
+      (away.left given.image given.config given.opened given.readable given_each given_config given.opens)

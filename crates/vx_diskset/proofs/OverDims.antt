@@ -9,25 +9,25 @@ use Rattle.vx_events.specs.RvgNotes.{inside_of}
 use Rattle.vx_grouped.specs.Brings.{RestKnown}
 use Rattle.vx_grouped.specs.Readies.{ready_of}
 use Rattle.vx_grouped.specs.SiteReturns.{LeftLess, LessLeft, stops_early}
-use Rattle.vx_grouped.specs.declared.group_site.GroupSite.TheVariants.{Down}
+use Rattle.vx_grouped.specs.declared.group_site.GroupSite.TheVariants.{Down, Deported}
 use Rattle.vx_grouped.specs.declared.idle.Idle.{Idle}
 use Rattle.vx_history.specs.Groups.{GroupNode}
 use Rattle.vx_history.specs.World.{Fuse, NoFuse, Node}
 use Rattle.vx_logimport.specs.declared.rested.Rested.{Rested}
 use Rattle.vx_model.specs.declared.errors.Stop.{Stop}
 use Rattle.vx_model.specs.declared.site.SiteState.{SiteState}
-use Rattle.vx_model.specs.declared.site.SiteState.TheVariants.{Down as IsDown}
+use Rattle.vx_model.specs.declared.site.SiteState.TheVariants.{Down as IsDown, Deported as IsAway}
 use Rattle.vx_model.specs.declared.units.Units.{Units}
 use Rattle.vx_untold.specs.Shades.{shade_meaning}
 use Rattle.vx_untold.specs.declared.shade.Shade.{Shade}
 use Rattle.vx_diskset.specs.Holds.{KeptBeside}
 use Rattle.vx_diskset.specs.Layouts.{IsLaidBy, units_by, units_of}
-use Rattle.vx_diskset.specs.Stands.{FellOver, FellSettles, IsOverSite, OverStands, RestsOver, RvgSettles, SiteStands, idle_ready}
+use Rattle.vx_diskset.specs.Stands.{FellOver, FellSettles, IsOverSite, OverStands, RestsOver, RvgSettles, SiteStands, idle_ready, AwayLeft}
 use Rattle.vx_diskset.specs.declared.disk_set.DiskSet.TheVariants.{Over}
 use Rattle.vx_diskset.specs.declared.over_set.OverSet.{OverSet}
 use Rattle.vx_diskset.specs.declared.over_set.OverSite.{OverSite}
-use Rattle.vx_diskset.specs.declared.over_set.OverSite.TheVariants.{Down as GroupFell}
-use Rattle.vx_diskset.proofs.OverDisks.{LeavesLess, fell_less, settles_less}
+use Rattle.vx_diskset.specs.declared.over_set.OverSite.TheVariants.{Down as GroupFell, Deported as GroupAway}
+use Rattle.vx_diskset.proofs.OverDisks.{LeavesLess, fell_less, settles_less, away_less}
 use Rattle.vx_diskset.proofs.StaysUp.{not_true}
 
 pub some_in : (o : Option Rested) → IsSome o → (r : Rested) × (o ≡ Some r)
@@ -72,6 +72,16 @@ module _ {R : Type 0} {g : Ghosts R} (beside : KeptBeside) (n : Node) (group : O
     pub fell_dim : (s : OverSet R g) → s.site ≡ GroupFell idle → SiteStands beside (record n { state = IsDown; fuse = NoFuse; group = group }) (Over s)
     fell_dim s is = (ground_dim beside n IsDown NoFuse group units has over, fell_by s.site is)
 
+  -- or they are by themselves
+  pub away_dim : (fuse : Fuse) (s : OverSet R g) → s.site ≡ GroupAway idle → SiteStands beside (record n { state = IsAway; fuse = fuse; group = group }) (Over s)
+  away_dim fuse s is = (
+    ground_dim beside n IsAway fuse group units has over,
+    subst (λ (x : OverSite R g). OverStands beside (record n { state = IsAway; fuse = fuse; group = group }) x) (sym is) (
+      refl,
+      rests_dim beside n IsAway fuse group units P (λ c. AwayLeft c beside (record n { state = IsAway; fuse = fuse; group = group }) (idle_ready idle)) a (idle_ready idle) untold rests,
+    ),
+  )
+
 -- ---- an import that was refused before anything was written
 
 pub less_left : (m m' : Meaning) → LeftLess m m' → LeavesLess m m'
@@ -92,3 +102,10 @@ module _ {R : Type 0} {g : Ghosts R} (beside : KeptBeside) (n : Node) (s : OverS
           λ r came. settles_less beside n (idle_ready idle) (idle_ready now) lower (units_of n) (settles some.0 some.1),
         ),
       )
+
+  -- or it was deported, and is so still
+  pub away_still : n.state ≡ IsAway → RestsOver (λ c. AwayLeft c beside n (idle_ready idle)) beside n (idle_ready idle) → LessLeft (idle_ready idle) (Deported now) (Err stop) → s.site ≡ GroupAway now → SiteStands beside n (Over s)
+  away_still state rests less is = (
+    over,
+    subst (λ (x : OverSite R g). OverStands beside n x) (sym is) (state, away_less beside n (idle_ready idle) (idle_ready now) (less_left (idle_ready idle) (idle_ready now) (less early)) rests),
+  )

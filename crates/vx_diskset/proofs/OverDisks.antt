@@ -34,7 +34,8 @@ use Rattle.vx_diskset.specs.Fuses.{FuseOn}
 use Rattle.vx_diskset.specs.Holds.{KeptBeside, most_header, state_with}
 use Rattle.vx_diskset.specs.Layouts.{units_of}
 use Rattle.vx_diskset.specs.Noted.{FoundNamed, FusesNoted, NotedOn, RestsNamed, StaysNoted}
-use Rattle.vx_diskset.specs.Stands.{AwayOver, FellOver, IsOverSite, IsReceiverAt, IsUpAt, KeepsRole, OverStands, RestsOver, RoleBy, SiteStands, idle_ready, RvgSettles}
+use Rattle.vx_group.specs.Resumes.{AtRest}
+use Rattle.vx_diskset.specs.Stands.{AwayLeft, AwayOver, FellOver, IsOverSite, IsReceiverAt, IsUpAt, KeepsRole, OverStands, RestsOver, RoleBy, SiteStands, idle_ready, RvgSettles}
 use Rattle.vx_diskset.specs.declared.above.Above.{Above}
 use Rattle.vx_diskset.specs.declared.above.Above.TheVariants.{Origin, Receiver}
 use Rattle.vx_diskset.specs.declared.disk_set.DiskSet.{DiskSet}
@@ -92,12 +93,14 @@ module _ (beside : KeptBeside) (n : Node) (m m' : Meaning) (less : LeavesLess m 
     left = λ told. like it.config (it.left (sym less.tells ∙ told));
   }
 
+  fell_one : (c : Config) → FellOver c beside n m → FellOver c beside n m'
+  fell_one c it = record {
+    extends = λ i x each is. it.extends i x (before i each) (was_found i x is);
+    found = λ i x above each is shows. it.found i x above (before i each) (was_found i x is) shows;
+  }
+
   pub fell_less : RestsOver (λ c. FellOver c beside n m) beside n m → RestsOver (λ c. FellOver c beside n m') beside n m'
-  fell_less = rests_less (λ c. FellOver c beside n m) (λ c. FellOver c beside n m')
-      (λ c it. record {
-        extends = λ i x each is. it.extends i x (before i each) (was_found i x is);
-        found = λ i x above each is shows. it.found i x above (before i each) (was_found i x is) shows;
-      })
+  fell_less = rests_less (λ c. FellOver c beside n m) (λ c. FellOver c beside n m') fell_one
 
   pub settles_less : (units : Units) → RvgSettles units m → RvgSettles units m'
   settles_less units it = record {
@@ -107,14 +110,23 @@ module _ (beside : KeptBeside) (n : Node) (m m' : Meaning) (less : LeavesLess m 
     ];
   }
 
-  pub away_less : RestsOver (λ c. AwayOver c beside n m) beside n m → RestsOver (λ c. AwayOver c beside n m') beside n m'
-  away_less = rests_less (λ c. AwayOver c beside n m) (λ c. AwayOver c beside n m')
-      (λ c it. record {
-        extends = λ i x each is. it.extends i x (before i each) (was_found i x is);
-        left = λ i x opened readable each is opens.
-            left_still_with (units_of n) n.ring (state_with n beside.links) n.session (most_header beside n) n.log n.base (group_meaning opened (λ v. 0) m) (group_meaning opened (λ v. 0) m') less.tells (λ u. refl)
-            (seen_less m.tells m'.tells opened m.leaves m'.leaves (λ told. sym less.tells ∙ told) less.leaves) (it.left i x opened readable (before i each) (was_found i x is) opens);
-      })
+  away_one : (c : Config) → AwayOver c beside n m → AwayOver c beside n m'
+  away_one c it = record {
+    extends = λ i x each is. it.extends i x (before i each) (was_found i x is);
+    left = λ i x opened readable each is opens.
+        left_still_with (units_of n) n.ring (state_with n beside.links) n.session (most_header beside n) n.log n.base (group_meaning opened (λ v. 0) m) (group_meaning opened (λ v. 0) m') less.tells (λ u. refl)
+        (seen_less m.tells m'.tells opened m.leaves m'.leaves (λ told. sym less.tells ∙ told) less.leaves) (it.left i x opened readable (before i each) (was_found i x is) opens);
+  }
+
+  pub one_less : AtRest m → AtRest m'
+  one_less rest = record { one = λ u b x y left right. rest.one u b x y (less.leaves u b x left) (less.leaves u b y right) }
+
+  left_one : (c : Config) → AwayLeft c beside n m → AwayLeft c beside n m'
+  left_one c (inl away) = inl (away_one c away)
+  left_one c (inr fell) = inr (record { over = fell_one c fell.over; settles = settles_less (units_of n) fell.settles; one = one_less fell.one })
+
+  pub away_less : RestsOver (λ c. AwayLeft c beside n m) beside n m → RestsOver (λ c. AwayLeft c beside n m') beside n m'
+  away_less = rests_less (λ c. AwayLeft c beside n m) (λ c. AwayLeft c beside n m') left_one
 
 abbrev origin_of : Core → Above
 origin_of core = Origin core
@@ -272,7 +284,9 @@ module _ {R : Type 0} {g : Ghosts R} where
             let was : AwayNoted n note (Deported idle) = subst (λ (x : OverSite R g). NotedOn n note (below_site x)) is it in
             alike_away n (idle_disks idle) (idle_disks new) alike down armed idle.agreed new.agreed agreed (idle_below idle).tells (idle_below new).tells less note
             (fuse_stays n.fuse (idle_disks idle) (idle_disks new) (FailsOne disk on) armed (λ o d t. t.0.fuse) told was.fuse) was;
-        named = λ units count it. tt;
+        named = λ units count it.
+            let was : FoundNamed units count (idle_ready idle) = subst (λ (x : OverSite R g). RestsNamed units count (below_site x)) is it in
+            named_less units count (idle_ready idle) (idle_ready new) (idle_less idle new agreed alike) was;
       }
 
       pub away_asked : WithDisks (site_disks (below_site old.site)).disks (idle_disks new).disks (FailsOne disk on)
@@ -316,7 +330,7 @@ module _ {R : Type 0} {g : Ghosts R} where
 
   -- nor is its group noted as up
   pub away_fused : (calls : ℕ) (old : OverSet R g) (idle : Idle R g) → old.site ≡ GroupAway idle → FusesNoted calls old (record { site = GroupAway idle; cut = old.cut })
-  away_fused calls old idle is = record { cut = refl; each = λ n note it. absurd (subst (λ (x : OverSite R g). UpNoted n note (below_site x)) is it); named = λ units count it. tt }
+  away_fused calls old idle is = record { cut = refl; each = λ n note it. absurd (subst (λ (x : OverSite R g). UpNoted n note (below_site x)) is it); named = λ units count it. subst (λ (x : OverSite R g). RestsNamed units count (below_site x)) is it }
 
   pub fell_fused : (calls : ℕ) (old : OverSet R g) (idle : Idle R g) → old.site ≡ GroupFell idle → FusesNoted calls old (record { site = GroupFell idle; cut = old.cut })
   fell_fused calls old idle is = record { cut = refl; each = λ n note it. absurd (subst (λ (x : OverSite R g). UpNoted n note (below_site x)) is it); named = λ units count it. subst (λ (x : OverSite R g). RestsNamed units count (below_site x)) is it }

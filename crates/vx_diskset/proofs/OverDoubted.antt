@@ -151,14 +151,14 @@ module _ {R : Type 0} {g : Ghosts R} where
     deported_below (Err OutOfMemory) it = absurd it
 
   -- imports of disks that crashed find nothing that is told
-  pub doubted_named : (units : Units) (count : ℕ) (mid new : GroupSite R g) → DoubtsFallen mid new → RestsNamed units count new
-  doubted_named units count (Up laid) new is = subst (λ (x : GroupSite R g). RestsNamed units count x) (sym is) tt
-  doubted_named units count (Deported idle) new is = subst (λ (x : GroupSite R g). RestsNamed units count x) (sym is) tt
-  doubted_named units count (Down idle) new (y, is, doubts) =
+  pub doubted_named : (units : Units) (count : ℕ) (mid new : GroupSite R g) → DoubtsFallen mid new → (k : Node) (note : GroupNode) → DownNoted k note new → RestsNamed units count new
+  doubted_named units count (Up laid) new is k note down = subst (λ (x : GroupSite R g). RestsNamed units count x) (sym is) tt
+  doubted_named units count (Deported idle) new is k note down = absurd (subst (λ (x : GroupSite R g). DownNoted k note x) is down)
+  doubted_named units count (Down idle) new (y, is, doubts) k note down =
       subst (λ (x : GroupSite R g). RestsNamed units count x) (sym is)
       (record { each = λ i x each found. absurd (subst (λ (b : Bool). (shade_meaning g.meaning (ready_of b y.rack)).leaves 0 0 (i 0 0)) doubts.agreed (each 0 0)) })
-  doubted_named units count (Marked rack) new is = subst (λ (x : GroupSite R g). RestsNamed units count x) (sym is) tt
-  doubted_named units count Gone new is = subst (λ (x : GroupSite R g). RestsNamed units count x) (sym is) tt
+  doubted_named units count (Marked rack) new is k note down = subst (λ (x : GroupSite R g). RestsNamed units count x) (sym is) tt
+  doubted_named units count Gone new is k note down = subst (λ (x : GroupSite R g). RestsNamed units count x) (sym is) tt
 
   module _ (rackful : (r : R) → IsRack (g.meaning r)) where
     pub below_settled : (n : Node) (note : GroupNode) (o new : GroupSite R g) (r : Result (Unit {0}) Stop) → DeportedBelow n note o new r → IsSettled new

@@ -30,7 +30,7 @@ use Rattle.vx_diskset.proofs.OverSettles.{fell_settles}
 
 module _ {R : Type 0} {g : Ghosts R} {beside : KeptBeside} (n : Node) (s : OverSet R g) (idle : Idle R g) (law : Lawful (idle_disks idle)) (rack : IsRack (idle_disks idle)) where
   pub fell_held : (l : Laid R g) → Stopped (laid_disks l) (idle_disks idle) → ((r : Rested) → idle.rested ≡ Some r → LacksCommit l.core.inner → ⊥) → IsOverSite beside n → IsHeldAt beside n (laid_volumes l) → CrashedAt beside n (Over (record { site = GroupFell idle; cut = s.cut }))
-  fell_held l stop lacking over held = over_fell n l idle (Member (wide l.core).good (laid_disks l)) over held stop law rack l.stands.group.stands.kept (fell_settles l n idle stop lacking (over_there n (laid_volumes l) over.0 held.lies)) s.cut
+  fell_held l stop lacking over held = over_fell n l idle (Member (wide l.core).good (laid_disks l)) over held stop law rack l.stands.group.stands.kept (fell_settles l n idle stop (over_there n (laid_volumes l) over.0 held.lies) lacking) s.cut
 
   module _ (f : Founded R g) (is : s.site ≡ OriginSite f) (stop : Stopped (laid_disks f.laid) (idle_disks idle)) (lacking : (r : Rested) → idle.rested ≡ Some r → LacksCommit f.laid.core.inner → ⊥) where
     pub origin_crashed : SiteStands beside n (Over s) → CrashedAt beside n (Over (record { site = GroupFell idle; cut = s.cut }))

@@ -1,4 +1,5 @@
 -- A site that is down, whose group of disks has a replicated volume group, behind a recovery that was refused, or of whose disks it is not known what they hold.
+use Rattle.vx_grouped.specs.SiteMaps.{CameMapped}
 use Rattle.std.proofs.Common.{◌≡◌, ◌∙◌, ◌⊎◌, inl, inr, ⊎_elim, ℕ, ◌≤◌, Bool, true, false, List, [], ◌∷◌, length, not, IsTrue, ap, arith, refl, subst, sym}
 use Rattle.std.specs.Prelude.{◌||◌, Err, None, Ok, Option, Some, if◌then◌else◌}
 use Rattle.vx_config.specs.declared.config.Config.{Config}
@@ -9,12 +10,12 @@ use Rattle.vx_events.specs.GroupViews.{config_of}
 use Rattle.vx_events.specs.RvgFits.{config_rvg, entries_noted, rvg_noted}
 use Rattle.vx_grouped.specs.Brings.{BringsSite}
 use Rattle.vx_grouped.specs.GroupNotes.{is_sure, note_dimmed, noted_config}
-use Rattle.vx_grouped.specs.GroupSites.{AreStopped, DownNoted, GroupDown, GroupUp, IsLit, NotesGroup, dimmed_site, idle_below, idle_disks, laid_below, laid_disks, site_below, site_disks}
+use Rattle.vx_grouped.specs.GroupSites.{AreStopped, AwayNoted, dimmed_site, DownNoted, GroupDown, GroupUp, idle_below, idle_disks, IsLit, laid_below, laid_disks, NotesGroup, site_below, site_disks}
 use Rattle.vx_grouped.specs.Readies.{ready_of}
 use Rattle.vx_grouped.specs.SiteEnds.{stops_down}
-use Rattle.vx_grouped.specs.SiteReturns.{ImportWhy, KnownAway, TellsNone, returned_with, stops_early}
+use Rattle.vx_grouped.specs.SiteReturns.{ImportWhy, KnownAway, returned_with, ReturnSince, ReturnsUp, stops_early, TellsNone}
 use Rattle.vx_grouped.specs.declared.group_site.GroupSite.{GroupSite}
-use Rattle.vx_grouped.specs.declared.group_site.GroupSite.TheVariants.{Up, Down}
+use Rattle.vx_grouped.specs.declared.group_site.GroupSite.TheVariants.{Deported, Down, Up}
 use Rattle.vx_grouped.specs.declared.idle.Idle.{Idle}
 use Rattle.vx_grouped.specs.declared.laid.Laid.{Laid}
 use Rattle.vx_grouped.proofs.ImageLemmas.{none_noted, sure_by}
@@ -65,24 +66,24 @@ use Rattle.vx_diskset.proofs.StaysUp.{not_true}
 
 -- ---- tests
 
-dim_loose : (agreed loose : Bool) → (loose ≡ false → agreed ≡ true) → not agreed ≡ true → loose ≡ true
+pub dim_loose : (agreed loose : Bool) → (loose ≡ false → agreed ≡ true) → not agreed ≡ true → loose ≡ true
 dim_loose agreed true agrees dims = refl
 dim_loose true false agrees dims = absurd (let clash : false ≡ true = dims in cc)
 dim_loose false false agrees dims = absurd (let clash : false ≡ true = agrees refl in cc)
 
-or_either : (a b : Bool) → (a || b) ≡ true → (a ≡ true) ⊎ (b ≡ true)
+pub or_either : (a b : Bool) → (a || b) ≡ true → (a ≡ true) ⊎ (b ≡ true)
 or_either true b is = inl refl
 or_either false b is = inr is
 
-or_first : (a b : Bool) → (a || b) ≡ false → a ≡ false
+pub or_first : (a b : Bool) → (a || b) ≡ false → a ≡ false
 or_first true b is = absurd (let clash : true ≡ false = is in cc)
 or_first false b is = refl
 
-or_second : (a b : Bool) → (a || b) ≡ false → b ≡ false
+pub or_second : (a b : Bool) → (a || b) ≡ false → b ≡ false
 or_second true b is = absurd (let clash : true ≡ false = is in cc)
 or_second false b is = is
 
-true_by : (b : Bool) → not b ≡ false → b ≡ true
+pub true_by : (b : Bool) → not b ≡ false → b ≡ true
 true_by true is = refl
 true_by false is = absurd (let clash : true ≡ false = is in cc)
 
@@ -168,17 +169,31 @@ module _ {R : Type 0} {g : Ghosts R} where
         };
       }
 
--- ---- a site that is down, as its note has it
+-- ---- a group that came up from disks by themselves
 
-module _ {R : Type 0} {g : Ghosts R} (n : Node) (note : GroupNode) (idle : Idle R g) (down : DownNoted (below_rvg n) note (Down idle)) (names : FoundNamed (units_of n) (length (entries_noted note)) (idle_ready idle)) where
+module _ {R : Type 0} {g : Ghosts R} where
+  pub record CameUp (n : Node) (note : GroupNode) (idle : Idle R g) (laid : Laid R g) : Type 0 where
+    pub returns : ReturnsUp (dimmed_site (not idle.agreed) note (below_rvg n)) (note_dimmed (not idle.agreed) note) (idle_ready idle) (Up laid)
+    pub brings : BringsSite (idle_ready idle) laid
+    pub since : ReturnSince (idle_disks idle) (laid_disks laid)
+
+  -- a site that is down, as its note has it
+  pub came_down : (n : Node) (note : GroupNode) (idle : Idle R g) → DownNoted (below_rvg n) note (Down idle) → (laid : Laid R g) → BroughtBy (Down idle) (Up laid) (Ok tt) → CameUp n note idle laid
+  came_down n note idle down laid by = record { returns = by.recovered (below_rvg n) note down; brings = by.brings; since = by.since }
+
+  -- one that is deported
+  pub came_away : (n : Node) (note : GroupNode) (idle : Idle R g) → AwayNoted (below_rvg n) note (Deported idle) → (laid : Laid R g) → BroughtBy (Deported idle) (Up laid) (Ok tt) → CameUp n note idle laid
+  came_away n note idle away laid by = record { returns = (by.imported (below_rvg n) note away).0; brings = by.brings; since = by.since }
+
+module _ {R : Type 0} {g : Ghosts R} (n : Node) (note : GroupNode) (idle : Idle R g) (agrees : note.loose ≡ false → idle.agreed ≡ true) (names : FoundNamed (units_of n) (length (entries_noted note)) (idle_ready idle)) where
   abbrev ready : GroupNode
   ready = note_dimmed (not idle.agreed) note
 
   -- ---- an import that was done
 
-  module _ (laid : Laid R g) (by : BroughtBy (Down idle) (Up laid) (Ok tt)) where
+  module _ (laid : Laid R g) (by : CameUp n note idle laid) where
     pub came_group : CameGroup n note (Down idle) laid
-    came_group = let it = by.recovered (below_rvg n) note down in record { middle = it.0; returns = it.1; config = it.3; up = it.2; from = λ k. by.since.counts k }
+    came_group = let it = by.returns in record { middle = it.0; returns = it.1; config = it.3; up = it.2; from = λ k. by.since.counts k }
 
     abbrev middle : GroupNode
     middle = came_group.middle
@@ -203,14 +218,14 @@ module _ {R : Type 0} {g : Ghosts R} (n : Node) (note : GroupNode) (idle : Idle 
         (it.rvg ∙ said.0, said.1)
 
     -- nothing is known of disks that tell nothing where their rack does
-    dark_here : IsTrue (laid_below laid).tells → (IsTrue (laid_disks laid).tells → ⊥) → middle.dark ≡ true
+    pub dark_here : IsTrue (laid_below laid).tells → (IsTrue (laid_disks laid).tells → ⊥) → middle.dark ≡ true
     dark_here below untold = bright_by middle.dark (λ bright. untold (group_here.lit bright below))
 
-    known : middle.dark ≡ true → (note.dark ≡ true) ⊎ (note.loose ≡ true)
-    known dark = ⊎_elim (λ dims. inr (dim_loose idle.agreed note.loose down.agrees dims)) (λ was. inl was) (or_either (not idle.agreed) note.dark (sym came_group.returns.dark ∙ dark))
+    pub known : middle.dark ≡ true → (note.dark ≡ true) ⊎ (note.loose ≡ true)
+    known dark = ⊎_elim (λ dims. inr (dim_loose idle.agreed note.loose agrees dims)) (λ was. inl was) (or_either (not idle.agreed) note.dark (sym came_group.returns.dark ∙ dark))
 
     -- the import left the configuration sure
-    sure_here : is_sure laid.core ≡ true
+    pub sure_here : is_sure laid.core ≡ true
     sure_here = sure_by laid.core.inner.committed laid.core.held (group_here.at.lies.committed came_group.returns.loose came_group.returns.begun) (group_here.at.lies.images.free came_group.returns.loose came_group.returns.begun)
 
     pub ground_same : note_ground (noted_config laid.core.inner.config) laid.core middle ≡ middle
@@ -222,14 +237,29 @@ module _ {R : Type 0} {g : Ghosts R} (n : Node) (note : GroupNode) (idle : Idle 
 
     -- ---- the group has none
 
-    pub plain_again : (s : GroupSet R g) → s ≡ (let x : GroupSet R g = record { site = Up laid; cut = None } in x) → laid.core.inner.config.rvg ≡ None → PlainAgain n note (Down idle) s
-    plain_again s is none =
+    pub plain_again : CameMapped (Down idle) (Up laid) (Ok tt) → (s : GroupSet R g) → s ≡ (let x : GroupSet R g = record { site = Up laid; cut = None } in x) → laid.core.inner.config.rvg ≡ None → PlainAgain n note (Down idle) s
+    plain_again maps s is none =
         let untold : IsTrue (laid_disks laid).tells → ⊥ = λ told. never_none (sym (names_found told).0 ∙ none) in
-        record { laid = laid; group = came_group; less = record { was = λ below. known (dark_here below untold); dark = λ below. dark_here below untold }; maps = by.maps; none = none; is = is }
+        record { laid = laid; group = came_group; less = record { was = λ below. known (dark_here below untold); dark = λ below. dark_here below untold }; maps = maps; none = none; is = is }
+
+    -- ---- it is not known what the disks hold, and the replicated volume group that was found came up
+
+    pub found_risen : ((s : Shade R) → Lawful (shade_meaning g.meaning s)) → (beside : KeptBeside) → IsOverSite beside n → (IsTrue (laid_disks laid).tells → ⊥) → (u : Units) → laid.core.inner.config.rvg ≡ Some u → (s : OverSet R g) → Started u laid s
+        → FoundAgain beside n note (Down idle) s
+    found_risen laws beside over untold u has s started =
+        let site : Node = returned_with middle (record (below_rvg n) { group = Some ready }) in
+        let it = found_over_set laws n site middle u laid s came_group.up has untold started refl refl (burned_twice n.fuse) came_group.returns.cut beside over.1 over.4 in
+        record {
+          laid = laid;
+          group = came_group;
+          over = it.0;
+          less = found_less laws n site middle u laid s came_group.up has untold started refl refl (burned_twice n.fuse) came_group.returns.cut note it.0.next it.1 known;
+          to = λ k. subst (λ (e : GroupSite R g). (laid_disks laid).disk_faults k ≤ (site_disks e).disk_faults k) (sym started.site) (started.starts.since.counts k);
+        }
 
   -- ---- the site behind an import
 
-  module _ (laws : (s : Shade R) → Lawful (shade_meaning g.meaning s)) (beside : KeptBeside) (cut : Option CutWrite) (group : n.group ≡ Some note) (state : n.state ≡ IsDown) (over : IsOverSite beside n) (unfused : n.fuse ≡ NoFuse)
+  module _ (down : DownNoted (below_rvg n) note (Down idle)) (laws : (s : Shade R) → Lawful (shade_meaning g.meaning s)) (beside : KeptBeside) (cut : Option CutWrite) (group : n.group ≡ Some note) (state : n.state ≡ IsDown) (over : IsOverSite beside n) (unfused : n.fuse ≡ NoFuse)
       (rests : RestsOver (λ c. FellOver c beside n (idle_ready idle)) beside n (idle_ready idle)) (settles : FellSettles n idle) (cut_is : cut_value cut ≡ note.cut) (inside : InsideOf (units_of n) note) (tidy : TidyNote (units_of n) note) where
     -- with a note of the same configuration
     same_units : units_of n ≡ config_units (config_of note.config)
@@ -313,20 +343,11 @@ module _ {R : Type 0} {g : Ghosts R} (n : Node) (note : GroupNode) (idle : Idle 
 
     -- ---- it was done, and it is not known what the disks hold
 
-    module _ (laid : Laid R g) (by : BroughtBy (Down idle) (Up laid) (Ok tt)) (untold : IsTrue (laid_disks laid).tells → ⊥) where
+    module _ (laid : Laid R g) (by : CameUp n note idle laid) (untold : IsTrue (laid_disks laid).tells → ⊥) where
       -- the replicated volume group that was found came up
 
       pub found_again : (u : Units) → laid.core.inner.config.rvg ≡ Some u → (s : OverSet R g) → Started u laid s → FoundAgain beside n note (Down idle) s
-      found_again u has s started =
-          let site : Node = returned_with (middle laid by) (record (below_rvg n) { group = Some ready }) in
-          let it = found_over_set laws n site (middle laid by) u laid s (came_group laid by).up has untold started refl refl (burned_twice n.fuse) (came_group laid by).returns.cut beside over.1 over.4 in
-          record {
-            laid = laid;
-            group = came_group laid by;
-            over = it.0;
-            less = found_less laws n site (middle laid by) u laid s (came_group laid by).up has untold started refl refl (burned_twice n.fuse) (came_group laid by).returns.cut note it.0.next it.1 (known laid by);
-            to = λ k. subst (λ (e : GroupSite R g). (laid_disks laid).disk_faults k ≤ (site_disks e).disk_faults k) (sym started.site) (started.starts.since.counts k);
-          }
+      found_again = found_risen laid by laws beside over untold
 
       -- or it was refused
 

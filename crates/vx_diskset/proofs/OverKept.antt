@@ -120,7 +120,7 @@ module _ {R : Type 0} {g : Ghosts R} (laws : (s : Shade R) → Lawful (shade_mea
         subst (λ (x : OverSite R g). CrashedAt beside n (Over (record { site = x; cut = new.cut }))) (sym (fell_site new.site idle at))
         (let held : IsHeldAt beside n (laid_volumes goes.mid) = held_mid beside n a old goes.mid goes.goes sound aside over.0 running it in
         over_fell n goes.mid idle (Member (wide goes.mid.core).good (laid_disks goes.mid)) over held goes.stopped (laws idle.rack) (racks idle.rack) goes.mid.stands.group.stands.kept
-        (fell_settles goes.mid n idle goes.stopped goes.lacking (over_there n (laid_volumes goes.mid) over.0 held.lies)) new.cut)
+        (fell_settles goes.mid n idle goes.stopped (over_there n (laid_volumes goes.mid) over.0 held.lies) goes.lacking) new.cut)
     kept_by (Up old) (Deported idle) at above goes sound it here = absurd here
     kept_by (Up old) (Marked rack) at above goes sound it here = absurd here
     kept_by (Up old) Gone at above goes sound it here = absurd here

@@ -1,5 +1,5 @@
 -- The disks of a site whose group has a replicated volume group, by another note of its group that names the same units, and another fuse.
-use Rattle.std.proofs.Common.{◌≡◌, ◌∙◌, ◌⊎◌, inl, inr, ℕ, true, List, drop, take, ap, refl, subst, sym}
+use Rattle.std.proofs.Common.{◌≡◌, ◌∙◌, inl, inr, ℕ, true, List, drop, take, ap, refl, subst, sym}
 use Rattle.std.specs.Prelude.{None, Option, Some}
 use Rattle.vx_config.specs.Checks.{blocks_of}
 use Rattle.vx_config.specs.declared.config.Config.{Config}
@@ -7,6 +7,7 @@ use Rattle.vx_disk.specs.Shelf.{Image, Meaning}
 use Rattle.vx_disk.specs.declared.shelf.Shelf.{Ghosts}
 use Rattle.vx_events.specs.RvgNotes.{inside_of}
 use Rattle.vx_ground.specs.Lifted.{laid_volumes}
+use Rattle.vx_grouped.specs.declared.idle.Idle.{Idle}
 use Rattle.vx_history.specs.Groups.{GroupNode}
 use Rattle.vx_history.specs.World.{Fuse, Node, NoFuse}
 use Rattle.vx_kept.specs.Groups.{group_meaning}
@@ -18,7 +19,7 @@ use Rattle.vx_diskset.specs.Fuses.{FuseOn}
 use Rattle.vx_diskset.specs.Holds.{HasSite, HasWrites, KeptBeside, most_header, most_with, state_with}
 use Rattle.vx_diskset.specs.Lasts.{FoundWith, LeftWith}
 use Rattle.vx_diskset.specs.Layouts.{IsLaid, IsLaidBy, LiesBy, units_by, units_of}
-use Rattle.vx_diskset.specs.Stands.{AwayOver, FellOver, IsOverSite, IsReceiverAt, IsUpAt, OverStands, RestsOver, RvgSettles, SiteStands, idle_ready}
+use Rattle.vx_diskset.specs.Stands.{AwayLeft, AwayOver, FellOver, IsOverSite, IsReceiverAt, IsUpAt, OverStands, RestsOver, RvgSettles, SiteStands, idle_ready}
 use Rattle.vx_diskset.specs.declared.disk_set.DiskSet.TheVariants.{Over}
 use Rattle.vx_diskset.specs.declared.over_set.OverSet.{OverSet}
 use Rattle.vx_diskset.specs.declared.over_set.OverSite.{OverSite}
@@ -136,14 +137,22 @@ module _ (beside : KeptBeside) (n : Node) (group : Option GroupNode) (fuse : Fus
         subst (λ (u : Units). FoundWith u n.ring (state_with n beside.links) n.session (most_header beside n) above n.log n.base) (sym units) (it.found i y above each found shows);
   }
 
+  left_as : (x : Meaning) (c : Config) → AwayLeft c beside n x → AwayLeft c beside k x
+  left_as x c (inl it) = inl (away_as x c it)
+  left_as x c (inr it) = inr (record { over = fell_as x c it.over; settles = subst (λ (u : Units). RvgSettles u x) (sym units) it.settles; one = it.one })
+
   ground_as : IsOverSite beside n → IsOverSite beside k
   ground_as it = (has, it.1, it.2, it.3, it.4, it.5)
+
+  -- of one that was deported no fuse is said
+  idle_as : {R : Type 0} {g : Ghosts R} (idle : Idle R g) → OverStands beside n (GroupAway idle) → OverStands beside k (GroupAway idle)
+  idle_as idle it = (it.0, rests_as (λ c. AwayLeft c beside n (idle_ready idle)) (λ c. AwayLeft c beside k (idle_ready idle)) (idle_ready idle) (left_as (idle_ready idle)) it.1)
 
   module _ {R : Type 0} {g : Ghosts R} (lit : (x : Meaning) → FuseOn n.fuse x → FuseOn fuse x) (unlit : n.fuse ≡ NoFuse → fuse ≡ NoFuse) where
     stands_as : (s : OverSite R g) → OverStands beside n s → OverStands beside k s
     stands_as (OriginSite f) it = up_as f.core (laid_volumes f.laid) (lit (laid_volumes f.laid) it.fuse) it
     stands_as (ReceiverSite f) it = receiver_as f.core f.waiting (laid_volumes f.laid) (lit (laid_volumes f.laid) it.fuse) it
-    stands_as (GroupAway idle) it = (it.0, rests_as (λ c. AwayOver c beside n (idle_ready idle)) (λ c. AwayOver c beside k (idle_ready idle)) (idle_ready idle) (away_as (idle_ready idle)) it.1)
+    stands_as (GroupAway idle) it = idle_as idle it
     stands_as (GroupFell idle) it = (
       it.0,
       unlit it.1,
@@ -159,3 +168,37 @@ over_like beside n k o is has units lit unlit stands =
     let same : units_by k.group n.disks ≡ units_of n = ap (λ (d : ℕ). units_by k.group d) (sym (ap (λ (x : Node). x.disks) is)) ∙ units in
     subst (λ (x : Node). SiteStands beside x (Over o)) (sym is)
     (ground_as beside n k.group k.fuse stands.0.0 has same stands.0, stands_as beside n k.group k.fuse stands.0.0 has same lit unlit o.site stands.1)
+
+-- and so it is of one that was deported with any fuse
+pub idle_like : {R : Type 0} {g : Ghosts R} (beside : KeptBeside) (n k : Node) (o : OverSet R g) (idle : Idle R g) → o.site ≡ GroupAway idle → k ≡ record n { group = k.group; fuse = k.fuse } → (k.group ≡ None → ⊥) → units_of k ≡ units_of n
+    → SiteStands beside n (Over o) → SiteStands beside k (Over o)
+idle_like {R} {g} beside n k o idle at is has units stands =
+    let same : units_by k.group n.disks ≡ units_of n = ap (λ (d : ℕ). units_by k.group d) (sym (ap (λ (x : Node). x.disks) is)) ∙ units in
+    let there : OverStands beside n (GroupAway idle) = subst (λ (x : OverSite R g). OverStands beside n x) at stands.1 in
+    subst (λ (x : Node). SiteStands beside x (Over o)) (sym is)
+    (ground_as beside n k.group k.fuse stands.0.0 has same stands.0, subst (λ (x : OverSite R g). OverStands beside (let m : Node = record n { group = k.group; fuse = k.fuse } in m) x) (sym at) (idle_as beside n k.group k.fuse stands.0.0 has same idle there))
+
+-- who fed a site that is down has nothing to do with its disks
+pub fed_like : {R : Type 0} {g : Ghosts R} (beside : KeptBeside) (n : Node) (fed : ℕ) (o : OverSet R g) (idle : Idle R g) → o.site ≡ GroupFell idle → SiteStands beside n (Over o) → SiteStands beside (record n { fed_by = fed }) (Over o)
+fed_like {R} {g} beside n fed o idle at stands =
+    let there : OverStands beside n (GroupFell idle) = subst (λ (x : OverSite R g). OverStands beside n x) at stands.1 in (
+      stands.0,
+      subst (λ (x : OverSite R g). OverStands beside (let m : Node = record n { fed_by = fed } in m) x) (sym at) (
+        there.0,
+        there.1,
+        fed_rests (idle_ready idle) there.2,
+        there.3,
+      ),
+    )
+  where
+    fed_rests : (x : Meaning) → RestsOver (λ c. FellOver c beside n x) beside n x → RestsOver (λ c. FellOver c beside (let m : Node = record n { fed_by = fed } in m) x) beside (let m : Node = record n { fed_by = fed } in m) x
+    fed_rests x it = record {
+      config = it.config;
+      sure = it.sure;
+      lies = it.lies;
+      there = it.there;
+      low = it.low;
+      logged = it.logged;
+      begun = it.begun;
+      left = λ told. let was : FellOver it.config beside n x = it.left told in record { extends = was.extends; found = was.found };
+    }

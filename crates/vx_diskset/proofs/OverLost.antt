@@ -13,42 +13,44 @@ use Rattle.vx_events.specs.RvgNotes.{inside_of}
 use Rattle.vx_ground.specs.Lifted.{laid_volumes}
 use Rattle.vx_group.specs.Holding.{wide}
 use Rattle.vx_group.specs.Laws.{group_lawful}
-use Rattle.vx_group.specs.Resumes.{AtRest}
-use Rattle.vx_grouped.specs.Brings.{BringsSite}
 use Rattle.vx_grouped.specs.GroupSites.{idle_disks, laid_disks}
-use Rattle.vx_grouped.specs.Readies.{ready_of}
 use Rattle.vx_grouped.specs.declared.idle.Idle.{Idle}
 use Rattle.vx_grouped.specs.declared.laid.Laid.{Laid}
 use Rattle.vx_history.specs.Groups.{GroupNode}
-use Rattle.vx_history.specs.World.{NoFuse, Node}
+use Rattle.vx_history.specs.World.{NoFuse, Node, Fuse}
 use Rattle.vx_kept.specs.Commits.{Member}
 use Rattle.vx_kept.specs.Facts.{KeptFact}
 use Rattle.vx_kept.specs.Groups.{Shows, found as finds}
 use Rattle.vx_kept.proofs.Low.{found_same}
-use Rattle.vx_logimport.specs.declared.rested.Rested.{Rested}
-use Rattle.vx_model.specs.declared.site.SiteState.TheVariants.{Down as IsDown}
+use Rattle.vx_model.specs.declared.site.SiteState.TheVariants.{Down as IsDown, Deported as IsAway}
 use Rattle.vx_model.specs.declared.units.Units.{Units}
 use Rattle.vx_rvg.specs.Starts.{Starting, ring_in}
 use Rattle.vx_untold.specs.Shades.{shade_meaning}
 use Rattle.vx_untold.specs.declared.shade.Shade.{Shade}
 use Rattle.vx_watched.specs.Since.{CalledSince}
+use Rattle.vx_model.specs.declared.site.SiteState.{SiteState}
+use Rattle.vx_group.specs.Settles.{LacksCommit}
+use Rattle.vx_grouped.proofs.ReadyLemmas.{down_ready}
+use Rattle.vx_grouped.specs.Readies.{ready_of}
+use Rattle.vx_diskset.proofs.OverDisks.{LeavesLess, away_less}
+use Rattle.vx_diskset.proofs.OverCame.{rack_rests}
 use Rattle.vx_diskset.specs.Founded.{LaidFell}
 use Rattle.vx_diskset.specs.Holds.{KeptBeside, most_header, state_with}
 use Rattle.vx_diskset.specs.Lasts.{FoundWith, LeftWith}
 use Rattle.vx_diskset.specs.Layouts.{IsLaid, IsLaidBy, config_units, units_of}
-use Rattle.vx_diskset.specs.OverRises.{SessionFrom, rest_in}
+use Rattle.vx_diskset.specs.OverRises.{SessionFrom}
 use Rattle.vx_diskset.specs.OverStarts.{all_latest}
-use Rattle.vx_diskset.specs.Stands.{FellOver, FellSettles, IsOverSite, OverStands, RestsOver, RvgSettles, SiteStands, idle_ready}
+use Rattle.vx_diskset.specs.Stands.{FellOver, IsOverSite, OverStands, RestsOver, RvgSettles, SiteStands, idle_ready, AwayLeft}
 use Rattle.vx_diskset.specs.Works.{OnlyLog}
 use Rattle.vx_diskset.specs.declared.disk_set.DiskSet.TheVariants.{Over}
 use Rattle.vx_diskset.specs.declared.over_set.OverSet.{OverSet}
 use Rattle.vx_diskset.specs.declared.over_set.OverSite.{OverSite}
-use Rattle.vx_diskset.specs.declared.over_set.OverSite.TheVariants.{Down as GroupFell}
+use Rattle.vx_diskset.specs.declared.over_set.OverSite.TheVariants.{Down as GroupFell, Deported as GroupAway}
 use Rattle.vx_diskset.proofs.CrashGroup.{left_with}
 use Rattle.vx_diskset.proofs.Laying.{laid_as}
-use Rattle.vx_diskset.proofs.OverCame.{alike_rests, fell_laid, fell_left, fell_there, rack_rests, told_rest}
 use Rattle.vx_diskset.proofs.OverCrash.{IsUnder, found_some, image_one, ready_under, shown, shows, shows_one}
-use Rattle.vx_diskset.proofs.OverSettles.{fell_settles}
+use Rattle.vx_diskset.proofs.OverHas.{HasVolumes}
+use Rattle.vx_diskset.proofs.OverSettles.{fell_settles, settles_by}
 use Rattle.vx_diskset.proofs.Sessions.{header_below, next_below}
 use Rattle.vx_diskset.proofs.StartGroup.{left_still_with}
 use Rattle.vx_diskset.proofs.StaysUp.{found_below, left_moved}
@@ -59,33 +61,16 @@ never_none note none = cc
 found_inj : {a b : Config} → Found a ≡ Found b → a ≡ b
 found_inj e = cc
 
-module _ {R : Type 0} {g : Ghosts R} (racks : (s : Shade R) → IsRack (shade_meaning g.meaning s)) (laws : (s : Shade R) → Lawful (shade_meaning g.meaning s)) (beside : KeptBeside) (n : Node) (idle : Idle R g) (laid : Laid R g) (brings : BringsSite (idle_ready idle) laid)
-    (told : IsTrue (laid_disks laid).tells) (rests : RestsOver (λ c. FellOver c beside n (idle_ready idle)) beside n (idle_ready idle)) (settles : FellSettles n idle) (r : Rested) (came : idle.rested ≡ Some r) (down : IsTrue (idle_ready idle).down) where
-  abbrev first : Meaning
-  first = shade_meaning g.meaning brings.first
-
-  was_told : IsTrue (idle_ready idle).tells
-  was_told = told_rest (idle_ready idle) first laid.core (laid_disks laid) brings.revived brings.brings told
-
-  first_rests : AtRest first
-  first_rests = alike_rests (idle_ready idle) first brings.revived (rack_rests (idle_ready idle) (racks (ready_of idle.agreed idle.rack)) down was_told)
-
-  laid_here : IsLaid (units_of n) n.ring n.volumes n.base.size (laid_volumes laid)
-  laid_here = fell_laid n (idle_ready idle) first laid.core (laid_disks laid) brings.revived brings.brings first_rests rests (settles r came) told
-
-  there_here : (k : ℕ) → inside_of (units_of n) k ≡ true → k < (laid_volumes laid).units
-  there_here = fell_there n (idle_ready idle) first laid.core (laid_disks laid) brings.revived brings.brings first_rests rests (settles r came) told
-
+module _ {R : Type 0} {g : Ghosts R} (racks : (s : Shade R) → IsRack (shade_meaning g.meaning s)) (laws : (s : Shade R) → Lawful (shade_meaning g.meaning s)) (beside : KeptBeside) (n : Node) (laid : Laid R g) (told : IsTrue (laid_disks laid).tells) (has : HasVolumes beside n laid) where
   abbrev ring : ℕ
   ring = ring_in (units_of n) (laid_volumes laid)
 
   ring_is : ring ≡ n.ring
-  ring_is = sym laid_here.ring_is
+  ring_is = sym has.lies.ring_is
 
   with : LeftWith (units_of n) ring (state_with n beside.links) n.session (most_header beside n) n.log n.base (laid_volumes laid)
   with =
-      subst (λ (k : ℕ). LeftWith (units_of n) k (state_with n beside.links) n.session (most_header beside n) n.log n.base (laid_volumes laid)) (sym ring_is)
-      (fell_left n (idle_ready idle) first laid.core (laid_disks laid) brings.revived brings.brings first_rests rests (settles r came) told)
+      subst (λ (k : ℕ). LeftWith (units_of n) k (state_with n beside.links) n.session (most_header beside n) n.log n.base (laid_volumes laid)) (sym ring_is) has.left
 
   law : (l : Laid R g) → Lawful (laid_volumes l)
   law l = group_lawful (wide l.core) (shade_meaning g.meaning l.shelf) (laws l.shelf) l.stands.group.stands
@@ -156,9 +141,9 @@ module _ {R : Type 0} {g : Ghosts R} (racks : (s : Shade R) → IsRack (shade_me
 
     -- ---- the site
 
-    module _ (session : ℕ) (from : SessionFrom n session) (found : InSession session) (w : GroupNode) (units : config_units (config_of w.config) ≡ units_of n) where
+    module _ (session : ℕ) (from : SessionFrom n session) (found : InSession session) (w : GroupNode) (units : config_units (config_of w.config) ≡ units_of n) (state : SiteState) (fuse : Fuse) where
       abbrev k : Node
-      k = rest_in session w n
+      k = record n { state = state; fuse = fuse; session = session; group = Some w }
 
       under : IsUnder (idle_ready fell) (idle_disks fell)
       under = ready_under g fell.agreed fell.rack
@@ -170,13 +155,13 @@ module _ {R : Type 0} {g : Ghosts R} (racks : (s : Shade R) → IsRack (shade_me
       up_finds i x at = sym (found_same (laid_disks mid) (idle_ready fell) (under.units ∙ is.stopped.units) (λ u. under.size u ∙ is.stopped.size u) (λ u. true) i) ∙ at
 
       laid_mid : IsLaid (units_of n) n.ring n.volumes n.base.size (laid_volumes mid)
-      laid_mid = laid_as (units_of n) n.ring n.volumes n.base.size (laid_volumes laid) (laid_volumes mid) only.size laid_here
+      laid_mid = laid_as (units_of n) n.ring n.volumes n.base.size (laid_volumes laid) (laid_volumes mid) only.size has.lies
 
       there_k : (v : ℕ) → inside_of (units_of k) v ≡ true → v < (laid_volumes mid).units
-      there_k v inside = let low = there_here v (subst (λ (u : Units). inside_of u v ≡ true) units inside) in let same = only.units in omega (arith, low, same)
+      there_k v inside = let low = has.there v (subst (λ (u : Units). inside_of u v ≡ true) units inside) in let same = only.units in omega (arith, low, same)
 
       begun : 0 < session
-      begun = let some = rests.begun was_told in ⊎_elim (λ same. omega (arith, some, same)) (λ next. let more = next.0 in omega (arith, more)) from
+      begun = let some = has.begun in ⊎_elim (λ same. omega (arith, some, same)) (λ next. let more = next.0 in omega (arith, more)) from
 
       shows_as : (above' : Image) → above' ≡ above → FoundWith (units_of k) n.ring (state_with n beside.links) session (most_header beside k) above' n.log n.base
       shows_as above' same =
@@ -187,11 +172,11 @@ module _ {R : Type 0} {g : Ghosts R} (racks : (s : Shade R) → IsRack (shade_me
       rests_k : RestsOver (λ x. FellOver x beside k (idle_ready fell)) beside k (idle_ready fell)
       rests_k = record {
         config = c;
-        sure = rests.sure;
+        sure = has.sure;
         lies = subst (λ (u : Units). IsLaidBy u n.ring n.volumes n.base.size (blocks_of c.volumes)) (sym units) laid_mid;
         there = there_k;
-        low = rests.low;
-        logged = rests.logged;
+        low = has.low;
+        logged = has.logged;
         begun = λ tells. begun;
         left = λ tells. record {
           extends = λ i x each at. (kept.kin i x (up_each i each) (up_finds i x at)).shape;
@@ -204,15 +189,39 @@ module _ {R : Type 0} {g : Ghosts R} (racks : (s : Shade R) → IsRack (shade_me
         };
       }
 
+      over_k : IsOverSite beside n → IsOverSite beside k
+      over_k over = ((λ none. never_none w none), over.1, over.2, over.3, over.4, over.5)
+
       -- of disks that are by themselves as the crash left them
       module _ (last : Idle R g) (ready : idle_ready last ≡ idle_ready fell) (rested : last.rested ≡ fell.rested) where
-        fell_stands : n.state ≡ IsDown → n.fuse ≡ NoFuse → (s : OverSite R g) → s ≡ GroupFell last → OverStands beside k s
-        fell_stands state unfused s at = subst (λ (x : OverSite R g). OverStands beside k x) (sym at) (
-          state,
+        fell_stands : state ≡ IsDown → fuse ≡ NoFuse → (s : OverSite R g) → s ≡ GroupFell last → OverStands beside k s
+        fell_stands down unfused s at = subst (λ (x : OverSite R g). OverStands beside k x) (sym at) (
+          down,
           unfused,
           subst (λ (m : Meaning). RestsOver (λ x. FellOver x beside k m) beside k m) (sym ready) rests_k,
-          λ q came. subst (λ (m : Meaning). RvgSettles (units_of k) m) (sym ready) (fell_settles mid k fell is.stopped is.lacking there_k q (sym rested ∙ came)),
+          λ q came. subst (λ (m : Meaning). RvgSettles (units_of k) m) (sym ready) (fell_settles mid k fell is.stopped there_k is.lacking q (sym rested ∙ came)),
         )
 
-        pub lost_stands : IsOverSite beside n → n.state ≡ IsDown → n.fuse ≡ NoFuse → (s : OverSet R g) → s.site ≡ GroupFell last → SiteStands beside k (Over s)
-        lost_stands over state unfused s at = (((λ none. never_none w none), over.1, over.2, over.3, over.4, over.5), fell_stands state unfused s.site at)
+        pub lost_stands : IsOverSite beside n → state ≡ IsDown → fuse ≡ NoFuse → (s : OverSet R g) → s.site ≡ GroupFell last → SiteStands beside k (Over s)
+        lost_stands over down unfused s at = (over_k over, fell_stands down unfused s.site at)
+
+      -- or were brought up by themselves
+      module _ (never : IsTrue (idle_ready fell).tells → LacksCommit mid.core.inner → ⊥) where
+        away_k : RestsOver (λ x. AwayLeft x beside k (idle_ready fell)) beside k (idle_ready fell)
+        away_k = record {
+          config = c;
+          sure = rests_k.sure;
+          lies = rests_k.lies;
+          there = rests_k.there;
+          low = rests_k.low;
+          logged = rests_k.logged;
+          begun = rests_k.begun;
+          left = λ tells. inr (record {
+            over = rests_k.left tells;
+            settles = settles_by mid k fell is.stopped there_k (never tells);
+            one = rack_rests (idle_ready fell) (racks (ready_of fell.agreed fell.rack)) (down_ready g.meaning fell.agreed fell.rack ∙ is.stopped.down) tells;
+          });
+        }
+
+        pub lost_away : (last : Idle R g) → LeavesLess (idle_ready fell) (idle_ready last) → IsOverSite beside n → state ≡ IsAway → (s : OverSet R g) → s.site ≡ GroupAway last → SiteStands beside k (Over s)
+        lost_away last less over away s at = (over_k over, subst (λ (x : OverSite R g). OverStands beside k x) (sym at) (away, away_less beside k (idle_ready fell) (idle_ready last) less away_k))

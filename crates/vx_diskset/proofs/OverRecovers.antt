@@ -2,7 +2,6 @@
 use Rattle.std.proofs.Common.{◌≡◌, ◌∙◌, ◌⊎◌, inl, inr, ⊎_elim, ℕ, ◌+◌, ◌≤◌, Bool, true, false, List, [], length, not, IsTrue, ap, arith, refl, subst, sym}
 use Rattle.std.proofs.lemmas.Option.{same_Some}
 use Rattle.std.specs.Prelude.{◌&&◌, Err, None, Ok, Option, Result, Some}
-use Rattle.vx_config.specs.declared.config.Config.{Config}
 use Rattle.vx_disk.specs.Counts.{Rose}
 use Rattle.vx_disk.specs.Moves.{Anything}
 use Rattle.vx_disk.specs.Racks.{IsRack}
@@ -10,17 +9,15 @@ use Rattle.vx_disk.specs.Shelf.{Lawful, Meaning}
 use Rattle.vx_disk.specs.declared.shelf.Shelf.{Ghosts}
 use Rattle.vx_disk.proofs.Causing.{Rose_before}
 use Rattle.vx_disk.proofs.Moving.{still}
-use Rattle.vx_events.specs.GroupViews.{config_of, volumes_of}
+use Rattle.vx_events.specs.GroupViews.{config_of}
 use Rattle.vx_events.specs.RvgFits.{entries_noted, rvg_noted}
 use Rattle.vx_ground.specs.Accounts.{GroundSince, ground_state}
 use Rattle.vx_ground.specs.Lifted.{laid_volumes}
 use Rattle.vx_ground.proofs.AccountLemmas.{ground_none}
-use Rattle.vx_group.proofs.HoldLemmas.{wide_shape}
 use Rattle.vx_grouped.specs.Brings.{BringsSite}
 use Rattle.vx_grouped.specs.ConfigMoves.{LosesSome}
 use Rattle.vx_grouped.specs.GroupNotes.{note_dimmed}
-use Rattle.vx_grouped.specs.GroupSites.{CutNoted, DownNoted, GroupDown, GroupUp, UpNoted, idle_below, idle_disks, laid_below, laid_disks, site_disks, with_note}
-use Rattle.vx_grouped.specs.Readies.{ready_of}
+use Rattle.vx_grouped.specs.GroupSites.{CutNoted, DownNoted, GroupUp, UpNoted, idle_disks, laid_below, laid_disks, site_disks, with_note}
 use Rattle.vx_grouped.specs.SiteEnds.{ConfigGoes}
 use Rattle.vx_grouped.specs.declared.group_site.GroupSite.{GroupSite}
 use Rattle.vx_grouped.specs.declared.group_site.GroupSite.TheVariants.{Up, Deported, Down, Marked, Gone}
@@ -31,8 +28,7 @@ use Rattle.vx_grouped.proofs.SettleLemmas.{fell_fused}
 use Rattle.vx_history.specs.Groups.{GroupNode}
 use Rattle.vx_history.specs.Steps.{burned, crashed}
 use Rattle.vx_history.specs.Stops.{IsFused}
-use Rattle.vx_history.proofs.Fuses.{burned_twice}
-use Rattle.vx_history.specs.World.{Fuse, NoFuse, Node}
+use Rattle.vx_history.specs.World.{NoFuse, Node}
 use Rattle.vx_logimport.specs.declared.rested.Rested.{Rested}
 use Rattle.vx_model.specs.Sites.{is_origin}
 use Rattle.vx_model.specs.declared.errors.Stop.{Stop}
@@ -46,18 +42,17 @@ use Rattle.vx_model.specs.declared.state.KeptLink.{KeptLink}
 use Rattle.vx_model.specs.declared.state.State.{State}
 use Rattle.vx_model.specs.declared.units.Units.{Units}
 use Rattle.vx_srl.specs.Views.{most_number}
-use Rattle.vx_untold.specs.Shades.{rack_of, shade_meaning}
+use Rattle.vx_untold.specs.Shades.{shade_meaning}
 use Rattle.vx_untold.specs.declared.shade.Shade.{Shade}
 use Rattle.vx_watched.specs.Since.{CalledSince}
 use Rattle.vx_watched.specs.Traces.{TellsLess}
 use Rattle.vx_watched.proofs.SinceLemmas.{since_none}
 use Rattle.vx_diskset.specs.Aboves.{InsideOf, below_site, site_in}
-use Rattle.vx_diskset.specs.Fuses.{FuseOn}
 use Rattle.vx_diskset.specs.GroupSets.{cut_value}
 use Rattle.vx_diskset.specs.Holds.{KeptBeside, most_header, state_with}
 use Rattle.vx_diskset.specs.Layouts.{config_units, units_of}
 use Rattle.vx_diskset.specs.Noted.{AgreesStill, FoundNamed, NotedOn, NotesWorked, RestsNamed, SiteNoted, TidyNote, below_rvg}
-use Rattle.vx_diskset.specs.OverRises.{CameGroup, CameOver, LostAgain, OverRises, RaisedOver, RaisesAbove, RisesAgain, RisesFound, RisesHeld, RisesLost, RisesPlain, RoseAgain, SessionFrom, StartLost, came_with, rest_in}
+use Rattle.vx_diskset.specs.OverRises.{CameGroup, LostAgain, OverRises, RaisedOver, RaisesAbove, RisesAgain, RisesFound, RisesHeld, RisesLost, RisesPlain, RoseAgain, SessionFrom, StartLost, came_with, rest_in}
 use Rattle.vx_diskset.specs.OverStarts.{BehindImport, BroughtBy, FellBack, RaisesOver, StandsOff, StartFails, Started, StartsOn, StartsOver, TriedOn, WithUnits, all_latest, has_no_links, is_alone, is_idle_phase}
 use Rattle.vx_diskset.specs.Stands.{FellOver, FellSettles, IsOverSite, OverStands, RestsOver, SiteStands, idle_ready}
 use Rattle.vx_diskset.specs.Works.{LogBlocks, OnlyLog}
@@ -69,16 +64,14 @@ use Rattle.vx_diskset.specs.declared.over_set.OverSet.{OverSet}
 use Rattle.vx_diskset.specs.declared.over_set.OverSite.{OverSite}
 use Rattle.vx_diskset.specs.declared.over_set.OverSite.TheVariants.{Origin as OriginSite, Receiver as ReceiverSite, Deported as GroupAway, Down as GroupFell, Gone as NoGroup}
 use Rattle.vx_diskset.proofs.CountMoves.{counts_lose}
-use Rattle.vx_diskset.proofs.MadeOver.{fuse_over}
-use Rattle.vx_diskset.proofs.OverCame.{told_rest, took}
 use Rattle.vx_diskset.proofs.OverDims.{some_in}
-use Rattle.vx_diskset.proofs.OverFalls.{crash_named, crash_noted}
-use Rattle.vx_diskset.proofs.OverHolds.{agreed_told, agrees_down, bright_told, came_group, down_for, found_again, ground_same, group_here, held_refused, held_untold, names_found, never_both, never_fused, plain_again, read_rvg}
+use Rattle.vx_diskset.proofs.OverFalls.{crash_named}
+use Rattle.vx_diskset.proofs.OverHas.{HasVolumes, fell_has, one_down}
+use Rattle.vx_diskset.proofs.OverHolds.{agrees_down, came_down, came_group, CameUp, down_for, found_again, ground_same, group_here, held_refused, held_untold, names_found, never_both, never_fused, plain_again}
 use Rattle.vx_diskset.proofs.OverKept.{fell_site}
+use Rattle.vx_diskset.proofs.OverKnown.{agreed_known, bright_known, counts_known, down_known, inner_known, inside_known, moved_known, named_config, named_known, ready_known, rose_known, rvg_known, seen_known, units_known}
 use Rattle.vx_diskset.proofs.OverLost.{InSession, left_there, lost_stands, starting_in, still_in}
-use Rattle.vx_diskset.proofs.OverMoved.{inside_then, moved, moved_is, named_then, tidy_then, units_then}
-use Rattle.vx_diskset.proofs.OverNoted.{note_read}
-use Rattle.vx_diskset.proofs.OverReturns.{fell_again, fell_session}
+use Rattle.vx_diskset.proofs.OverMoved.{moved, moved_is}
 use Rattle.vx_diskset.proofs.StartGroup.{limit_same}
 
 -- ---- a site that stands by itself
@@ -89,7 +82,7 @@ alone_by false b c first second third = absurd (let clash : false ≡ true = fir
 alone_by true false c first second third = absurd (let clash : false ≡ true = second in cc)
 alone_by true true false first second third = absurd (let clash : false ≡ true = third in cc)
 
-stands_alone : (n : Node) (links : List KeptLink) → is_origin n.role ≡ true → links ≡ [] → n.phase ≡ Quiet → is_alone (state_with n links) ≡ true
+pub stands_alone : (n : Node) (links : List KeptLink) → is_origin n.role ≡ true → links ≡ [] → n.phase ≡ Quiet → is_alone (state_with n links) ≡ true
 stands_alone n links origin none quiet =
     alone_by (is_origin n.role) (has_no_links links) (is_idle_phase n.phase) origin (ap (λ (ls : List KeptLink). has_no_links ls) none) (ap (λ (p : SPhase). is_idle_phase p) quiet)
 
@@ -105,8 +98,11 @@ module _ {R : Type 0} {g : Ghosts R} (racks : (s : Shade R) → IsRack (shade_me
   ready_down = down_ready g.meaning idle.agreed idle.rack ∙ down.stopped.down
 
   module _ (laid : Laid R g) (by : BroughtBy (Down idle) (Up laid) (Ok tt)) where
+    risen : CameUp n note idle laid
+    risen = came_down n note idle down laid by
+
     abbrev came : CameGroup n note (Down idle) laid
-    came = came_group n note idle down names laid by
+    came = came_group n note idle down.agrees names laid risen
 
     abbrev middle : GroupNode
     middle = came.middle
@@ -118,98 +114,44 @@ module _ {R : Type 0} {g : Ghosts R} (racks : (s : Shade R) → IsRack (shade_me
     first = shade_meaning g.meaning brings.first
 
     group_up : GroupUp (below_rvg (came_with (burned n.fuse) middle n)) middle (laid_below laid).tells laid.core (laid_disks laid)
-    group_up = group_here n note idle down names laid by
+    group_up = group_here n note idle down.agrees names laid risen
 
     -- ---- it is known what the disks hold
 
     module _ (told : IsTrue (laid_disks laid).tells) where
-      was_told : IsTrue (idle_ready idle).tells
-      was_told = told_rest (idle_ready idle) first laid.core (laid_disks laid) brings.revived brings.brings told
-
       rested : (r : Rested) × (idle.rested ≡ Some r)
       rested = some_in idle.rested by.known
 
+      has : HasVolumes beside n laid
+      has = fell_has beside n idle laid brings told rests (settles rested.0 rested.1) (one_down beside n idle laid brings told racks ready_down)
+
       bright : not idle.agreed ≡ false
-      bright = ap not (agreed_told g.meaning idle.agreed idle.rack was_told)
+      bright = bright_known racks laws beside n note idle down.agrees names over inside laid risen told has
 
       inside_middle : InsideOf (units_of n) middle
-      inside_middle = λ v disk. ap (λ (f : ℕ → Bool). f v) came.returns.inside ∙ inside v disk
+      inside_middle = inside_known racks laws beside n note idle down.agrees names over inside laid risen told has
 
       named_middle : rvg_noted middle ≡ Some (units_of n)
-      named_middle = read_rvg n note idle down names laid by ∙ (names_found n note idle down names laid by told).0
+      named_middle = named_known racks laws beside n note idle down.agrees names over inside laid risen told has
 
       named_now : came.config.now.rvg ≡ Some (units_of n)
-      named_now = ap (λ (c : Config). c.rvg) (sym came.config.has) ∙ (names_found n note idle down names laid by told).0
+      named_now = named_config racks laws beside n note idle down.agrees names over inside laid risen told has
 
       -- the volumes are those that were noted
       seen : length came.config.now.volumes ≡ length came.config.was.volumes
-      seen =
-          let it = took (idle_ready idle) first laid.core (laid_disks laid) brings.revived brings.brings told in
-          let here = it.goes.units in
-          let shape = it.opens.alike.shape.volumes in
-          let wide_is = (wide_shape laid.core).volumes in
-          let now_is : length laid.core.inner.config.volumes ≡ length it.config.volumes = omega (arith, here, shape, wide_is) in
-          ap (λ (c : Config). length c.volumes) (sym came.config.has) ∙ now_is ∙ (names_found n note idle down names laid by told).1 ∙ ap (λ (o : Option Config). length (volumes_of o)) (note_read ready came.config.was came.config.noted)
+      seen = seen_known racks laws beside n note idle down.agrees names over inside laid risen told has
 
       -- ---- and its replicated volume group came up
 
-      module _ (s : OverSet R g) (started : Started (units_of n) laid s) where
-        abbrev rose_moved : NotesWorked (came_with (burned n.fuse) middle n) middle (Up laid) (Up started.laid)
-        rose_moved = moved racks n middle (burned n.fuse) (units_of n) laid started.laid inside_middle named_middle group_up started.starts.ground started.starts.since started.starts.told started.starts.does.0
-
-        abbrev rose_next : GroupNode
-        rose_next = rose_moved.0
-
-        rose_units : config_units (config_of rose_next.config) ≡ units_of n
-        rose_units = units_then racks n middle (burned n.fuse) (units_of n) laid started.laid inside_middle named_middle group_up started.starts.ground started.starts.since started.starts.told started.starts.does.0
-
-        rose_inside : InsideOf (units_of n) rose_next
-        rose_inside = inside_then racks n middle (burned n.fuse) (units_of n) laid started.laid inside_middle named_middle group_up started.starts.ground started.starts.since started.starts.told started.starts.does.0
-
-        rose_tidy : TidyNote (units_of n) rose_next
-        rose_tidy = tidy_then racks n middle (burned n.fuse) (units_of n) laid started.laid inside_middle named_middle group_up started.starts.ground started.starts.since started.starts.told started.starts.does.0
-
-        rose_by : UpNoted (below_rvg (with_note rose_next (came_with (burned n.fuse) middle n))) rose_next (Up started.laid) → AgreesStill middle rose_next (laid_disks laid) (laid_disks started.laid) → CameOver beside n middle (burned (burned n.fuse)) laid s
-        rose_by up agrees =
-            let lit : FuseOn (burned (burned n.fuse)) (laid_volumes started.laid) = fuse_over (burned n.fuse) (laid_disks started.laid) (laid_volumes started.laid) (λ off. off) up.fuse in
-            record {
-              next = rose_next;
-              works = rose_moved.1;
-              goes = subst (λ (e : GroupSite R g). ConfigGoes (LosesSome (laid_disks laid) (site_disks e)) middle rose_next (Up laid) e) (sym started.site) rose_moved.2;
-              agrees = subst (λ (e : GroupSite R g). AgreesStill middle rose_next (laid_disks laid) (site_disks e)) (sym started.site) agrees;
-              noted = (
-                subst (λ (e : GroupSite R g). NotedOn (below_rvg (came_with (burned (burned n.fuse)) rose_next n)) rose_next e) (sym started.site) up,
-                ap (λ (o : Option CutWrite). cut_value o) started.cut ∙ sym (rose_moved.1.same.cut ∙ came.returns.cut),
-                subst (λ (u : Units). InsideOf u rose_next) (sym rose_units) rose_inside,
-                subst (λ (u : Units). TidyNote u rose_next) (sym rose_units) rose_tidy,
-                subst (λ (e : GroupSite R g). RestsNamed (config_units (config_of rose_next.config)) (length (entries_noted rose_next)) e) (sym started.site) tt,
-              );
-              stands = fell_again racks laws beside n rose_next (burned (burned n.fuse)) idle laid s rose_units over started brings told lit rests settles rested.0 rested.1 ready_down;
-              session = fell_session racks laws beside n rose_next (burned (burned n.fuse)) idle laid s rose_units over started brings told lit rests settles rested.0 rested.1 ready_down;
-            }
-
-        pub rose_again : RoseAgain beside n note (Down idle) s
-        rose_again = by_end rose_moved.3
-          where
-            by_end : (UpNoted (below_rvg (with_note rose_next (came_with (burned n.fuse) middle n))) rose_next (Up started.laid) × AgreesStill middle rose_next (laid_disks laid) (laid_disks started.laid))
-                ⊎ (CutNoted (below_rvg (with_note rose_next (came_with (burned n.fuse) middle n))) rose_next (Up started.laid) × IsFused (burned n.fuse)) → RoseAgain beside n note (Down idle) s
-            by_end (inl it) = record {
-              laid = laid;
-              group = came;
-              told = told;
-              bright = bright;
-              named = named_now;
-              over = subst (λ (f : Fuse). CameOver beside n middle f laid s) (burned_twice n.fuse) (rose_by it.0 it.1);
-              to = λ k. subst (λ (e : GroupSite R g). (laid_disks laid).disk_faults k ≤ (site_disks e).disk_faults k) (sym started.site) (started.starts.since.counts k);
-            }
-            by_end (inr it) = absurd (never_fused n unfused it.1)
+      rose_again : (s : OverSet R g) → Started (units_of n) laid s → RoseAgain beside n note (Down idle) s
+      rose_again = rose_known racks laws beside n note idle down.agrees names over inside laid risen told has
 
       -- ---- or it was refused
 
       module _ (mid : Laid R g) (last : Idle R g) (fell : FellBack mid last) (s : OverSet R g) (at : site_in s ≡ Down last) (cuts : s.cut ≡ cut) (ground : GroundSince (ground_state laid.core) (laid_disks laid) (ground_state mid.core) (laid_disks mid)) (since : CalledSince (laid_disks laid) (laid_disks mid))
           (less : TellsLess (laid_below laid) (laid_below mid)) (only : OnlyLog (units_of n) (laid_volumes laid) (laid_volumes mid)) where
         abbrev lost_moved : NotesWorked (came_with (burned n.fuse) middle n) middle (Up laid) (Up mid)
-        lost_moved = moved racks n middle (burned n.fuse) (units_of n) laid mid inside_middle named_middle group_up ground since less only
+        lost_moved = moved_known racks laws beside n note idle down.agrees names over inside laid risen told has mid last fell ground since less only
 
         abbrev worked : GroupNode
         worked = lost_moved.0
@@ -218,35 +160,29 @@ module _ {R : Type 0} {g : Ghosts R} (racks : (s : Shade R) → IsRack (shade_me
         rest = record worked { cut = note.cut }
 
         lost_units : config_units (config_of worked.config) ≡ units_of n
-        lost_units = units_then racks n middle (burned n.fuse) (units_of n) laid mid inside_middle named_middle group_up ground since less only
+        lost_units = units_known racks laws beside n note idle down.agrees names over inside laid risen told has mid last fell ground since less only
 
         lost_named : rvg_noted worked ≡ Some (units_of n)
-        lost_named = named_then racks n middle (burned n.fuse) (units_of n) laid mid inside_middle named_middle group_up ground since less only
+        lost_named = rvg_known racks laws beside n note idle down.agrees names over inside laid risen told has mid last fell ground since less only
 
         lost_inside : InsideOf (units_of n) worked
-        lost_inside = inside_then racks n middle (burned n.fuse) (units_of n) laid mid inside_middle named_middle group_up ground since less only
-
-        fell_told : IsTrue (idle_disks fell.fell).tells
-        fell_told = fell.is.stopped.tells ∙ since.tells ∙ told
+        lost_inside = inner_known racks laws beside n note idle down.agrees names over inside laid risen told has mid last fell ground since less only
 
         agreed_is : last.agreed ≡ fell.fell.agreed
-        agreed_is = fell.agreed (bright_told g.meaning fell.fell.rack fell_told)
+        agreed_is = agreed_known racks laws beside n note idle down.agrees names over inside laid risen told has mid last fell ground since less only
 
         ready_is : idle_ready last ≡ idle_ready fell.fell
-        ready_is = ap (λ (b : Bool). shade_meaning g.meaning (ready_of b last.rack)) agreed_is ∙ ap (λ (x : Shade R). shade_meaning g.meaning (ready_of fell.fell.agreed x)) fell.rack
+        ready_is = ready_known racks laws beside n note idle down.agrees names over inside laid risen told has mid last fell ground since less only
 
         counts_down : (d : ℕ) → (idle_disks last).disk_faults d ≡ (laid_disks mid).disk_faults d
-        counts_down d = ap (λ (x : Shade R). (shade_meaning g.meaning x).disk_faults d) fell.rack ∙ fell.is.stopped.counts.disk_faults d
+        counts_down = counts_known racks laws beside n note idle down.agrees names over inside laid risen told has mid last fell ground since less only
 
         abbrev lost_node : Node
         lost_node = below_rvg (with_note worked (came_with (burned n.fuse) middle n))
 
         -- the group of the site as it crashed
         down_last : UpNoted lost_node worked (Up mid) → DownNoted (crashed lost_node 0) worked (Down last)
-        down_last up =
-            subst (λ (b : Bool). GroupDown (crashed lost_node 0) worked b (idle_below last).tells (idle_disks last)) (sym agreed_is)
-            (subst (λ (x : Shade R). GroupDown (crashed lost_node 0) worked fell.fell.agreed (g.meaning (rack_of x)).tells (shade_meaning g.meaning x)) (sym fell.rack)
-            (crash_noted all_latest mid fell.fell fell.is (Up mid) refl lost_node worked lost_moved.4 up))
+        down_last = down_known racks laws beside n note idle down.agrees names over inside laid risen told has mid last fell ground since less only
 
         lost_noted : (session : ℕ) → UpNoted lost_node worked (Up mid) → SiteNoted (rest_in session rest n) rest (Over s)
         lost_noted session up = (
@@ -276,7 +212,7 @@ module _ {R : Type 0} {g : Ghosts R} (racks : (s : Shade R) → IsRack (shade_me
         mid_up : IsTrue (laid_disks mid).down → ⊥
         mid_up off = never_fused n unfused (fell_fused (burned n.fuse) (laid_disks laid) (laid_disks mid) group_up.fuse group_up.at.up since.safe off)
 
-        lost_by : (session : ℕ) → SessionFrom n session → InSession racks laws beside n idle laid brings told rests settles rested.0 rested.1 ready_down mid since only fell.fell fell.is session → (stop : Stop) → StartLost beside n session middle worked (Down idle) (site_in s) stop
+        lost_by : (session : ℕ) → SessionFrom n session → InSession racks laws beside n laid told has mid since only fell.fell fell.is session → (stop : Stop) → StartLost beside n session middle worked (Down idle) (site_in s) stop
             → LostAgain beside n note (Down idle) s stop
         lost_by session from found stop why = by_end lost_moved.3
           where
@@ -295,37 +231,37 @@ module _ {R : Type 0} {g : Ghosts R} (racks : (s : Shade R) → IsRack (shade_me
               session = session;
               why = why;
               noted = lost_noted session it.0;
-              stands = lost_stands racks laws beside n idle laid brings told rests settles rested.0 rested.1 ready_down mid since only fell.fell fell.is session from found rest lost_units last ready_is fell.rested over state unfused s (fell_site s.site last at);
+              stands = lost_stands racks laws beside n laid told has mid since only fell.fell fell.is session from found rest lost_units n.state n.fuse last ready_is fell.rested over state unfused s (fell_site s.site last at);
               to = λ k. subst (λ (e : GroupSite R g). (laid_disks laid).disk_faults k ≤ (site_disks e).disk_faults k) (sym at) (let more = since.counts k in let same = counts_down k in omega (arith, more, same));
             }
             by_end (inr it) = absurd (never_fused n unfused it.1)
 
         lost_cause : (why : No) → StartsOn (units_of n) laid mid (Err why) → LostAgain beside n note (Down idle) s (Refused why)
         lost_cause (Device disk) it =
-            let begun = starting_in racks laws beside n idle laid brings told rests settles rested.0 rested.1 ready_down mid since only fell.fell fell.is it.does.1 in
+            let begun = starting_in racks laws beside n laid told has mid since only fell.fell fell.is it.does.1 in
             let rose : Rose ((idle_disks idle).disk_faults disk) ((laid_disks mid).disk_faults disk) = Rose_before ((idle_disks idle).disk_faults disk) ((laid_disks laid).disk_faults disk) ((laid_disks mid).disk_faults disk) (by.since.counts disk) it.does.2 in
             lost_by begun.0 begun.1 begun.2 (Refused (Device disk)) (
               begun.1,
               subst (λ (e : GroupSite R g). Rose ((idle_disks idle).disk_faults disk) ((site_disks e).disk_faults disk)) (sym at) (subst (λ (x : ℕ). Rose ((idle_disks idle).disk_faults disk) x) (sym (counts_down disk)) rose),
             )
         lost_cause (Limit what most) it =
-            let with = left_there racks laws beside n idle laid brings told rests settles rested.0 rested.1 ready_down in
-            lost_by n.session (inl refl) (still_in racks laws beside n idle laid brings told rests settles rested.0 rested.1 ready_down mid since only fell.fell fell.is (λ u b v left. ⊎_elim (λ was. was) (λ none. absurd none) (it.does.3.leaves u b v left))) (Refused (Limit what most)) (
+            let with = left_there racks laws beside n laid told has in
+            lost_by n.session (inl refl) (still_in racks laws beside n laid told has mid since only fell.fell fell.is (λ u b v left. ⊎_elim (λ was. was) (λ none. absurd none) (it.does.3.leaves u b v left))) (Refused (Limit what most)) (
               refl,
               limit_same it.does.2.0 it.does.2.1,
               ⊎_elim (λ (stamp : most_number ≤ most_header beside n + 2). stamp) (λ (session : most_number ≤ n.session). let more : most_number ≤ most_header beside n + 2 = omega arith in more)
                   (it.does.2.2 (state_with n beside.links) n.session (most_header beside n) with.held with.left),
             )
-        lost_cause NoConfig it = let with = left_there racks laws beside n idle laid brings told rests settles rested.0 rested.1 ready_down in absurd (it.does.2.1 (state_with n beside.links) n.session (most_header beside n) with.held with.left)
+        lost_cause NoConfig it = let with = left_there racks laws beside n laid told has in absurd (it.does.2.1 (state_with n beside.links) n.session (most_header beside n) with.held with.left)
         lost_cause (Damaged unit block stored computed) it =
-            let with = left_there racks laws beside n idle laid brings told rests settles rested.0 rested.1 ready_down in absurd (it.does.2.3 (state_with n beside.links) n.session (most_header beside n) with.held with.left)
+            let with = left_there racks laws beside n laid told has in absurd (it.does.2.3 (state_with n beside.links) n.session (most_header beside n) with.held with.left)
         lost_cause IsOff it = absurd (mid_up it.does.2)
         lost_cause other it = absurd it.does.2
 
       -- what was started stands by itself
       never_off : (mid : Laid R g) → StandsOff (units_of n) laid mid → ⊥
       never_off mid off =
-          let with = left_there racks laws beside n idle laid brings told rests settles rested.0 rested.1 ready_down in
+          let with = left_there racks laws beside n laid told has in
           let has = off.starts.does.2.each (state_with n beside.links) n.session (most_header beside n) with.held with.left in
           never_both (is_alone off.core.log.header.state) (ap (λ (x : State). is_alone x) has.0 ∙ stands_alone n beside.links over.5 over.4 quiet) off.linked
 
@@ -337,7 +273,7 @@ module _ {R : Type 0} {g : Ghosts R} (racks : (s : Shade R) → IsRack (shade_me
       no_work : no_moved.0 ≡ middle
       no_work =
           moved_is racks n middle (burned n.fuse) (units_of n) laid laid inside_middle named_middle group_up (ground_none (ground_state laid.core) (laid_disks laid)) (since_none (laid_disks laid)) (λ below. below) (still (LogBlocks (units_of n)) Anything (laid_volumes laid))
-          ∙ ground_same n note idle down names laid by
+          ∙ ground_same n note idle down.agrees names laid risen
 
       lost_tried : (mid : Laid R g) (last : Idle R g) (fell : FellBack mid last) (s : OverSet R g) → site_in s ≡ Down last → s.cut ≡ cut → (stop : Stop) → TriedOn (units_of n) laid mid stop → LostAgain beside n note (Down idle) s stop
       lost_tried mid last fell s at cuts (Refused why) (inl it) = lost_cause mid last fell s at cuts it.ground it.since it.told it.does.0 why it
@@ -345,21 +281,21 @@ module _ {R : Type 0} {g : Ghosts R} (racks : (s : Shade R) → IsRack (shade_me
       lost_tried mid last fell s at cuts OutOfMemory it =
           subst (λ (x : Laid R g). FellBack x last → LostAgain beside n note (Down idle) s OutOfMemory) (sym it)
           (λ back. lost_by laid last back s at cuts (ground_none (ground_state laid.core) (laid_disks laid)) (since_none (laid_disks laid)) (λ below. below) (still (LogBlocks (units_of n)) Anything (laid_volumes laid)) n.session (inl refl)
-          (still_in racks laws beside n idle laid brings told rests settles rested.0 rested.1 ready_down laid (since_none (laid_disks laid)) (still (LogBlocks (units_of n)) Anything (laid_volumes laid)) back.fell back.is (λ u b v left. left)) OutOfMemory (refl, no_work))
+          (still_in racks laws beside n laid told has laid (since_none (laid_disks laid)) (still (LogBlocks (units_of n)) Anything (laid_volumes laid)) back.fell back.is (λ u b v left. left)) OutOfMemory (refl, no_work))
           fell
 
     -- ---- by what came of it
 
     same_units_of : (u : Units) → laid.core.inner.config.rvg ≡ Some u → IsTrue (laid_disks laid).tells → u ≡ units_of n
-    same_units_of u has told = same_Some u (units_of n) (sym has ∙ (names_found n note idle down names laid by told).0)
+    same_units_of u has told = same_Some u (units_of n) (sym has ∙ (names_found n note idle down.agrees names laid risen told).0)
 
     started_by : (u : Units) → laid.core.inner.config.rvg ≡ Some u → (s : OverSet R g) → Started u laid s → (b : Bool) → (laid_disks laid).tells ≡ b → OverRises beside n note (Down idle) (Over s) (Ok tt)
     started_by u has s started true told = RisesAgain s refl refl (rose_again told s (subst (λ (x : Units). Started x laid s) (same_units_of u has told) started))
-    started_by u has s started false dim = RisesFound s refl refl (found_again n note idle down names laws beside cut group state over unfused rests settles cut_is inside tidy laid by (λ told. never_both (laid_disks laid).tells told dim) u has s started)
+    started_by u has s started false dim = RisesFound s refl refl (found_again n note idle down.agrees names down laws beside cut group state over unfused rests settles cut_is inside tidy laid risen (λ told. never_both (laid_disks laid).tells told dim) u has s started)
 
     failed_by : (u : Units) → laid.core.inner.config.rvg ≡ Some u → (s : OverSet R g) (stop : Stop) → StartFails false u laid cut s stop → (b : Bool) → (laid_disks laid).tells ≡ b → OverRises beside n note (Down idle) (Over s) (Err stop)
     failed_by u has s stop off true told = RisesLost s stop refl refl (lost_tried told off.mid off.idle off.fell s off.site off.cut_is stop (subst (λ (x : Units). TriedOn x laid off.mid stop) (same_units_of u has told) off.tried))
-    failed_by u has s stop off false dim = RisesHeld s stop refl refl (held_untold n note idle down names laws beside cut group state over unfused rests settles cut_is inside tidy laid by (λ told. never_both (laid_disks laid).tells told dim) u off.mid off.idle off.fell s off.site off.cut_is stop off.tried)
+    failed_by u has s stop off false dim = RisesHeld s stop refl refl (held_untold n note idle down.agrees names down laws beside cut group state over unfused rests settles cut_is inside tidy laid risen (λ told. never_both (laid_disks laid).tells told dim) u off.mid off.idle off.fell s off.site off.cut_is stop off.tried)
 
     start_in : (u : Units) → laid.core.inner.config.rvg ≡ Some u → (new : DiskSet R g) (r : Result (Unit {0}) Stop) → StartsOver false u laid cut new r → OverRises beside n note (Down idle) new r
     start_in u has (Bare rack) r it = absurd it
@@ -373,7 +309,7 @@ module _ {R : Type 0} {g : Ghosts R} (racks : (s : Shade R) → IsRack (shade_me
     start_in u has GoneSet r it = absurd it
 
     start_units : (o : Option Units) → laid.core.inner.config.rvg ≡ o → (new : DiskSet R g) (r : Result (Unit {0}) Stop) → WithUnits false o laid cut new r → OverRises beside n note (Down idle) new r
-    start_units None has new r it = let s : GroupSet R g = record { site = Up laid; cut = None } in RisesPlain s it.0 it.1 (plain_again n note idle down names laid by s refl has)
+    start_units None has new r it = let s : GroupSet R g = record { site = Up laid; cut = None } in RisesPlain s it.0 it.1 (plain_again n note idle down.agrees names laid risen by.maps s refl has)
     start_units (Some u) has new r it = start_in u has new r it
 
   refused_in : (now : Idle R g) (stop : Stop) → BroughtBy (Down idle) (Down now) (Err stop) → (new : DiskSet R g) (r : Result (Unit {0}) Stop) → BehindImport false (Down now) cut new (Err stop) r → OverRises beside n note (Down idle) new r
@@ -383,7 +319,7 @@ module _ {R : Type 0} {g : Ghosts R} (racks : (s : Shade R) → IsRack (shade_me
   refused_in now stop by (Receives s) r behind = absurd behind.0
   refused_in now stop by (DownSet rack) r behind = absurd behind.0
   refused_in now stop by (OfGroup s) r behind = absurd behind.0
-  refused_in now stop by (Over s) r behind = RisesHeld s stop refl behind.2 (held_refused n note idle down names laws beside cut group state over unfused rests settles cut_is inside tidy now stop by s behind.0 behind.1)
+  refused_in now stop by (Over s) r behind = RisesHeld s stop refl behind.2 (held_refused n note idle down.agrees names down laws beside cut group state over unfused rests settles cut_is inside tidy now stop by s behind.0 behind.1)
   refused_in now stop by GoneSet r behind = absurd behind.0
 
   rises_behind : (mid : GroupSite R g) (answer : Result (Unit {0}) Stop) → BroughtBy (Down idle) mid answer → (new : DiskSet R g) (r : Result (Unit {0}) Stop) → BehindImport false mid cut new answer r → OverRises beside n note (Down idle) new r

@@ -1,8 +1,7 @@
 -- A replicated volume group over a group of disks comes up with it, where contents are told.
 use Rattle.std.proofs.Common.{◌≡◌, ◌∙◌, ◌<◌, IsTrue}
 use Rattle.std.specs.Prelude.{None, Some}
-use Rattle.vx_disk.specs.Racks.{IsRack}
-use Rattle.vx_disk.specs.Shelf.{Lawful, Meaning}
+use Rattle.vx_disk.specs.Shelf.{Lawful}
 use Rattle.vx_disk.specs.declared.shelf.Shelf.{Ghosts}
 use Rattle.vx_events.specs.GroupViews.{config_of}
 use Rattle.vx_history.specs.Groups.{GroupNode}
@@ -14,25 +13,20 @@ use Rattle.vx_untold.specs.Shades.{shade_meaning}
 use Rattle.vx_untold.specs.declared.shade.Shade.{Shade}
 use Rattle.vx_group.specs.Holding.{wide}
 use Rattle.vx_group.specs.Laws.{group_lawful}
-use Rattle.vx_group.specs.Resumes.{AtRest}
 use Rattle.vx_ground.specs.Lifted.{laid_volumes}
-use Rattle.vx_grouped.specs.Brings.{BringsSite}
 use Rattle.vx_grouped.specs.GroupSites.{laid_disks}
-use Rattle.vx_grouped.specs.Readies.{ready_of}
-use Rattle.vx_grouped.specs.declared.idle.Idle.{Idle}
 use Rattle.vx_grouped.specs.declared.laid.Laid.{Laid}
 use Rattle.vx_diskset.specs.Fuses.{FuseOn}
 use Rattle.vx_diskset.specs.Holds.{KeptBeside}
 use Rattle.vx_diskset.specs.Layouts.{config_units, units_of}
 use Rattle.vx_diskset.specs.OverRises.{came_with}
 use Rattle.vx_diskset.specs.OverStarts.{Started}
-use Rattle.vx_diskset.specs.Stands.{FellOver, IsOverSite, IsUpAt, RestsOver, SiteStands, idle_ready, RvgSettles, FellSettles}
+use Rattle.vx_diskset.specs.Stands.{IsOverSite, IsUpAt, SiteStands}
 use Rattle.vx_diskset.specs.Works.{OnlyLog}
 use Rattle.vx_diskset.specs.declared.disk_set.DiskSet.TheVariants.{Over}
 use Rattle.vx_diskset.specs.declared.over_set.OverSet.{OverSet}
-use Rattle.vx_diskset.proofs.OverCame.{alike_rests, fell_laid, fell_left, fell_there, rack_rests, told_rest}
+use Rattle.vx_diskset.proofs.OverHas.{HasVolumes}
 use Rattle.vx_diskset.proofs.OverUp.{over_came, over_session, set_came}
-use Rattle.vx_logimport.specs.declared.rested.Rested.{Rested}
 
 never_none : {A : Type 0} {x : A} → Some x ≡ None → ⊥
 never_none e = cc
@@ -41,40 +35,23 @@ never_none e = cc
 over_again : (beside : KeptBeside) (n : Node) (note : GroupNode) (fuse : Fuse) → beside.doubt ≡ None → IsOverSite beside n → IsOverSite beside (came_with fuse note n)
 over_again beside n note fuse sure over = ((λ none. never_none none), sure, over.2, over.3, over.4, over.5)
 
-module _ {R : Type 0} {g : Ghosts R} (racks : (s : Shade R) → IsRack (shade_meaning g.meaning s)) (laws : (s : Shade R) → Lawful (shade_meaning g.meaning s)) (beside : KeptBeside) (n : Node) (note : GroupNode) (fuse : Fuse) (idle : Idle R g) (laid : Laid R g) (s : OverSet R g)
-    (units : config_units (config_of note.config) ≡ units_of n) (over : IsOverSite beside n) (started : Started (units_of n) laid s) (brings : BringsSite (idle_ready idle) laid) (told : IsTrue (laid_disks laid).tells) (on : FuseOn fuse (laid_volumes started.laid)) where
+module _ {R : Type 0} {g : Ghosts R} (laws : (s : Shade R) → Lawful (shade_meaning g.meaning s)) (beside : KeptBeside) (n : Node) (note : GroupNode) (fuse : Fuse) (laid : Laid R g) (s : OverSet R g) (units : config_units (config_of note.config) ≡ units_of n) (over : IsOverSite beside n)
+    (started : Started (units_of n) laid s) (told : IsTrue (laid_disks laid).tells) (on : FuseOn fuse (laid_volumes started.laid)) (has : HasVolumes beside n laid) where
   here : Lawful (laid_volumes started.laid)
   here = group_lawful (wide started.laid.core) (shade_meaning g.meaning started.laid.shelf) (laws started.laid.shelf) started.laid.stands.group.stands
-
-  abbrev first : Meaning
-  first = shade_meaning g.meaning brings.first
 
   does : OnlyLog (units_of n) (laid_volumes laid) (laid_volumes started.laid) × IsSound started.core (laid_volumes started.laid) × IsStarted (units_of n) (laid_volumes laid) started.core (laid_volumes started.laid) × (IsTrue (laid_volumes started.laid).down → ⊥)
   does = started.starts.does
 
-  -- of disks that crashed
-  module _ (rests : RestsOver (λ c. FellOver c beside n (idle_ready idle)) beside n (idle_ready idle)) (settles : FellSettles n idle) (r : Rested) (came : idle.rested ≡ Some r) (down : IsTrue (idle_ready idle).down) where
-    settled : RvgSettles (units_of n) (idle_ready idle)
-    settled = settles r came
+  came_up : IsUpAt beside (came_with fuse note n) started.core (laid_volumes started.laid)
+  came_up =
+      over_came beside n note fuse (laid_volumes laid) (laid_volumes started.laid) started.core units has.low has.logged has.sure has.begun has.lies has.there has.left does.0 does.1 does.2 does.3 here on
 
-    fell_told : IsTrue (idle_ready idle).tells
-    fell_told = told_rest (idle_ready idle) first laid.core (laid_disks laid) brings.revived brings.brings told
+  -- there was a further session
+  pub came_session : n.session < most_number
+  came_session =
+      over_session beside n note fuse (laid_volumes laid) (laid_volumes started.laid) started.core units has.low has.logged has.sure has.begun has.lies has.there has.left does.0 does.1 does.2 does.3 here on
+      (started.starts.since.tells ∙ told)
 
-    first_rests : AtRest first
-    first_rests = alike_rests (idle_ready idle) first brings.revived (rack_rests (idle_ready idle) (racks (ready_of idle.agreed idle.rack)) down fell_told)
-
-    fell_up : IsUpAt beside (came_with fuse note n) started.core (laid_volumes started.laid)
-    fell_up =
-        over_came beside n note fuse (laid_volumes laid) (laid_volumes started.laid) started.core units rests.low rests.logged rests.sure (rests.begun fell_told)
-        (fell_laid n (idle_ready idle) first laid.core (laid_disks laid) brings.revived brings.brings first_rests rests settled told) (fell_there n (idle_ready idle) first laid.core (laid_disks laid) brings.revived brings.brings first_rests rests settled told)
-        (fell_left n (idle_ready idle) first laid.core (laid_disks laid) brings.revived brings.brings first_rests rests settled told) does.0 does.1 does.2 does.3 here on
-
-    -- there was a further session
-    pub fell_session : n.session < most_number
-    fell_session =
-        over_session beside n note fuse (laid_volumes laid) (laid_volumes started.laid) started.core units rests.low rests.logged rests.sure (rests.begun fell_told)
-        (fell_laid n (idle_ready idle) first laid.core (laid_disks laid) brings.revived brings.brings first_rests rests settled told) (fell_there n (idle_ready idle) first laid.core (laid_disks laid) brings.revived brings.brings first_rests rests settled told)
-        (fell_left n (idle_ready idle) first laid.core (laid_disks laid) brings.revived brings.brings first_rests rests settled told) does.0 does.1 does.2 does.3 here on (started.starts.since.tells ∙ told)
-
-    pub fell_again : SiteStands beside (came_with fuse note n) (Over s)
-    fell_again = (over_again beside n note fuse rests.sure over, set_came beside (came_with fuse note n) s started.laid started.core started.site started.above fell_up)
+  pub came_again : SiteStands beside (came_with fuse note n) (Over s)
+  came_again = (over_again beside n note fuse has.sure over, set_came beside (came_with fuse note n) s started.laid started.core started.site started.above came_up)

@@ -1,5 +1,5 @@
 -- The disks of a site whose group has a replicated volume group, past changes of its node by which they do not stand.
-use Rattle.std.proofs.Common.{◌≡◌, ◌∙◌, ◌≤◌, ap, sym, ℕ, Bool, true, false, length}
+use Rattle.std.proofs.Common.{◌≡◌, ◌∙◌, ◌≤◌, ap, inl, inr, sym, ℕ, Bool, true, false, length}
 use Rattle.std.specs.Prelude.{None}
 use Rattle.vx_model.specs.Sites.{is_origin}
 use Rattle.vx_model.specs.declared.site.SiteState.TheVariants.{Up as IsUp, Down as IsDown, Deported as IsDeported}
@@ -10,7 +10,7 @@ use Rattle.vx_disk.specs.Shelf.{Meaning}
 use Rattle.vx_disk.specs.declared.shelf.Shelf.{Ghosts}
 use Rattle.vx_ground.specs.Lifted.{laid_volumes}
 use Rattle.vx_diskset.specs.Holds.{KeptBeside}
-use Rattle.vx_diskset.specs.Stands.{AwayOver, FellOver, OverStands, RestsOver, idle_ready}
+use Rattle.vx_diskset.specs.Stands.{AwayLeft, FellOver, OverStands, RestsOver, idle_ready}
 use Rattle.vx_diskset.specs.declared.over_set.OverSite.{OverSite}
 use Rattle.vx_diskset.specs.declared.over_set.OverSite.TheVariants.{Origin as OriginSite, Receiver as ReceiverSite, Deported as GroupAway, Down as GroupFell, Gone as NoGroup}
 use Rattle.vx_diskset.proofs.FailGroup.{receiver_failing, up_failing}
@@ -33,8 +33,12 @@ module _ (beside : KeptBeside) (n : Node) (fuse : FuseOf) (failing : ℕ → Boo
     left = λ told. like it.config (it.left told);
   }
 
-  away_like : RestsOver (λ c. AwayOver c beside n m) beside n m → RestsOver (λ c. AwayOver c beside k m) beside k m
-  away_like = rests_like (λ c. AwayOver c beside n m) (λ c. AwayOver c beside k m) (λ c it. record { extends = it.extends; left = it.left })
+  left_like : (c : Config) → AwayLeft c beside n m → AwayLeft c beside k m
+  left_like c (inl it) = inl (record { extends = it.extends; left = it.left })
+  left_like c (inr it) = inr (record { over = record { extends = it.over.extends; found = it.over.found }; settles = it.settles; one = it.one })
+
+  away_like : RestsOver (λ c. AwayLeft c beside n m) beside n m → RestsOver (λ c. AwayLeft c beside k m) beside k m
+  away_like = rests_like (λ c. AwayLeft c beside n m) (λ c. AwayLeft c beside k m) left_like
 
   fell_like : RestsOver (λ c. FellOver c beside n m) beside n m → RestsOver (λ c. FellOver c beside k m) beside k m
   fell_like = rests_like (λ c. FellOver c beside n m) (λ c. FellOver c beside k m) (λ c it. record { extends = it.extends; found = it.found })

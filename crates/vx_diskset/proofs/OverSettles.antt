@@ -78,8 +78,7 @@ module _ (units : Units) (c : Config) (good : ℕ → Type 0) (m r : Meaning) (u
   rvg_settles = record { each = λ i x v each is inside. settled i x v each is inside ((alike v).each i x (each_up i x v each is inside) (is_up i x v each is inside)) }
 
 -- so a crash leaves the disks of a group, unless it lacks a commit
-module _ {R : Type 0} {g : Ghosts R} (l : Laid R g) (n : Node) (idle : Idle R g) (stop : Stopped (laid_disks l) (idle_disks idle)) (lacking : (r : Rested) → idle.rested ≡ Some r → LacksCommit l.core.inner → ⊥)
-    (there : (v : ℕ) → inside_of (units_of n) v ≡ true → v < length (wide l.core).config.volumes) where
+module _ {R : Type 0} {g : Ghosts R} (l : Laid R g) (n : Node) (idle : Idle R g) (stop : Stopped (laid_disks l) (idle_disks idle)) (there : (v : ℕ) → inside_of (units_of n) v ≡ true → v < length (wide l.core).config.volumes) where
   under_crash : IsUnder (idle_ready idle) (laid_disks l)
   under_crash = let it = ready_under g idle.agreed idle.rack in record {
     units = it.units ∙ stop.units;
@@ -88,7 +87,10 @@ module _ {R : Type 0} {g : Ghosts R} (l : Laid R g) (n : Node) (idle : Idle R g)
     leaves = λ u b v left. stop.leaves u b v (it.leaves u b v left);
   }
 
-  pub fell_settles : FellSettles n idle
-  fell_settles = λ r is.
-      let it = settled_of (wide l.core) (laid_disks l) (l.settles.told (λ lacks. lacking r is (record { missed = lacks.missed; spent = lacks.spent }))) in
+  pub settles_by : (LacksCommit l.core.inner → ⊥) → RvgSettles (units_of n) (idle_ready idle)
+  settles_by never =
+      let it = settled_of (wide l.core) (laid_disks l) (l.settles.told (λ lacks. never (record { missed = lacks.missed; spent = lacks.spent }))) in
       rvg_settles (units_of n) (wide l.core).config (Member (wide l.core).good (laid_disks l)) (laid_disks l) (idle_ready idle) under_crash l.stands.group.stands.kept there it.alike
+
+  pub fell_settles : ((r : Rested) → idle.rested ≡ Some r → LacksCommit l.core.inner → ⊥) → FellSettles n idle
+  fell_settles lacking = λ r is. settles_by (lacking r is)

@@ -1,6 +1,6 @@
 -- What is left of a start of a replicated volume group over a group that came up.
-use Rattle.std.proofs.Common.{◌≡◌, Bool, refl, subst, sym}
-use Rattle.std.specs.Prelude.{Err, None, Ok, Option, Result, Some}
+use Rattle.std.proofs.Common.{◌≡◌, ◌∙◌, Bool, false, inl, refl, subst, sym, true}
+use Rattle.std.specs.Prelude.{Err, IsTrue, None, Ok, Option, Result, Some}
 use Rattle.std.proofs.lemmas.Option.{none-some}
 use Rattle.vx_disk.specs.declared.shelf.Shelf.{Ghosts}
 use Rattle.vx_ground.specs.Accounts.{GroundSince, ground_state}
@@ -14,12 +14,12 @@ use Rattle.vx_logimport.specs.declared.rested.Rested.{Rested}
 use Rattle.vx_model.specs.declared.errors.Stop.{Stop}
 use Rattle.vx_model.specs.declared.errors.Stop.TheVariants.{No as Refused}
 use Rattle.vx_model.specs.declared.no.No.{No}
-use Rattle.vx_model.specs.declared.no.No.TheVariants.{Role as NoRole}
+use Rattle.vx_model.specs.declared.no.No.TheVariants.{Down as IsOff, Role as NoRole}
 use Rattle.vx_model.specs.declared.units.Units.{Units}
 use Rattle.vx_rvg.specs.Views.{Core}
 use Rattle.vx_watched.specs.Since.{CalledSince}
 use Rattle.vx_watched.specs.Traces.{TellsLess}
-use Rattle.vx_diskset.specs.OverStarts.{BackAt, PlainBack, PlainStarts, PlainTried, PlainUnits, StartsOn, WithPlain, WithRvg, WithUnits}
+use Rattle.vx_diskset.specs.OverStarts.{BackAt, PlainBack, PlainStarts, PlainTried, PlainUnits, StartsIn, StartsOn, WithPlain, WithRvg, WithUnits}
 use Rattle.vx_diskset.specs.Works.{DoesStart}
 use Rattle.vx_diskset.specs.declared.disk_set.DiskSet.{DiskSet}
 use Rattle.vx_diskset.specs.declared.disk_set.DiskSet.TheVariants.{Bare, Spoiled, Up as UpSet, Receives, Down as DownSet, OfGroup, Over, Gone as GoneSet}
@@ -75,3 +75,19 @@ module _ {R : Type 0} {g : Ghosts R} where
   plain_none away rested (Down idle) cut never = (refl, refl)
   plain_none away rested (Marked rack) cut never = (refl, refl)
   plain_none away rested Gone cut never = (refl, refl)
+
+-- ---- a start that was refused, in which the fuse may have run out
+
+module _ {R : Type 0} {g : Ghosts R} (units : Units) (old mid : Laid R g) (no why : No) (it : StartsOn units old mid (Err no)) (off : IsTrue (laid_disks mid).down → why ≡ IsOff) (up : (IsTrue (laid_disks mid).down → ⊥) → why ≡ no) where
+  refused_by : (b : Bool) → (laid_disks mid).down ≡ b → StartsIn units old mid (Err (Refused why))
+  refused_by true down =
+      subst (λ (w : No). StartsIn units old mid (Err (Refused w))) (sym (off down)) (
+        inl (record { does = (it.does.0, it.does.1, down, tt); ground = it.ground; since = it.since; told = it.told }),
+        (λ w same on is. let clash : true ≡ false = on in cc),
+      )
+  refused_by false runs =
+      let never : IsTrue (laid_disks mid).down → ⊥ = λ down. let clash : true ≡ false = sym down ∙ runs in cc in
+      subst (λ (w : No). StartsIn units old mid (Err (Refused w))) (sym (up never)) (inl it, (λ w same on is. never is))
+
+  pub start_refused : StartsIn units old mid (Err (Refused why))
+  start_refused = refused_by (laid_disks mid).down refl

@@ -36,3 +36,4 @@ pub mod OverVolumes
 pub mod OverRises
 pub mod OverStarts
 pub mod OverWrites
+pub mod OverTakes

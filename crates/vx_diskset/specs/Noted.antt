@@ -102,8 +102,9 @@ module _ {R : Type 0} {g : Ghosts R} where
   NotedOn n note (Down idle) = DownNoted n note (Down idle)
   NotedOn n note other = ⊥
 
-  -- of disks that crashed: each configuration that an import may find names this replicated volume group, and has so many volumes
+  -- of disks by themselves: each configuration that an import may find names this replicated volume group, and has so many volumes
   abbrev pub RestsNamed : Units → (count : ℕ) → GroupSite R g → Type 0
+  RestsNamed units count (Deported idle) = FoundNamed units count (idle_ready idle)
   RestsNamed units count (Down idle) = FoundNamed units count (idle_ready idle)
   RestsNamed units count other = Unit {0}
 

@@ -60,4 +60,4 @@ module _ {R : Type 0} {g : Ghosts R} where
     pub kept : KeepsOver old new
     -- where the disks were given up, the replicated volume group kept what is safe
     pub away : (beside : KeptBeside) (n : Node) (idle : Idle R g) → SiteStands beside n (Over old) → n.state ≡ IsUp → n.halted ≡ None → site_in new ≡ Deported idle → SiteStands beside (given_up n) (Over new)
-    pub named : (units : Units) (count : ℕ) → RestsNamed units count (site_in new)
+    pub named : (units : Units) (count : ℕ) (k : Node) (note : GroupNode) → DownNoted k note (site_in new) → RestsNamed units count (site_in new)

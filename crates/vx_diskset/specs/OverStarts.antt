@@ -1,5 +1,5 @@
 -- How the replicated volume group of a group of disks that came up is started, and what is left where it is not.
-use Rattle.std.specs.Prelude.{◌≡◌, ◌⊎◌, ℕ, ◌&&◌, not, Bool, true, false, IsFalse, List, [], ◌∷◌, None, Option, Some, Result, Ok, Err}
+use Rattle.std.specs.Prelude.{◌≡◌, ◌⊎◌, ℕ, ◌&&◌, not, Bool, true, false, IsFalse, IsTrue, List, [], ◌∷◌, None, Option, Some, Result, Ok, Err}
 use Rattle.vx_disk.specs.Racks.{Alike}
 use Rattle.vx_disk.specs.declared.shelf.Shelf.{Ghosts}
 use Rattle.vx_ground.specs.Accounts.{GroundSince, ground_state}
@@ -94,10 +94,14 @@ module _ {R : Type 0} {g : Ghosts R} where
   TriedOn units old new (Refused why) = StartsOn units old new (Err why) ⊎ ((why ≡ NoConfig) × StandsOff units old new)
   TriedOn units old new other = new ≡ old
 
+  -- where the fuse did not run out the group is up
+  abbrev pub UpUnless : Stop → Laid R g → Type 0
+  UpUnless stop mid = (why : No) → stop ≡ Refused why → stops_down stop ≡ false → IsTrue (laid_disks mid).down → ⊥
+
   -- the group behind it, with what stands over it where it was done
   abbrev pub StartsIn : Units → Laid R g → Laid R g → Result Core Stop → Type 0
   StartsIn units old new (Ok core) = StartsOn units old new (Ok core) × (is_alone core.log.header.state ≡ true)
-  StartsIn units old new (Err stop) = TriedOn units old new stop
+  StartsIn units old new (Err stop) = TriedOn units old new stop × UpUnless stop new
 
   -- it stands over the group, and no write is cut any more
   pub record Started (units : Units) (old : Laid R g) (s : OverSet R g) : Type 0 where
@@ -143,6 +147,7 @@ module _ {R : Type 0} {g : Ghosts R} where
     pub mid : Laid R g
     pub idle : Idle R g
     pub tried : TriedOn units old mid stop
+    pub up : UpUnless stop mid
     pub fell : FellBack mid idle
     pub site : BackAt (away && not (stops_down stop)) idle (site_in s)
     pub cut_is : s.cut ≡ cut

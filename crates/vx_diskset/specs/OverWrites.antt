@@ -40,4 +40,4 @@ module _ {R : Type 0} {g : Ghosts R} where
     pub wrote : (n : Node) (note : GroupNode) → UpNoted n note (site_in old) → FitsPlain note volume start (length bytes) → WroteBelow n note (plain_write volume start bytes) (site_in old) (site_in new) r
     pub cut : cut_value new.cut ≡ cut_behind r (plain_write volume start bytes) (cut_value old.cut)
     pub kept : IsOutside volume (above_in old) → KeepsOver old new
-    pub named : (units : Units) (count : ℕ) → RestsNamed units count (site_in new)
+    pub named : (units : Units) (count : ℕ) (k : Node) (note : GroupNode) → DownNoted k note (site_in new) → RestsNamed units count (site_in new)

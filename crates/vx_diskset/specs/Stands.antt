@@ -26,7 +26,7 @@ use Rattle.vx_diskset.specs.Holds.{most_header}
 use Rattle.vx_diskset.specs.Lasts.{FoundWith, LeftWith, StandsHolding}
 use Rattle.vx_diskset.specs.Layouts.{IsLaidBy, LiesOn, LiesRaw, raw_units, units_of}
 use Rattle.vx_model.specs.declared.site.SiteState.TheVariants.{Deported as IsAway}
-use Rattle.vx_group.specs.Resumes.{stopped}
+use Rattle.vx_group.specs.Resumes.{AtRest, stopped}
 use Rattle.vx_group.specs.Settles.{LivesAgree}
 use Rattle.vx_logimport.specs.declared.rested.Rested.{Rested}
 use Rattle.vx_model.specs.declared.units.Units.{Units}
@@ -203,6 +203,16 @@ pub record RestsOver (Left : Config → Type 0) (beside : KeptBeside) (n : Node)
 pub record RvgSettles (units : Units) (m : Meaning) : Type 0 where
   pub each : (i : Image) (x : Config) (v : ℕ) → Each m.leaves i → finds m i ≡ Found x → inside_of units v ≡ true → (stopped x v ≡ true) ⊎ LivesAgree x v m
 
+-- Disks that crashed behind the start of a replicated volume group that was refused, and were brought up by themselves: they have one value of each block besides.
+pub record FellAgain (c : Config) (beside : KeptBeside) (n : Node) (m : Meaning) : Type 0 where
+  pub over : FellOver c beside n m
+  pub settles : RvgSettles (units_of n) m
+  pub one : AtRest m
+
+-- what is left of a site that is deported: its group was deported, or so a start was refused behind an import of it
+abbrev pub AwayLeft : Config → KeptBeside → Node → Meaning → Type 0
+AwayLeft c beside n m = AwayOver c beside n m ⊎ FellAgain c beside n m
+
 -- a site that is on no group of disks, whatever it may be besides
 abbrev pub IsUngrouped : KeptBeside → Node → Type 0
 IsUngrouped beside n = (n.group ≡ None) × ((k : KeptSite) → beside.doubt ≡ Some k → k.node.group ≡ None)
@@ -268,7 +278,7 @@ module _ {R : Type 0} {g : Ghosts R} where
   abbrev pub OverStands : KeptBeside → Node → OverSite R g → Type 0
   OverStands beside n (OriginSite founded) = AboveStands beside n (Origin founded.core) (laid_volumes founded.laid)
   OverStands beside n (ReceiverSite founded) = AboveStands beside n (Receiver founded.core founded.waiting) (laid_volumes founded.laid)
-  OverStands beside n (GroupAway idle) = (n.state ≡ IsAway) × RestsOver (λ c. AwayOver c beside n (idle_ready idle)) beside n (idle_ready idle)
+  OverStands beside n (GroupAway idle) = (n.state ≡ IsAway) × RestsOver (λ c. AwayLeft c beside n (idle_ready idle)) beside n (idle_ready idle)
   OverStands beside n (GroupFell idle) = (n.state ≡ IsDown) × (n.fuse ≡ NoFuse) × RestsOver (λ c. FellOver c beside n (idle_ready idle)) beside n (idle_ready idle) × FellSettles n idle
   OverStands beside n NoGroup = ⊥
 

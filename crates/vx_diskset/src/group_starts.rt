@@ -16,6 +16,7 @@ ghost use Rattle.vx_diskset.specs.DiskSets.{Later};
 ghost use Rattle.vx_diskset.specs.Aboves.{site_in};
 ghost use Rattle.vx_diskset.specs.OverRises.{FindsOver, LooksOver, RaisesAbove};
 ghost use Rattle.vx_diskset.specs.OverStarts.{HandsOut, ImportsBy, ImportsIn, RaisesBy, RaisesIn, RaisesOver, TakesOver};
+ghost use Rattle.vx_diskset.specs.OverTakes.{TakesAbove};
 ghost use Rattle.vx_diskset.specs.GroupCalls.{AtFound, AtPlain, AtSite, ImportsOn, InitIs, OnSites, cut_above as cut_above_of, cut_behind as cut_behind_of, cut_in};
 ghost use Rattle.vx_diskset.specs.Holds.{KeptBeside};
 ghost use Rattle.vx_diskset.specs.Recovers.{LooksAt, LooksKept, RaisesGroup, RaisesMaps, RisesSince, RisesWith, cut_past};
@@ -277,6 +278,7 @@ impl<R: Rack> DiskSet<R> {
         ensures maps { (n : Node) (note : GroupNode) → AtSite (AwayNoted n note) self → ImportsOn (λ o e. CameMapped o e result.1) self result.0 }
         ensures cut { cut_in result.0 ≡ cut_past result.1 self }
         ensures brought { ImportsIn self result.0 result.1 }
+        ensures above { TakesAbove self result.0 result.1 }
         ensures found { (beside : KeptBeside) (n : Node) (note : GroupNode) → SiteStands beside n self → n.group ≡ Some note → n.state ≡ AwayState → FindsOver beside n note self result.0 }
         ensures fuse { (n : Node) (note : GroupNode) → AtSite (AwayNoted n note) self → FuseGoesOn self result.0 }
         ensures failing { SameFailing self result.0 }

@@ -1,14 +1,15 @@
 // How the replicated volume group of a group of disks that came up is started.
-ghost use Rattle.std.specs.Prelude.{◌≡◌, ◌&&◌, ◌*◌, ◌<◌, ◌≤◌, ℕ, IfOk, length, not, slice_index, true};
+ghost use Rattle.std.specs.Prelude.{◌≡◌, ◌&&◌, ◌*◌, ◌<◌, ◌≤◌, ℕ, IfOk, IsTrue, length, not, slice_index, true};
 ghost use Rattle.vx_disk.specs.Maps.{maps_of};
 ghost use Rattle.vx_diskset.specs.OverStarts.{PlainBack, PlainStarts, PlainUnits, StartsIn, StartsOver, WithPlain, WithRvg, WithUnits, has_no_links, is_alone, is_dark as is_dark_of, is_idle_phase};
 ghost use Rattle.vx_grouped.specs.SiteEnds.{stops_down};
 ghost use Rattle.vx_ground.specs.Lifted.{laid_volumes};
+ghost use Rattle.vx_grouped.specs.GroupSites.{laid_disks};
 ghost use Rattle.vx_model.specs.Sizes.{ring_of};
 ghost use Rattle.vx_model.specs.declared.errors.Stop.TheVariants.{No as RefusedStop};
 ghost use Rattle.vx_model.specs.declared.limits.TheConstants.{LINK_PLACES, MOST_DATA_VOLUMES, MOST_NUMBER as GREATEST};
 ghost use Rattle.vx_model.specs.declared.no.Counted.TheVariants.{Number as Numbers};
-ghost use Rattle.vx_model.specs.declared.no.No.TheVariants.{Limit as LimitNo};
+ghost use Rattle.vx_model.specs.declared.no.No.TheVariants.{Down as IsOff, Limit as LimitNo};
 ghost use Rattle.vx_rvg.specs.Views.{UnitsPlaced};
 
 use crate::group_set::CutWrite;
@@ -84,6 +85,14 @@ fn start_room(alloc: Global, blocks: u64, maps: u64) -> Result<StartRoom, OutOfM
     StartRoom::new(alloc, blocks, maps)
 }
 
+// Why it was refused: where the fuse ran out in it, that is why.
+fn why_refused<R: Rack>(laid: &Laid<R>, no: No) -> No
+    ensures off { IsTrue (laid_disks laid.now).down → result ≡ IsOff }
+    ensures up { (IsTrue (laid_disks laid.now).down → ⊥) → result ≡ no }
+{
+    if laid.is_down() { No::Down } else { no }
+}
+
 // Starts the replicated volume group over the volumes of a group, with memory taken before. One that does not stand by itself is refused.
 fn start_with<R: Rack>(
     laid: Laid<R>,
@@ -105,7 +114,10 @@ fn start_with<R: Rack>(
                 (laid, Err(Stop::No(No::NoConfig)))
             }
         }
-        Err(no) => (laid, Err(Stop::No(no))),
+        Err(no) => {
+            let why = why_refused(&laid, no);
+            (laid, Err(Stop::No(why)))
+        }
     }
 }
 

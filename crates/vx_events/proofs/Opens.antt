@@ -27,14 +27,12 @@ pub closed_runs : (n : Node) → is_over_rvg n ≡ true → is_halted_over n ≡
 closed_runs n over closed = none_halted n.halted (sym (ap (λ (b : Bool). b && is_some n.halted) over) ∙ closed)
 
 pub open_links : (w : World) (line : ScriptLine) → is_open w line ≡ false → links_rvg w line ≡ false
-open_links w (GroupImport site) closed = refl
 open_links w (Volume site volume blocks mirrors layout log map policy) closed = refl
 open_links w (PlexDetach site volume plex) closed = refl
 open_links w (PlexAttach site volume plex) closed = refl
 open_links w other closed = closed
 
 pub open_beside : (w : World) (line : ScriptLine) → is_for_rvg w line ≡ false → links_rvg w line ≡ false → is_open w line ≡ false
-open_beside w (GroupImport site) off links = off
 open_beside w (Volume site volume blocks mirrors layout log map policy) off links = halted_off (w.nodes (site_number w site)) off
 open_beside w (PlexDetach site volume plex) off links = halted_off (w.nodes (site_number w site)) off
 open_beside w (PlexAttach site volume plex) off links = halted_off (w.nodes (site_number w site)) off
@@ -90,7 +88,6 @@ module _ (w : World) (none : HasNoRvgs w) where
   for_none other = refl
 
   pub open_none : HasNoOpen w
-  open_none (GroupImport site) = none (site_number w site)
   open_none (Volume site volume blocks mirrors layout log map policy) = halted_off (w.nodes (site_number w site)) (none (site_number w site))
   open_none (PlexDetach site volume plex) = halted_off (w.nodes (site_number w site)) (none (site_number w site))
   open_none (PlexAttach site volume plex) = halted_off (w.nodes (site_number w site)) (none (site_number w site))

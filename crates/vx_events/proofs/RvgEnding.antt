@@ -178,8 +178,8 @@ module _ (told : Type 0) (d : Doubted) (line : ScriptLine) (s : ℕ) (fails : Fa
 
 -- what want of memory leaves of a recovery or an import
 pub short_stops : (told : Type 0) (d : Doubted) (line : ScriptLine) (s : ℕ) (new : Doubted) → RvgShort told d line s new → RvgStops d new
-short_stops told d line s new (ShortGroup site kept taken lost next has is notes left) = fall_stops d s line kept taken lost next new left
-short_stops told d line s new (ShortLog site kept taken fails middle next has is are back keeps cut left) = fall_stops d s line kept taken true next new left
+short_stops told d line s new (ShortGroup kept taken lost next has is notes left) = fall_stops d s line kept taken lost next new left
+short_stops told d line s new (ShortLog kept taken fails middle next has is are back keeps cut left) = fall_stops d s line kept taken true next new left
 short_stops told d line s new (ShortMade site srl maps volumes fails next is are notes left) = ended_rvg d d new (same_doubted d) s next [] refl left
 
 -- ---- where a line writes its site is open

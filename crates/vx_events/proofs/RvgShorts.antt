@@ -38,20 +38,20 @@ module _ (told : Type 0) (d : Doubted) (line : ScriptLine) (s : ℕ) (new : Doub
   here = note_at (d.world.nodes s)
 
   pub short_stays : is_over_rvg (d.world.nodes s) ≡ true → RvgShort told d line s new → NoteKeepsRvg here (note_at (new.world.nodes s))
-  short_stays over (ShortGroup site kept taken lost next has is notes left) =
+  short_stays over (ShortGroup kept taken lost next has is notes left) =
       but_keeps told d line s [] Done new over lost taken next d _ left (same_config here next (short_config here next notes))
-  short_stays over (ShortLog site kept taken fails middle next has is are back keeps cut left) =
+  short_stays over (ShortLog kept taken fails middle next has is are back keeps cut left) =
       but_keeps told d line s fails Done new over true taken next d _ left (then_same here middle next keeps (ap (λ (g : GroupNode). g.config) cut))
   short_stays over (ShortMade site srl maps volumes fails next is are notes left) =
       subst (λ (g : GroupNode). NoteKeepsRvg here g) (sym (gained_note s next d new left)) (unmade_keeps told s fails (units_at d s srl maps volumes) here next notes)
 
   pub short_known : here.dark ≡ false → (BringsUp line → here.loose ≡ false) → RvgShort told d line s new → (note_at (new.world.nodes s)).dark ≡ false
-  short_known known agree (ShortGroup site kept taken lost next has is notes left) =
-      of_note new.world s next (but_group lost s line taken next d _ new left) (short_dark here next known (agree (subst BringsUp (sym is) tt)) notes)
-  short_known known agree (ShortLog site kept taken fails middle next has is are back keeps cut left) =
+  short_known known agree (ShortGroup kept taken lost next has is notes left) =
+      of_note new.world s next (but_group lost s line taken next d _ new left) (short_dark here next known (agree is) notes)
+  short_known known agree (ShortLog kept taken fails middle next has is are back keeps cut left) =
       of_note new.world s next (but_group true s line taken next d _ new left)
       (ap (λ (g : GroupNode). g.dark) cut
-      ∙ back_known told s (d.world.nodes s) fails here middle known (λ loose. let f : true ≡ false = sym loose ∙ agree (subst BringsUp (sym is) tt) in cc) back)
+      ∙ back_known told s (d.world.nodes s) fails here middle known (λ loose. let f : true ≡ false = sym loose ∙ agree is in cc) back)
   short_known known agree (ShortMade site srl maps volumes fails next is are notes left) =
       ap (λ (g : GroupNode). g.dark) (gained_note s next d new left) ∙ works_dark ⊥ s fails notes.middle next notes.moves
       ∙ narrowed_dark told (units_at d s srl maps volumes) here notes.middle notes.narrowed ∙ known

@@ -260,8 +260,8 @@ short_strays told d line new (StopsRead read) = read_strays d line new read
 short_strays told d line new (StopsBetween untold p s middle is moves left) = left.strayed ∙ moves.strayed
 
 rvg_short_strays : (told : Type 0) (d : Doubted) (line : ScriptLine) (s : ℕ) (new : Doubted) → RvgShort told d line s new → StraysAs d new
-rvg_short_strays told d line s new (ShortGroup site kept taken lost next has is notes left) = left.strayed ∙ run_strays taken d (fall_first (d.world.nodes s).state s kept)
-rvg_short_strays told d line s new (ShortLog site kept taken fails middle next has is are back keeps cut left) =
+rvg_short_strays told d line s new (ShortGroup kept taken lost next has is notes left) = left.strayed ∙ run_strays taken d (fall_first (d.world.nodes s).state s kept)
+rvg_short_strays told d line s new (ShortLog kept taken fails middle next has is are back keeps cut left) =
     left.strayed ∙ run_strays taken d (fall_first (d.world.nodes s).state s kept)
 rvg_short_strays told d line s new (ShortMade site srl maps volumes fails next is are notes left) = left.strayed
 

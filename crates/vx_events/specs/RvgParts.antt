@@ -1,14 +1,14 @@
--- What want of memory may leave of a line that makes a replicated volume group, and of a recovery where a group of disks has one.
+-- What want of memory may leave of a line that makes a replicated volume group, and of a recovery or an import where a group of disks has one.
 use Rattle.std.specs.Prelude.{◌≡◌, ◌⊎◌, ℕ, Bool, true, List}
 use Rattle.vx_history.specs.Doubts.{Doubted}
 use Rattle.vx_history.specs.Groups.{GroupNode}
 use Rattle.vx_history.specs.World.{World}
 use Rattle.vx_script.specs.declared.line.ScriptLine.{ScriptLine}
-use Rattle.vx_script.specs.declared.line.ScriptLine.TheVariants.{Recover, Rvg}
+use Rattle.vx_script.specs.declared.line.ScriptLine.TheVariants.{Rvg}
 use Rattle.vx_events.specs.Doubts.{run_as}
 use Rattle.vx_events.specs.Facts.{site_number}
 use Rattle.vx_events.specs.Fails.{Fails}
-use Rattle.vx_events.specs.GroupEnds.{AreOf}
+use Rattle.vx_events.specs.GroupEnds.{AreOf, BringsUp}
 use Rattle.vx_events.specs.GroupNotes.{NotesBack, NotesShort, note_at}
 use Rattle.vx_events.specs.Parts.{StopsShort}
 use Rattle.vx_events.specs.RvgBack.{IsLeftBut, fall_first}
@@ -20,11 +20,11 @@ use Rattle.vx_events.specs.StepsOver.{group_place}
 
 pub data RvgShort (told : Type 0) (d : Doubted) (line : ScriptLine) (s : ℕ) (new : Doubted) : Type 0 where
   -- the group did not come up: a site that is up crashed all the same, and the fuse of the disks may be lost
-  ShortGroup : (site : List ℕ) (kept : ℕ) (taken lost : Bool) (next : GroupNode) → is_over_rvg (d.world.nodes s) ≡ true → line ≡ Recover site
+  ShortGroup : (kept : ℕ) (taken lost : Bool) (next : GroupNode) → is_over_rvg (d.world.nodes s) ≡ true → BringsUp line
       → NotesShort (note_at (d.world.nodes s)) next
       → IsLeftBut lost s line taken next d (run_as taken d (fall_first (d.world.nodes s).state s kept)) new → RvgShort told d line s new
   -- the group came up, and nothing was begun of its log: the disks crashed
-  ShortLog : (site : List ℕ) (kept : ℕ) (taken : Bool) (fails : Fails) (middle next : GroupNode) → is_over_rvg (d.world.nodes s) ≡ true → line ≡ Recover site → AreOf s fails
+  ShortLog : (kept : ℕ) (taken : Bool) (fails : Fails) (middle next : GroupNode) → is_over_rvg (d.world.nodes s) ≡ true → BringsUp line → AreOf s fails
       → NotesBack told s (d.world.nodes s) fails (note_at (d.world.nodes s)) middle → NoteKeepsRvg (note_at (d.world.nodes s)) middle
       → next ≡ record middle { cut = (note_at (d.world.nodes s)).cut } → IsLeftBut true s line taken next d (run_as taken d (fall_first (d.world.nodes s).state s kept)) new
       → RvgShort told d line s new

@@ -121,6 +121,13 @@ arrives_unfused d e s n next gathered arrives =
     (ap (λ (x : Node). let y : Node = record x { fuse = NoFuse } in y) first.node)
     (arrives_with d v s k m gathered (record { state = refl; halted = refl; role = refl; rests = record { quiet = λ is. is; rests = λ is. is }; first = λ site was. begins_like site (v.world.nodes s) m (λ bare. bare) refl refl refl refl was }) first)
 
+-- and where it is lost, by the world that has its note
+pub arrives_lost : (d e : Doubted) (s : ℕ) (n : Node) (gathered : Option Gathering) → Arrives d e s n gathered → Arrives d (record e { world = fuse_lost e.world s }) s (record n { fuse = NoFuse }) gathered
+arrives_lost d e s n gathered arrives =
+    let m : Node = record (e.world.nodes s) { fuse = NoFuse } in
+    arrives_as d (with_at e s m) s m (record n { fuse = NoFuse }) gathered (ap (λ (x : Node). let y : Node = record x { fuse = NoFuse } in y) arrives.node)
+    (arrives_with d e s n m gathered (record { state = refl; halted = refl; role = refl; rests = record { quiet = λ is. is; rests = λ is. is }; first = λ site was. begins_like site (e.world.nodes s) m (λ bare. bare) refl refl refl refl was }) arrives)
+
 -- ---- events
 
 effect_links : (d e : Doubted) (s : ℕ) (n : Node) (row : ℕ → Link) (many : ℕ) (doubt : Option After) (packets : List Packet) (gathered : Option Gathering)

@@ -26,6 +26,7 @@ use Rattle.vx_grouped.specs.GroupSites.{AwayNoted, DownNoted, UpNoted, deported_
 use Rattle.vx_grouped.specs.SiteEnds.{ConfigGoes, LacksDeport, SiteDeported}
 use Rattle.vx_grouped.specs.declared.group_site.GroupSite.{GroupSite}
 use Rattle.vx_grouped.specs.declared.group_site.GroupSite.TheVariants.{Up as SiteUp, Deported as SiteAway, Down as SiteDown, Marked, Gone as SiteGone}
+use Rattle.vx_diskset.proofs.OverAway.{newest_named}
 use Rattle.vx_diskset.specs.Aboves.{site_in}
 use Rattle.vx_diskset.specs.Noted.{IsNoteTidy, below_rvg}
 use Rattle.vx_diskset.specs.OverAways.{DeportedBelow, DeportsBelow}
@@ -206,7 +207,7 @@ module _ {R : Type 0} {g : Ghosts R} (d : Doubted) (old new : Yard R g) (name : 
         cut = on.1.same.cut;
         inside = on.1.same.inside;
       })
-      it.away seen_table facts lets in
+      (λ units named. newest_named next (site_in p) units on.4 named) it.away seen_table facts lets in
       record {
         next = world_gone d s k;
         middle = world_gone d s k;
@@ -276,7 +277,7 @@ module _ {R : Type 0} {g : Ghosts R} (d : Doubted) (old new : Yard R g) (name : 
           Refused IsOff,
           r.said,
           off_loosened d (GroupDeport name) old new name s before after p stands call b.loosens k b.tidy (then_same note next k (seen_keeps note next goes.was goes.now goes.noted goes.noted_now shows rvg) refl) b.keeps.same.cut
-              b.keeps.same.inside shows rvg (Refused IsOff) fails (down_with_maps none_noted (crashed (with_note left (below_rvg n)) 0) left (site_in p) b.noted) (λ units named. it.named units _)
+              b.keeps.same.inside shows rvg (Refused IsOff) fails (down_with_maps none_noted (crashed (with_note left (below_rvg n)) 0) left (site_in p) b.noted) (λ units named. it.named units _ (crashed (with_note left (below_rvg n)) 0) left b.noted)
               (r.facts ∙ ap (λ (fs : List SiteFacts). slice_set fs s (below_facts IsOff f)) half.facts) (lets_on old mid new s half r.same r.assemblies)
               (GroupCut k (are many) b.fused
               (with_goes (Reconfigures (λ c x. ConfigLoses s fails c x) (NoteUnsettles false)) MapsLost note next goes.was goes.now none_noted goes.noted goes.noted_now

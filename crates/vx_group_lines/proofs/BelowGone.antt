@@ -107,14 +107,6 @@ module _ {R : Type 0} {g : Ghosts R} where
   on_away n m note (Marked rack) like it = absurd it
   on_away n m note SiteGone like it = absurd it
 
-  -- no import of them follows a crash
-  rests_away : (units : Units) (count : ℕ) (c : Node) (k : GroupNode) (e : GroupSite R g) → AwayNoted c k e → RestsNamed units count e
-  rests_away units count c k (SiteUp laid) it = tt
-  rests_away units count c k (SiteAway idle) it = tt
-  rests_away units count c k (SiteDown idle) it = absurd it
-  rests_away units count c k (Marked rack) it = tt
-  rests_away units count c k SiteGone it = tt
-
   -- over a group that was deported all writes are safe, and nothing stands
   gone_logged : (beside : KeptBeside) (n c : Node) (k : GroupNode) (x : OverSite R g) → AwayNoted c k (below_site x) → OverStands beside n x → length n.log ≡ n.safe
   gone_logged beside n c k (OriginSite founded) away it = absurd away
@@ -132,6 +124,7 @@ module _ {R : Type 0} {g : Ghosts R} where
 
   module _ (d : Doubted) (old new : Yard R g) (name : List ℕ) (s : ℕ) (before after : DiskSet R g) (p : OverSet R g) (stands : StandsFor d old) (call : BelowCalled d old new name s before after p)
       (k : GroupNode) (noted : AwayNoted (deported_with k (below_rvg (d.world.nodes s))) k (site_in p)) (notes : NotesBelow (note_at (d.world.nodes s)) k)
+      (rests : (units : Units) → rvg_noted k ≡ Some units → RestsNamed units (length (entries_noted k)) (site_in p))
       (away : (beside : KeptBeside) (n : Node) (idle : Idle R g) → SiteStands beside n (Over call.at.set) → n.state ≡ IsUp → n.halted ≡ None → site_in p ≡ SiteAway idle → SiteStands beside (given_up n) (Over p))
       (table : over_table (with_note k (d.world.nodes s)) k ≡ over_table (d.world.nodes s) (note_at (d.world.nodes s))) where
     abbrev n : Node
@@ -261,7 +254,7 @@ module _ {R : Type 0} {g : Ghosts R} where
       same_cut d old new name s before after p stands call k notes.cut,
       λ u inside. ap (λ (f : ℕ → Bool). f u) notes.inside ∙ call.at.noted.2 u (subst (λ (us : Units). IsGroupDisk us u) units_here inside),
       record { tidy = notes.tidy; named = named_now },
-      rests_away (units_of m) (length (entries_noted k)) c k (site_in p) noted,
+      rests (units_of m) named_now,
     )
 
     noted_now : NotedOver m (Over p)

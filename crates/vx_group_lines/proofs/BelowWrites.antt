@@ -17,7 +17,7 @@ use Rattle.vx_history.specs.Doubts.{Doubted, happened}
 use Rattle.vx_history.specs.Groups.{GroupNode, NoteSettles, NoteUnsettles, note_cut, note_doubt, note_write}
 use Rattle.vx_history.specs.MapChanges.{InNoVolume, InVolume, StayKnown}
 use Rattle.vx_history.specs.Missing.{no_maps, this_volume, with_maps}
-use Rattle.vx_history.specs.Steps.{burned}
+use Rattle.vx_history.specs.Steps.{burned, crashed}
 use Rattle.vx_history.specs.World.{Node}
 use Rattle.vx_history.specs.declared.event.Event.TheVariants.{Crash as CrashAt}
 use Rattle.vx_order.specs.Calls.{is_data}
@@ -29,7 +29,7 @@ use Rattle.vx_script.specs.declared.line.ScriptLine.TheVariants.{Put as PutLine,
 use Rattle.vx_effects.specs.Facts.{down_fact}
 use Rattle.vx_grouped.specs.ConfigMoves.{LosesSome, none_again}
 use Rattle.vx_grouped.specs.Ends.{plain_write}
-use Rattle.vx_grouped.specs.GroupSites.{FitsPlain, UpNoted, site_disks, with_note}
+use Rattle.vx_grouped.specs.GroupSites.{DownNoted, FitsPlain, UpNoted, site_disks, with_note}
 use Rattle.vx_grouped.specs.SiteEnds.{ConfigGoes}
 use Rattle.vx_diskset.proofs.NotedLikes.{same_size}
 use Rattle.vx_diskset.specs.Aboves.{IsOutside, IsOutsideOf, above_in, above_site, site_in}
@@ -293,7 +293,7 @@ module _ {R : Type 0} {g : Ghosts R} where
     -- ---- the fuse ran out in it
 
     wrote_off : WroteBelow (below_rvg (d.world.nodes s)) (note_at (d.world.nodes s)) (plain_write place start bytes) (site_in call.called.at.set) (site_in p) (Err IsOff) → cut_value p.cut ≡ Some (plain_write place start bytes)
-        → ((units : Units) (count : ℕ) → RestsNamed units count (site_in p)) → new.facts.items ≡ slice_set old.facts.items s (down_fact (linked_fact d.world s)) → LetsGo old new s → LeadsBelow d line s (Refused IsOff) old new
+        → ((units : Units) (count : ℕ) (m : Node) (left : GroupNode) → DownNoted m left (site_in p) → RestsNamed units count (site_in p)) → new.facts.items ≡ slice_set old.facts.items s (down_fact (linked_fact d.world s)) → LetsGo old new s → LeadsBelow d line s (Refused IsOff) old new
     wrote_off wrote cut rests facts lets =
         let middle : GroupNode = wrote.0 in
         let unsettles : NoteUnsettles false note middle = wrote.1 in
@@ -306,7 +306,7 @@ module _ {R : Type 0} {g : Ghosts R} where
         let fits : FitsPlain l place start (length bytes) = same_size note l x (λ v low. ap (λ (c : Content). c.size v) unsettles.same.bytes) call.fits in
         let follows : Follows d (world_off d s l) old new =
         fell_by d old new name s before after p stands call.called l wrote.2 notes cut
-        (λ y there. subst (λ (z : Write). FitsPlain l z.volume z.start (length z.bytes)) (some_same there) fits) (λ units named. rests units (length (entries_noted l))) table facts lets in
+        (λ y there. subst (λ (z : Write). FitsPlain l z.volume z.start (length z.bytes)) (some_same there) fits) (λ units named. rests units (length (entries_noted l)) (crashed (with_note l (below_rvg n)) 0) l wrote.2) table facts lets in
         record {
           next = world_off d s l;
           middle = world_off d s k;
@@ -328,7 +328,7 @@ module _ {R : Type 0} {g : Ghosts R} where
         }
 
     pub wrote_stops : (no : No) → WroteBelow (below_rvg (d.world.nodes s)) (note_at (d.world.nodes s)) (plain_write place start bytes) (site_in call.called.at.set) (site_in p) (Err no)
-        → cut_value p.cut ≡ cut_behind {T = Unit {0}} (Err no) (plain_write place start bytes) (cut_value call.called.at.set.cut) → ((units : Units) (count : ℕ) → RestsNamed units count (site_in p))
+        → cut_value p.cut ≡ cut_behind {T = Unit {0}} (Err no) (plain_write place start bytes) (cut_value call.called.at.set.cut) → ((units : Units) (count : ℕ) (m : Node) (left : GroupNode) → DownNoted m left (site_in p) → RestsNamed units count (site_in p))
         → new.facts.items ≡ slice_set old.facts.items s (below_facts no (linked_fact d.world s)) → LetsGoBy no old new s → LeadsBelow d line s (Refused no) old new
     wrote_stops (Device disk) wrote cut rests facts lets = wrote_fails disk wrote cut facts (record { flight = lets.flight; assemblies = lets.assemblies; feeders = lets.feeders })
     wrote_stops IsOff wrote cut rests facts lets = wrote_off wrote cut rests facts (record { flight = lets.flight; assemblies = lets.assemblies; feeders = lets.feeders })

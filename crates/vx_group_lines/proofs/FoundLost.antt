@@ -79,7 +79,7 @@ use Rattle.vx_group_lines.specs.Noting.{made_facts}
 use Rattle.vx_group_lines.specs.RvgRises.{RaisesFor, RestsSo, rests_as, rests_world}
 use Rattle.vx_group_lines.proofs.Arriving.{Arrives, arrives_as, arrives_none, arrives_noted, arrives_then}
 use Rattle.vx_group_lines.proofs.BelowOff.{FellSo, fell_so}
-use Rattle.vx_group_lines.proofs.RvgComing.{DownCall, down_made, rest_links, rest_noted, rest_stood, rest_sure, some_data, stands_so}
+use Rattle.vx_group_lines.proofs.RvgComing.{DownCall, RestCall, down_made, rest_call, rest_links, rest_noted, rest_stood, rest_sure, some_data, stands_so}
 use Rattle.vx_group_lines.proofs.RvgFacts.{gained_fact}
 use Rattle.vx_group_lines.proofs.RvgFound.{arrives_astray, knows_nothing}
 use Rattle.vx_group_lines.proofs.RvgKept.{some_cut}
@@ -162,6 +162,9 @@ module _ {R : Type 0} {g : Ghosts R} (d : Doubted) (name : List ℕ) (s kept : �
 
   abbrev n : Node
   n = (rests_as d s kept taken).world.nodes s
+
+  abbrev resting : RestCall b old new s o (Over p)
+  resting = rest_call b old new s o (Over p) call
 
   abbrev note : GroupNode
   note = note_at ((rests_as d s kept taken).world.nodes s)
@@ -335,11 +338,11 @@ module _ {R : Type 0} {g : Ghosts R} (d : Doubted) (name : List ℕ) (s kept : �
   many = n.disks + disk + 1
 
   abbrev fails : Fails
-  fails = calls_at b old new s o p call many
+  fails = calls_at b old new s o p resting many
 
   failed : Contains fails (s, disk)
   failed =
-      call_named b old new s o p call many disk ((site_disks (site_in x)).disk_faults disk) ((site_disks (site_in p)).disk_faults disk) (omega arith) (omega (arith, again.group.from disk, again.to disk)) looked.3 (omega arith)
+      call_named b old new s o p resting many disk ((site_disks (site_in x)).disk_faults disk) ((site_disks (site_in p)).disk_faults disk) (omega arith) (omega (arith, again.group.from disk, again.to disk)) looked.3 (omega arith)
 
   there : slice_get new.disk_sets.items s ≡ Some (Over p)
   there = ap (λ (es : List (DiskSet R g)). slice_get es s) call.changed.disk_sets ∙ get-set_same old.disk_sets.items s (Over p) (slice_get_within old.disk_sets.items s (Over o) call.changed.there)
@@ -359,7 +362,7 @@ module _ {R : Type 0} {g : Ghosts R} (d : Doubted) (name : List ℕ) (s kept : �
 
   ends : RvgFinds (IsTold new) d (Recover name) s fails (Refused (Device disk)) fell_left
   ends =
-      FindsLost name kept taken disk lost h (let y : Node = record at { volumes = m.volumes; group = m.group } in y) k row again.over.now again.over.units rests.over some_was refl (calls_are_of b old new s o p call many) failed known
+      FindsLost name kept taken disk lost h (let y : Node = record at { volumes = m.volumes; group = m.group } in y) k row again.over.now again.over.units rests.over some_was refl (calls_are_of b old new s o p resting many) failed known
       (λ told. again.less.dark (told_below told)) refl refl comes_as again.over.is (record { rvg = again.over.fits.rvg; volumes = again.over.fits.volumes; ring = again.over.fits.ring }) again.over.has refl
       (record { world = refl; after = λ i. refl; strayed = refl })
 
@@ -373,5 +376,5 @@ module _ {R : Type 0} {g : Ghosts R} (d : Doubted) (name : List ℕ) (s kept : �
     carries = λ carried.
         carries_let s b fell_left old new lets (omega (arith, call.below, call.stands.disk_sets.few)) fell_arrives.site fell_arrives.packets fell_arrives.gathering
         (λ is_up. down_up (sym (ap (λ (y : Node). y.state) fell_arrives.node) ∙ is_up)) (told_by old new s (Over o) (Over p) call.changed) carried;
-    rose = calls_rose b old new s o p call many;
+    rose = calls_rose b old new s o p resting many;
   }

@@ -126,11 +126,11 @@ why_disk other = 0
 abbrev pub unfused_with : GroupNode → Node → Node
 unfused_with note n = record n { group = Some note; fuse = NoFuse }
 
-same_disks : (o n : Option Disks) → (P : Disks → Disks → Type 0) → WithDisks o n P → is_rack n ≡ is_rack o
-same_disks None None P it = refl
-same_disks None (Some n) P it = absurd it
-same_disks (Some o) None P it = absurd it
-same_disks (Some o) (Some n) P it = refl
+pub failing_rack : (o n : Option Disks) → (P : Disks → Disks → Type 0) → WithDisks o n P → is_rack n ≡ is_rack o
+failing_rack None None P it = refl
+failing_rack None (Some n) P it = absurd it
+failing_rack (Some o) None P it = absurd it
+failing_rack (Some o) (Some n) P it = refl
 
 module _ {R : Type 0} {g : Ghosts R} where
   pub imported_disks : (e : GroupSite R g) → (as_imported e).disks ≡ (site_disks e).disks
@@ -193,7 +193,7 @@ module _ {R : Type 0} {g : Ghosts R} where
       → FusedAs n before → FusedAs m (OfGroup next)
   fused_keeps n m before after set next was is fuse failing keeps h =
       fused_goes n m (OfGroup set) (OfGroup next) fuse
-      (same_disks (site_disks set.site).disks (site_disks next.site).disks (λ o x. (u : ℕ) → x.failing u ≡ o.failing u)
+      (failing_rack (site_disks set.site).disks (site_disks next.site).disks (λ o x. (u : ℕ) → x.failing u ≡ o.failing u)
       (subst (λ (y : DiskSet R g). WithDisks (site_disks set.site).disks (disks_told y) (λ o x. (u : ℕ) → x.failing u ≡ o.failing u)) is
       (subst (λ (y : DiskSet R g). WithDisks (disks_told y) (disks_told after) (λ o x. (u : ℕ) → x.failing u ≡ o.failing u)) was failing.told)))
       (λ o x at now. keeps.goes o x (imported_disks set.site ∙ at) now) (subst (λ (y : DiskSet R g). FusedAs n y) was h)

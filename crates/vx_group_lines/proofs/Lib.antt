@@ -1,4 +1,12 @@
 pub mod Arriving
+pub mod AwayCalls
+pub mod AwayEvents
+pub mod AwayFound
+pub mod AwayHeld
+pub mod AwayLost
+pub mod AwayPlain
+pub mod AwayRose
+pub mod AwayTakes
 pub mod GroupAt
 pub mod GroupLeads
 pub mod Tests
@@ -9,6 +17,7 @@ pub mod RvgNotes
 pub mod RvgAt
 pub mod RvgCalls
 pub mod RvgFacts
+pub mod RvgShown
 pub mod RvgStanding
 pub mod RvgGained
 pub mod RvgLeads

@@ -13,6 +13,7 @@ use Rattle.vx_history.specs.World.{Gathering, Node, NoFuse, Volume, World}
 use Rattle.vx_order.specs.declared.facts.SiteFacts.{SiteFacts}
 use Rattle.vx_rvg.specs.Views.{Core}
 use Rattle.vx_grouped.specs.GroupSites.{DownNoted}
+use Rattle.vx_grouped.specs.SiteReturns.{as_imported, is_dimmed}
 use Rattle.vx_diskset.specs.Aboves.{below_site, site_in}
 use Rattle.vx_diskset.specs.Asked.{FailsAs, FusedAs, SameFailing}
 use Rattle.vx_diskset.specs.Holds.{KeptBeside, beside_of, doubt_of, header_links}
@@ -39,6 +40,9 @@ use Rattle.vx_yard.specs.declared.yard.Yard.{Yard}
 use Rattle.vx_above.proofs.OverSites.{site_named, site_noted}
 use Rattle.vx_group_lines.specs.Noting.{made_facts}
 use Rattle.vx_group_lines.proofs.Arriving.{Arrives}
+use Rattle.vx_group_lines.proofs.GroupAt.{loose_down}
+use Rattle.vx_group_lines.proofs.Returning.{SitsOn}
+use Rattle.vx_group_lines.proofs.Rising.{sits_down}
 
 -- ---- the node
 
@@ -82,6 +86,13 @@ module _ {R : Type 0} {g : Ghosts R} where
     pub changed : Changed old new s (Over o) after
     pub failing : SameFailing (Over o) after
 
+  -- a call on the disks of a site that is down or was deported, as an import sees them
+  pub record RestCall (b : Doubted) (old new : Yard R g) (s : ℕ) (o : OverSet R g) (after : DiskSet R g) : Type 0 where
+    pub changed : Changed old new s (Over o) after
+    pub noted : SiteNoted (b.world.nodes s) (note_at (b.world.nodes s)) (Over o)
+    pub sits : SitsOn (below_rvg (b.world.nodes s)) (as_imported (site_in o))
+    pub loose : is_dimmed (site_in o) ≡ true → (note_at (b.world.nodes s)).loose ≡ true
+
   module _ (b : Doubted) (old new : Yard R g) (s : ℕ) (o : OverSet R g) (after : DiskSet R g) (call : DownCall b old new s o after) where
     abbrev n : Node
     n = b.world.nodes s
@@ -112,6 +123,9 @@ module _ {R : Type 0} {g : Ghosts R} where
 
     pub rest_fell : DownNoted (below_rvg (b.world.nodes s)) (note_at (b.world.nodes s)) (site_in o)
     rest_fell = fell_noted n (below_rvg n) note (beside_of b s) o.site rest_stood.1 call.down rest_noted.0
+
+    pub rest_call : RestCall b old new s o after
+    rest_call = record { changed = call.changed; noted = rest_noted; sits = sits_down (below_rvg n) note (site_in o) rest_fell; loose = loose_down (below_rvg n) note (site_in o) rest_fell }
 
     pub rest_unfused : (b.world.nodes s).fuse ≡ NoFuse
     rest_unfused = fell_unfused n (below_rvg n) note (beside_of b s) o.site rest_stood.1 call.down rest_noted.0

@@ -42,23 +42,23 @@ use Rattle.vx_yard.specs.declared.yard.Yard.{Yard}
 use Rattle.vx_group_lines.specs.RvgRises.{RaisesFor, RaisesShort, RestsSo, rests_as}
 use Rattle.vx_group_lines.proofs.Dimming.{knows_none, no_call, none_found}
 use Rattle.vx_group_lines.proofs.GroupAt.{lit_down}
-use Rattle.vx_group_lines.proofs.RvgComing.{DownCall, fell_noted, rest_named}
+use Rattle.vx_group_lines.proofs.RvgComing.{DownCall, RestCall, fell_noted, rest_call, rest_named}
 use Rattle.vx_group_lines.proofs.RvgRests.{left_arrives, left_is, left_world, rests_carries, rests_stands}
 use Rattle.vx_group_lines.proofs.RvgReturns.{call_named, calls_are_of, calls_at, calls_rose}
 use Rattle.vx_group_lines.proofs.RvgRose.{note_before}
 
 -- ---- the note
 
-held_refused : (dims : Bool) (note : GroupNode) → NotesRefused note (note_held false dims note)
+pub held_refused : (dims : Bool) (note : GroupNode) → NotesRefused note (note_held false dims note)
 held_refused true note = inr refl
 held_refused false note = inl refl
 
-held_unfound : (loosens dims : Bool) (note : GroupNode) → NotesUnfound note (note_held loosens dims note)
+pub held_unfound : (loosens dims : Bool) (note : GroupNode) → NotesUnfound note (note_held loosens dims note)
 held_unfound false dims note = inl (held_refused dims note)
 held_unfound true true note = inr (inr refl)
 held_unfound true false note = inr (inl refl)
 
-held_short : (dims : Bool) (note : GroupNode) → (dims ≡ true → (note.loose ≡ true) ⊎ (note.dark ≡ true)) → NotesShort note (note_held false dims note)
+pub held_short : (dims : Bool) (note : GroupNode) → (dims ≡ true → (note.loose ≡ true) ⊎ (note.dark ≡ true)) → NotesShort note (note_held false dims note)
 held_short false note more = inl refl
 held_short true note more = ⊎_elim
     (λ (loose : note.loose ≡ true). inr (loose, refl))
@@ -66,11 +66,11 @@ held_short true note more = ⊎_elim
     (more refl)
 
 -- a note that is as it was: the import had written nothing, and nothing was found
-record AsNoted (loosens dims : Bool) : Type 0 where
-  tight : loosens ≡ false
-  lit : dims ≡ false
+pub record AsNoted (loosens dims : Bool) : Type 0 where
+  pub tight : loosens ≡ false
+  pub lit : dims ≡ false
 
-held_same : (loosens dims : Bool) (note : GroupNode) → AsNoted loosens dims → note_held loosens dims note ≡ note
+pub held_same : (loosens dims : Bool) (note : GroupNode) → AsNoted loosens dims → note_held loosens dims note ≡ note
 held_same loosens dims note it =
     ap (λ (b : Bool). note_held b dims note) it.tight ∙ ap (λ (b : Bool). note_held false b note) it.lit
 
@@ -82,6 +82,9 @@ module _ {R : Type 0} {g : Ghosts R} (d : Doubted) (s kept : ℕ) (taken : Bool)
 
   abbrev n : Node
   n = (rests_as d s kept taken).world.nodes s
+
+  abbrev resting : RestCall b old new s o (Over p)
+  resting = rest_call b old new s o (Over p) call
 
   abbrev note : GroupNode
   note = note_at ((rests_as d s kept taken).world.nodes s)
@@ -103,11 +106,11 @@ module _ {R : Type 0} {g : Ghosts R} (d : Doubted) (s kept : ℕ) (taken : Bool)
 
   -- what the calls named
   abbrev fails : ℕ → Fails
-  fails many = calls_at b old new s o p call many
+  fails many = calls_at b old new s o p resting many
 
   fails_in : (many disk : ℕ) → disk < many → Rose ((as_imported (site_in o)).disk_faults disk) ((site_disks (site_in p)).disk_faults disk) → Contains (fails many) (s, disk)
   fails_in many disk low rose =
-      call_named b old new s o p call many disk ((as_imported (site_in o)).disk_faults disk) ((site_disks (site_in p)).disk_faults disk) low (omega (arith, (imported_same {R = R} {g = g} (site_in o)).counts disk)) rose (omega arith)
+      call_named b old new s o p resting many disk ((as_imported (site_in o)).disk_faults disk) ((site_disks (site_in p)).disk_faults disk) low (omega (arith, (imported_same {R = R} {g = g} (site_in o)).counts disk)) rose (omega arith)
 
   abbrev import_units : ℕ
   import_units = (as_imported (site_in o)).units
@@ -148,14 +151,14 @@ module _ {R : Type 0} {g : Ghosts R} (d : Doubted) (s kept : ℕ) (taken : Bool)
       works = ends;
       stands = rests_stands d s kept taken rests old new o p call n.session next table named h.noted h.stands left (left_arrives d s kept taken rests old new o p call next) refl facts;
       carries = λ was. rests_carries d s kept taken rests old new o p call n.session next table named h.noted h.stands left (left_arrives d s kept taken rests old new o p call next) refl load was;
-      rose = calls_rose b old new s o p call many;
+      rose = calls_rose b old new s o p resting many;
     }
 
     -- what was found, of which nothing was known, was refused
     held_unknown : (many : ℕ) (why : No) → FailsOrNone (fails many) s why → KnowsNothing (IsTold new) note → RaisesFor d (Recover name) s kept taken (Refused why) old new
     held_unknown many why because nothing =
         held_for many why
-        (inr (FindsNoRvg kept taken true next why rests.over (calls_are_of b old new s o p call many) tt (nothing_before nothing) because
+        (inr (FindsNoRvg kept taken true next why rests.over (calls_are_of b old new s o p resting many) tt (nothing_before nothing) because
         (subst (λ (k : GroupNode). NotesUnfound k next) (note_before d s kept taken rests old new o p call) (held_unfound h.loosens h.dims note)) refl
         (left_is d s kept taken rests old new o p call name next)))
 
@@ -163,7 +166,7 @@ module _ {R : Type 0} {g : Ghosts R} (d : Doubted) (s kept : ℕ) (taken : Bool)
     held_unfound_for : (many : ℕ) (why : No) → NotFound s note (fails many) why → NotFoundLeaves why note next → RaisesFor d (Recover name) s kept taken (Refused why) old new
     held_unfound_for many why not leaves =
         held_for many why
-        (inl (GroupUnfound name kept taken true why next rests.over refl (calls_are_of b old new s o p call many)
+        (inl (GroupUnfound name kept taken true why next rests.over refl (calls_are_of b old new s o p resting many)
         (subst (λ (k : GroupNode). NotFound s k (fails many) why) (note_before d s kept taken rests old new o p call) not)
         (subst (λ (k : GroupNode). NotFoundLeaves why k next) (note_before d s kept taken rests old new o p call) leaves) refl (left_is d s kept taken rests old new o p call name next)))
 
@@ -187,7 +190,7 @@ module _ {R : Type 0} {g : Ghosts R} (d : Doubted) (s kept : ℕ) (taken : Bool)
         by true is = held_unknown (disk + 1) (Device disk) failed (nothing_by (h.loose is))
         by false is =
             held_for (disk + 1) (Device disk)
-            (inl (GroupHeld name kept taken true disk next rests.over refl (calls_are_of b old new s o p call (disk + 1)) failed
+            (inl (GroupHeld name kept taken true disk next rests.over refl (calls_are_of b old new s o p resting (disk + 1)) failed
             (subst (λ (k : GroupNode). NotesRefused k next) (note_before d s kept taken rests old new o p call)
             (subst (λ (l : Bool). NotesRefused note (note_held l h.dims note)) (sym is) (held_refused h.dims note))) refl (left_is d s kept taken rests old new o p call name next)))
 
@@ -231,7 +234,7 @@ module _ {R : Type 0} {g : Ghosts R} (d : Doubted) (s kept : ℕ) (taken : Bool)
     pub held_memory : stop ≡ MemoryStop → RaisesShort d (Recover name) s kept taken old new
     held_memory is = record {
       next = left;
-      part = ShortGroup name kept taken true next rests.over refl
+      part = ShortGroup kept taken true next rests.over tt
           (subst (λ (k : GroupNode). NotesShort k next) (note_before d s kept taken rests old new o p call)
           (subst (λ (l : Bool). NotesShort note (note_held l h.dims note)) (sym (h.short is).0) (held_short h.dims note (h.short is).1)))
           (left_is d s kept taken rests old new o p call name next);

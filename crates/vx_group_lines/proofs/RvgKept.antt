@@ -59,7 +59,7 @@ use Rattle.vx_group_lines.specs.Noting.{made_facts}
 use Rattle.vx_group_lines.specs.RvgRises.{RaisesFor, RestsSo, rests_as, rests_world}
 use Rattle.vx_group_lines.proofs.Arriving.{Arrives, arrives_noted, noted_at}
 use Rattle.vx_group_lines.proofs.BelowOff.{FellSo, fell_so}
-use Rattle.vx_group_lines.proofs.RvgComing.{DownCall, rest_named, rest_noted, rest_stood, stands_so}
+use Rattle.vx_group_lines.proofs.RvgComing.{DownCall, RestCall, rest_call, rest_named, rest_noted, rest_stood, stands_so}
 use Rattle.vx_group_lines.proofs.RvgReturns.{call_named, calls_are_of, calls_at, calls_rose, extra_at, group_back, group_works, many_at, named_again}
 use Rattle.vx_group_lines.proofs.RvgRose.{arrives, below_rest, came_first, keeps_back, keeps_next, links_rest, note_before, origin_rest, over, risen, risen_world, seen, some_rest, sure_rest}
 use Rattle.vx_group_lines.proofs.RvgWorlds.{beside_as, fell_back_arrives, fell_back_headers, kept_at, rest_then}
@@ -87,6 +87,9 @@ module _ {R : Type 0} {g : Ghosts R} where
 
     abbrev n : Node
     n = (rests_as d s kept taken).world.nodes s
+
+    abbrev resting : RestCall b old new s o (Over p)
+    resting = rest_call b old new s o (Over p) call
 
     abbrev note : GroupNode
     note = note_at ((rests_as d s kept taken).world.nodes s)
@@ -206,25 +209,25 @@ module _ {R : Type 0} {g : Ghosts R} where
     -- ---- the line
 
     abbrev extra : ℕ
-    extra = extra_at b old new s o p call r.laid r.group x r.to last next r.over.works r.over.goes r.over.agrees + disk + 1
+    extra = extra_at b old new s o p resting r.laid r.group x r.to last next r.over.works r.over.goes r.over.agrees + disk + 1
 
     abbrev many : ℕ
-    many = many_at b old new s o p call r.laid r.group x r.to last extra
+    many = many_at b old new s o p resting r.laid r.group x r.to last extra
 
     abbrev fails : Fails
-    fails = calls_at b old new s o p call many
+    fails = calls_at b old new s o p resting many
 
     failed : Contains fails (s, disk)
     failed =
-        call_named b old new s o p call many disk ((site_disks (site_in x)).disk_faults disk) ((site_disks (site_in p)).disk_faults disk) (omega arith) (omega (arith, r.group.from disk, r.to disk)) looked.3 (omega arith)
+        call_named b old new s o p resting many disk ((site_disks (site_in x)).disk_faults disk) ((site_disks (site_in p)).disk_faults disk) (omega arith) (omega (arith, r.group.from disk, r.to disk)) looked.3 (omega arith)
 
     back : NotesBack (IsTold new) s (d.world.nodes s) fails (note_at (d.world.nodes s)) r.group.middle
     back =
         subst (λ (k : GroupNode). NotesBack (IsTold new) s (d.world.nodes s) fails k r.group.middle) (note_before d s kept taken rests old new o p call)
-        (group_back b old new s o p call r.laid r.group x r.to last (d.world.nodes s) extra rests.disks rests.blocks (λ _. r.told))
+        (group_back b old new s o p resting r.laid r.group x r.to last (d.world.nodes s) extra rests.disks rests.blocks (λ _. r.told))
 
     works : NotesWork ⊥ s fails r.group.middle next
-    works = group_works b old new s o p call r.laid r.group x r.to last next r.over.works r.over.goes r.over.agrees extra (omega arith)
+    works = group_works b old new s o p resting r.laid r.group x r.to last next r.over.works r.over.goes r.over.agrees extra (omega arith)
 
     some : (note_at (d.world.nodes s)).cut ≡ None → ⊥
     some none = some_cut next cut looked.2 (cut_note ∙ ap (λ (k : GroupNode). k.cut) (note_before d s kept taken rests old new o p call) ∙ none)
@@ -234,7 +237,7 @@ module _ {R : Type 0} {g : Ghosts R} where
 
     ends : (name : List ℕ) → RvgBack (IsTold new) d (Recover name) s fails (Refused (Device disk)) fell_world
     ends name =
-        KeptLost name kept taken disk r.group.middle lost rests.over some refl (calls_are_of b old new s o p call many) failed back
+        KeptLost name kept taken disk r.group.middle lost rests.over some refl (calls_are_of b old new s o p resting many) failed back
         (subst (λ (k : GroupNode). NoteKeepsRvg k r.group.middle) (note_before d s kept taken rests old new o p call) (keeps_back d s kept taken rests old new o p call x r last))
         (record { worked = next; works = works; is = cut_before }) refl
         (subst (λ (e : Doubted). IsLeftBack s (Recover name) taken lost d e fell_world) (sym (rest_then d s kept taken (RecoverAt s None ∷ CrashAt s 0 ∷ []))) (record { world = refl; after = λ i. refl; strayed = refl }))
@@ -250,5 +253,5 @@ module _ {R : Type 0} {g : Ghosts R} where
       carries = λ was.
           carries_let s b fell_world old new lets (omega (arith, call.below, call.stands.disk_sets.few)) fell_arrives.site fell_arrives.packets fell_arrives.gathering
           (λ is_up. down_up (sym (ap (λ (k : Node). k.state) fell_arrives.node) ∙ is_up)) (told_by old new s (Over o) (Over p) call.changed) was;
-      rose = calls_rose b old new s o p call many;
+      rose = calls_rose b old new s o p resting many;
     }

@@ -1,6 +1,6 @@
 -- What a recovery of a site whose group has a replicated volume group leads its yard to, where the group came up and the replicated volume group did not.
-use Rattle.std.proofs.Common.{◌≡◌, ◌∙◌, ◌++◌, ◌+◌, ◌<◌, ◌≤◌, ℕ, zero, suc, Bool, true, false, List, [], ◌∷◌, length, map, ap, sym, subst, refl, arith, inl, inr, ⊎_elim}
-use Rattle.std.specs.Prelude.{Contains, Option, Some, slice_get, slice_set}
+use Rattle.std.proofs.Common.{◌≡◌, ◌∙◌, ◌++◌, ◌+◌, ◌<◌, ◌≤◌, ℕ, Bool, true, false, List, [], ◌∷◌, map, ap, sym, subst, refl, arith, inl, inr, ⊎_elim}
+use Rattle.std.specs.Prelude.{Contains, Option, Some, slice_set}
 use Rattle.vx_model.specs.Content.{Content}
 use Rattle.vx_model.specs.declared.errors.Stop.{Stop}
 use Rattle.vx_model.specs.declared.limits.TheConstants.{MOST_NUMBER}
@@ -11,7 +11,6 @@ use Rattle.vx_model.specs.declared.no.No.TheVariants.{Device, Limit}
 use Rattle.vx_disk.specs.Counts.{Rose}
 use Rattle.vx_disk.specs.Shelf.{Meaning}
 use Rattle.vx_disk.specs.declared.shelf.Shelf.{Ghosts}
-use Rattle.vx_config.specs.Changes.{Matched}
 use Rattle.vx_config.specs.declared.config.Config.{Config}
 use Rattle.vx_history.specs.Doubts.{Doubted}
 use Rattle.vx_history.specs.Groups.{GroupNode}
@@ -19,15 +18,13 @@ use Rattle.vx_history.specs.World.{Node}
 use Rattle.vx_history.specs.declared.event.Event.{Event}
 use Rattle.vx_history.specs.declared.event.Event.TheVariants.{Recover as RecoverAt}
 use Rattle.vx_script.specs.declared.line.ScriptLine.TheVariants.{Recover}
-use Rattle.vx_grouped.specs.ConfigMoves.{AnyState, OpensMoves, StateMoves, VolumeMoves, none_again}
 use Rattle.vx_grouped.specs.GroupSites.{laid_disks, site_disks}
-use Rattle.vx_grouped.specs.SiteReturns.{as_imported}
 use Rattle.vx_diskset.proofs.NotedLikes.{cut_stays}
 use Rattle.vx_diskset.specs.Aboves.{site_in}
 use Rattle.vx_diskset.specs.DiskSets.{no_number}
 use Rattle.vx_diskset.specs.Holds.{beside_of, most_header}
 use Rattle.vx_diskset.specs.Noted.{IsNamed}
-use Rattle.vx_diskset.specs.OverRises.{LostAgain, SessionFrom, note_ready, rest_in}
+use Rattle.vx_diskset.specs.OverRises.{LostAgain, SessionFrom, rest_in}
 use Rattle.vx_diskset.specs.declared.disk_set.DiskSet.TheVariants.{Over}
 use Rattle.vx_diskset.specs.declared.over_set.OverSet.{OverSet}
 use Rattle.vx_events.proofs.RvgStays.{loses, then_keeps}
@@ -49,24 +46,16 @@ use Rattle.vx_yard.proofs.CrashLine.{rose_still}
 use Rattle.vx_yard.specs.Stands.{RoseAll}
 use Rattle.vx_yard.specs.Yards.{IsTold, count_of}
 use Rattle.vx_yard.specs.declared.yard.Yard.{Yard}
-use Rattle.vx_above.proofs.Changing.{notes_table}
-use Rattle.vx_above.proofs.Losing.{fact_moves, facts_move, same_map}
 use Rattle.vx_above.proofs.Tables.{table_like}
 use Rattle.vx_above.proofs.RiseWorlds.{own_headers, own_is, own_node}
 use Rattle.vx_group_lines.specs.RvgRises.{RaisesFor, RaisesShort, RestsSo, rests_as, rests_world}
 use Rattle.vx_group_lines.proofs.Arriving.{Arrives}
-use Rattle.vx_group_lines.proofs.RvgComing.{DownCall, rest_named, rest_noted}
+use Rattle.vx_group_lines.proofs.RvgComing.{DownCall, RestCall, rest_call, rest_named, rest_noted}
 use Rattle.vx_group_lines.proofs.RvgReturns.{call_named, calls_are_of, calls_at, calls_rose, extra_at, group_back, group_keeps, group_works, many_at, named_again}
 use Rattle.vx_group_lines.proofs.RvgRests.{begun_is, begun_left, begun_world, headers_begun, left_arrives, left_is, left_none, left_world, rests_carries, rests_stands}
 use Rattle.vx_group_lines.proofs.RvgRose.{note_before}
-
--- two lists that are as long match wherever they do in the places of one
-all_matched : {A : Type 0} (P : A → A → Type 0) (us vs : List A) → length us ≡ length vs → ((v : ℕ) → v < length us → Matched P (slice_get us v) (slice_get vs v)) → (v : ℕ) → Matched P (slice_get us v) (slice_get vs v)
-all_matched P [] [] same each v = tt
-all_matched P [] (y ∷ ys) same each v = absurd (omega (arith, same))
-all_matched P (x ∷ xs) [] same each v = absurd (omega (arith, same))
-all_matched P (x ∷ xs) (y ∷ ys) same each zero = each 0 (omega arith)
-all_matched P (x ∷ xs) (y ∷ ys) same each (suc v) = all_matched P xs ys (omega (arith, same)) (λ k below. each (suc k) (omega (arith, below))) v
+use Rattle.vx_group_lines.proofs.RvgShown.{shown_same}
+use Rattle.vx_diskset.specs.Layouts.{units_of}
 
 -- the numbers of a log have nothing to do with the disks that are made to fail
 own_stamp : (b : Bool) (was n : Node) → most_stamp (own_node b was n) ≡ most_stamp n
@@ -80,6 +69,9 @@ module _ {R : Type 0} {g : Ghosts R} (d : Doubted) (s kept : ℕ) (taken : Bool)
 
   abbrev n : Node
   n = (rests_as d s kept taken).world.nodes s
+
+  abbrev resting : RestCall b old new s o (Over p)
+  resting = rest_call b old new s o (Over p) call
 
   abbrev note : GroupNode
   note = note_at ((rests_as d s kept taken).world.nodes s)
@@ -105,27 +97,27 @@ module _ {R : Type 0} {g : Ghosts R} (d : Doubted) (s kept : ℕ) (taken : Bool)
   -- ---- its note
 
   abbrev extra : ℕ → ℕ
-  extra more = extra_at b old new s o p call r.laid r.group p r.to last r.worked r.works r.goes r.agrees + more
+  extra more = extra_at b old new s o p resting r.laid r.group p r.to last r.worked r.works r.goes r.agrees + more
 
   abbrev many : ℕ → ℕ
-  many more = many_at b old new s o p call r.laid r.group p r.to last (extra more)
+  many more = many_at b old new s o p resting r.laid r.group p r.to last (extra more)
 
   abbrev fails : ℕ → Fails
-  fails more = calls_at b old new s o p call (many more)
+  fails more = calls_at b old new s o p resting (many more)
 
   back : (more : ℕ) → NotesBack (IsTold new) s (d.world.nodes s) (fails more) (note_at (d.world.nodes s)) r.group.middle
   back more =
       subst (λ (k : GroupNode). NotesBack (IsTold new) s (d.world.nodes s) (fails more) k r.group.middle) (note_before d s kept taken rests old new o p call)
-      (group_back b old new s o p call r.laid r.group p r.to last (d.world.nodes s) (extra more) rests.disks rests.blocks (λ _. r.told))
+      (group_back b old new s o p resting r.laid r.group p r.to last (d.world.nodes s) (extra more) rests.disks rests.blocks (λ _. r.told))
 
   keeps_here : NoteKeepsRvg note r.group.middle
-  keeps_here = group_keeps b old new s o p call r.laid r.group p r.to last r.told r.named
+  keeps_here = group_keeps b old new s o p resting r.laid r.group p r.to last r.told r.named
 
   keeps : NoteKeepsRvg (note_at (d.world.nodes s)) r.group.middle
   keeps = subst (λ (k : GroupNode). NoteKeepsRvg k r.group.middle) (note_before d s kept taken rests old new o p call) keeps_here
 
   works : (more : ℕ) → NotesWork ⊥ s (fails more) r.group.middle r.worked
-  works more = group_works b old new s o p call r.laid r.group p r.to last r.worked r.works r.goes r.agrees (extra more) (omega arith)
+  works more = group_works b old new s o p resting r.laid r.group p r.to last r.worked r.works r.goes r.agrees (extra more) (omega arith)
 
   -- the same as the site noted it before it came to rest
   cut_before : lost_note ≡ (let k : GroupNode = record r.worked { cut = (note_at (d.world.nodes s)).cut } in k)
@@ -150,22 +142,8 @@ module _ {R : Type 0} {g : Ghosts R} (d : Doubted) (s kept : ℕ) (taken : Bool)
 
   -- ---- what is seen of it
 
-  -- the import found the volumes that were noted
-  found_same : map plain_fact r.group.config.now.volumes ≡ map plain_fact r.group.config.was.volumes
-  found_same = ⊎_elim
-      (λ (tight : note.loose ≡ false).
-      same_map plain_fact (VolumeMoves (OpensMoves (as_imported (site_in o)) mid)) (fact_moves (OpensMoves (as_imported (site_in o)) mid)) r.group.config.was.volumes r.group.config.now.volumes
-      (r.group.config.opens r.told tight ((rest_noted b old new s o (Over p) call).3.tidy tight)))
-      (λ (many_same : length r.group.config.now.volumes ≡ length r.group.config.was.volumes).
-      same_map plain_fact (VolumeMoves AnyState) (fact_moves AnyState) r.group.config.was.volumes r.group.config.now.volumes
-      (all_matched (VolumeMoves AnyState) r.group.config.was.volumes r.group.config.now.volumes (sym many_same) (λ v below. r.group.config.change.volumes r.told v below)))
-      r.seen
-
   table_same : map plain_fact (entries_noted lost_note) ≡ map plain_fact (entries_noted note)
-  table_same =
-      notes_table r.worked r.goes.now r.goes.noted_now ∙ facts_move none_again (StateMoves mid now) mid now r.goes.was r.goes.now r.goes.change
-      ∙ sym (notes_table r.group.middle r.goes.was r.goes.noted) ∙ notes_table r.group.middle r.group.config.now r.group.config.noted_now ∙ found_same
-      ∙ sym (notes_table (note_ready (site_in o) note) r.group.config.was r.group.config.noted)
+  table_same = shown_same n note (site_in o) (site_in p) r.laid r.group r.told (units_of n) (rest_noted b old new s o (Over p) call).3 r.seen r.worked r.goes
 
   rvg_same : rvg_noted lost_note ≡ rvg_noted note
   rvg_same =
@@ -197,13 +175,13 @@ module _ {R : Type 0} {g : Ghosts R} (d : Doubted) (s kept : ℕ) (taken : Bool)
       works = inl ends;
       stands = rests_stands d s kept taken rests old new o p call r.session lost_note table named r.noted r.stands (left_world d s kept taken rests old new o p call lost_note) arrives refl facts;
       carries = λ before. rests_carries d s kept taken rests old new o p call r.session lost_note table named r.noted r.stands (left_world d s kept taken rests old new o p call lost_note) arrives refl load before;
-      rose = calls_rose b old new s o p call (many more);
+      rose = calls_rose b old new s o p resting (many more);
     }
 
     lost_short : (name : List ℕ) → r.worked ≡ r.group.middle → RaisesShort d (Recover name) s kept taken old new
     lost_short name unbegun = record {
       next = left_world d s kept taken rests old new o p call lost_note;
-      part = ShortLog name kept taken (fails 0) r.group.middle lost_note rests.over refl (calls_are_of b old new s o p call (many 0)) (back 0) keeps
+      part = ShortLog kept taken (fails 0) r.group.middle lost_note rests.over tt (calls_are_of b old new s o p resting (many 0)) (back 0) keeps
           (cut_before ∙ ap (λ (x : GroupNode). let k : GroupNode = record x { cut = (note_at (d.world.nodes s)).cut } in k) unbegun) (left_is d s kept taken rests old new o p call name lost_note);
       stands = rests_stands d s kept taken rests old new o p call r.session lost_note table named r.noted r.stands (left_world d s kept taken rests old new o p call lost_note) arrives refl facts;
       carries = λ before. rests_carries d s kept taken rests old new o p call r.session lost_note table named r.noted r.stands (left_world d s kept taken rests old new o p call lost_note) arrives refl load before;
@@ -228,18 +206,18 @@ module _ {R : Type 0} {g : Ghosts R} (d : Doubted) (s kept : ℕ) (taken : Bool)
           works = inl ends;
           stands = rests_stands d s kept taken rests old new o p call r.session lost_note table named r.noted r.stands e arrives headers facts;
           carries = λ before. rests_carries d s kept taken rests old new o p call r.session lost_note table named r.noted r.stands e arrives headers load before;
-          rose = calls_rose b old new s o p call (many more);
+          rose = calls_rose b old new s o p resting (many more);
         }
 
   -- a disk failed
   module _ (disk : ℕ) (rose : Rose ((site_disks (site_in o)).disk_faults disk) ((site_disks (site_in p)).disk_faults disk)) where
     failed : Contains (fails (disk + 1)) (s, disk)
-    failed = call_named b old new s o p call (many (disk + 1)) disk (was.disk_faults disk) (now.disk_faults disk) (omega arith) (omega arith) rose (omega arith)
+    failed = call_named b old new s o p resting (many (disk + 1)) disk (was.disk_faults disk) (now.disk_faults disk) (omega arith) (omega arith) rose (omega arith)
 
     fails_end : (name : List ℕ) (left : List Event) (e : Doubted) → SessionLeft s disk left → IsLeftBut true s (Recover name) taken lost_note d (run_as taken d (fall_first (d.world.nodes s).state s kept ++ left)) e
         → RvgBack (IsTold new) d (Recover name) s (fails (disk + 1)) (Refused (Device disk)) e
     fails_end name left e session leaves =
-        LogFails name kept taken disk r.group.middle lost_note left rests.over refl (calls_are_of b old new s o p call (many (disk + 1))) failed (back (disk + 1)) keeps (works_cut (disk + 1)) session refl leaves
+        LogFails name kept taken disk r.group.middle lost_note left rests.over refl (calls_are_of b old new s o p resting (many (disk + 1))) failed (back (disk + 1)) keeps (works_cut (disk + 1)) session refl leaves
 
     pub lost_device : (name : List ℕ) → SessionFrom n r.session → new.facts.items ≡ slice_set old.facts.items s (linked_fact (rests_as d s kept taken).world s) → SameLoad old new
         → RaisesFor d (Recover name) s kept taken (Refused (Device disk)) old new
@@ -264,7 +242,7 @@ module _ {R : Type 0} {g : Ghosts R} (d : Doubted) (s kept : ℕ) (taken : Bool)
   lost_limit name what most same is lacks facts load =
       subst (λ (why : No). RaisesFor d (Recover name) s kept taken (Refused why) old new) (sym is)
       (lost_for same facts load name 0 (Refused (Limit Number MOST_NUMBER))
-      (LogLacks name kept taken r.group.middle lost_note rests.over refl (calls_are_of b old new s o p call (many 0)) (back 0) keeps (works_cut 0) (λ _. omega (arith, lacks, stamps)) refl
+      (LogLacks name kept taken r.group.middle lost_note rests.over refl (calls_are_of b old new s o p resting (many 0)) (back 0) keeps (works_cut 0) (λ _. omega (arith, lacks, stamps)) refl
       (left_is d s kept taken rests old new o p call name lost_note)))
 
   -- memory was wanted

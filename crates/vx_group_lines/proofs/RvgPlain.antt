@@ -104,7 +104,7 @@ none_places sites = record {
   filled = λ place low. let none : links_in sites (λ k. no_link) ≡ 0 = count_none sites (λ k. is_linked no_link) (λ k. refl) in absurd (omega (arith, low, none));
 }
 
-none_fits : (p sites : ℕ) → RowFits p sites (λ k. no_link)
+pub none_fits : (p sites : ℕ) → RowFits p sites (λ k. no_link)
 none_fits p sites = record {
   places = none_places sites;
   apart = λ k linked same. let e : false ≡ true = linked in absurd (cc);
@@ -134,7 +134,7 @@ made_fact volumes b s next m is down table =
 
 module _ {R : Type 0} {g : Ghosts R} where
   -- a group that is up by another node
-  up_as : (n k : Node) → IsLikeGroup n k → (note : GroupNode) (e : GroupSite R g) → UpNoted n note e → UpNoted k note e
+  pub up_as : (n k : Node) → IsLikeGroup n k → (note : GroupNode) (e : GroupSite R g) → UpNoted n note e → UpNoted k note e
   up_as n k like note (SiteUp laid) it = up_like n k like note (laid_below laid).tells laid.core (laid_disks laid) it
   up_as n k like note (SiteAway idle) it = absurd it
   up_as n k like note (SiteDown idle) it = absurd it

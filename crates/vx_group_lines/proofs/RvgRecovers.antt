@@ -15,6 +15,7 @@ use Rattle.vx_history.specs.Doubts.{Doubted, happened}
 use Rattle.vx_history.specs.Groups.{GroupNode}
 use Rattle.vx_history.specs.World.{Node, Volume}
 use Rattle.vx_history.specs.declared.event.Event.TheVariants.{Crash as CrashAt}
+use Rattle.vx_script.specs.declared.line.ScriptLine.{ScriptLine}
 use Rattle.vx_script.specs.declared.line.ScriptLine.TheVariants.{Recover}
 use Rattle.vx_events.proofs.Parts.{none_done}
 use Rattle.vx_events.specs.Doubts.{run_as}
@@ -119,11 +120,11 @@ module _ {R : Type 0} {g : Ghosts R} where
       (ap (λ (e : Doubted). is_over_rvg (e.world.nodes s)) same ∙ over_rest) (ap (λ (e : Doubted). (e.world.nodes s).state) same ∙ f.down))
 
   -- memory ran out before anything was done
-  pub unbegun_above : (d : Doubted) (name : List ℕ) (y : Yard R g) (r : Result Said OutOfMemory) (x : OutOfMemory) → r ≡ Err x → StandsFor d y → LeadsAboveIs d (Recover name) y y r
-  unbegun_above d name y r x is stands =
-      subst (λ (q : Result Said OutOfMemory). LeadsAboveIs d (Recover name) y y q) (sym is) (record {
+  pub unbegun_above : (d : Doubted) (line : ScriptLine) (y : Yard R g) (r : Result Said OutOfMemory) (x : OutOfMemory) → r ≡ Err x → StandsFor d y → LeadsAboveIs d line y y r
+  unbegun_above d line y r x is stands =
+      subst (λ (q : Result Said OutOfMemory). LeadsAboveIs d line y y q) (sym is) (record {
         next = d;
-        part = inl (StopsInPart (none_done d (Recover name)));
+        part = inl (StopsInPart (none_done d line));
         stands = stands;
         carries = λ was. was;
         rose = rose_none (count_of y) (count_of y) (λ i u. omega arith);

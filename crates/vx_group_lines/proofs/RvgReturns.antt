@@ -1,4 +1,4 @@
--- How a recovery moves the note of a group below a replicated volume group, where its import brought the group up: by the import, and by the calls of the log then.
+-- How a recovery or an import moves the note of a group below a replicated volume group, where it brought the group up: by the import, and by the calls of the log then.
 use Rattle.std.proofs.Common.{◌≡◌, ◌∙◌, ◌+◌, ◌<◌, ◌≤◌, ℕ, length, ap, sym, subst, refl, arith, inl, inr, ⊎_elim, IsTrue}
 use Rattle.std.specs.Prelude.{List, map, Option, Some, None, Contains, slice_get, unwrap_or}
 use Rattle.std.proofs.lemmas.Option.{slice_get_within}
@@ -45,10 +45,8 @@ use Rattle.vx_above.proofs.Fails.{calls_name, calls_of}
 use Rattle.vx_above.proofs.Losing.{Names, placed_as}
 use Rattle.vx_above.proofs.Quiet.{quiet_by, rose_disk, works_note}
 use Rattle.vx_above.proofs.SiteCalls.{calls, count_new, count_old, rose_below}
-use Rattle.vx_group_lines.proofs.GroupAt.{loose_down}
 use Rattle.vx_group_lines.proofs.Returning.{SitsOn, back_of, volume_stays}
-use Rattle.vx_group_lines.proofs.Rising.{sits_down}
-use Rattle.vx_group_lines.proofs.RvgComing.{DownCall, rest_fell, rest_noted}
+use Rattle.vx_group_lines.proofs.RvgComing.{RestCall}
 
 -- a volume that stands as it did is kept
 keep_volume : (e : VolumeEntry) (o : Option VolumeEntry) → Matched VolumeStays (Some e) o → KeptVolume e o
@@ -75,7 +73,7 @@ named_again n m next volumes group keeps rests it =
       rests,
     )
 
-module _ {R : Type 0} {g : Ghosts R} (b : Doubted) (old new : Yard R g) (s : ℕ) (o p : OverSet R g) (call : DownCall b old new s o (Over p)) where
+module _ {R : Type 0} {g : Ghosts R} (b : Doubted) (old new : Yard R g) (s : ℕ) (o p : OverSet R g) (call : RestCall b old new s o (Over p)) where
   abbrev n : Node
   n = b.world.nodes s
 
@@ -127,11 +125,10 @@ module _ {R : Type 0} {g : Ghosts R} (b : Doubted) (old new : Yard R g) (s : ℕ
     pub group_back : (m : Node) (extra : ℕ) → (b.world.nodes s).disks ≡ m.disks → (b.world.nodes s).blocks ≡ m.blocks → (IsKnown (IsTold new) group.middle → IsTrue (laid_disks laid).tells)
         → NotesBack (IsTold new) s m (calls_at (many_at extra)) (note_at (b.world.nodes s)) group.middle
     group_back m extra disks blocks tells =
-        let fell = rest_fell b old new s o (Over p) call in
-        let sits : SitsOn (below_rvg n) (as_imported (site_in o)) = sits_down (below_rvg n) note (site_in o) fell in
+        let sits : SitsOn (below_rvg n) (as_imported (site_in o)) = call.sits in
         back_of (IsTold new) (is_dimmed (site_in o)) s m note middle (as_imported (site_in o)) (Up laid) (calls_at (many_at extra)) tells
         (record { units = sits.units ∙ disks; size = λ u low. sits.size u (omega (arith, low, disks)) ∙ blocks })
-        (loose_down (below_rvg n) note (site_in o) fell) group.returns group.config
+        call.loose group.returns group.config
         (λ k low rose. call_named (many_at extra) k ((as_imported (site_in o)).disk_faults k) (mid.disk_faults k) (omega (arith, low, disks))
         (omega (arith, (imported_same {R = R} {g = g} (site_in o)).counts k)) rose (omega (arith, to k, last k)))
 
@@ -141,7 +138,7 @@ module _ {R : Type 0} {g : Ghosts R} (b : Doubted) (old new : Yard R g) (s : ℕ
       now = at_serial 0 group.config.now;
       is = notes_config middle group.config.now group.config.noted_now;
       keeps = record {
-        rvg = named ∙ sym (rest_noted b old new s o (Over p) call).3.named ∙ ap (λ (x : Option Config). config_rvg x) at;
+        rvg = named ∙ sym call.noted.3.named ∙ ap (λ (x : Option Config). config_rvg x) at;
         volumes = λ v e is. keep_volume e (slice_get group.config.now.volumes v) (stays v e (ap (λ (x : Config). slice_get x.volumes v) first ∙ is));
       };
     }
@@ -154,6 +151,13 @@ module _ {R : Type 0} {g : Ghosts R} (b : Doubted) (old new : Yard R g) (s : ℕ
             subst (λ (x : Option VolumeEntry). Matched VolumeStays x (slice_get group.config.now.volumes v)) is
             (placed_as (VolumeMoves AnyState) VolumeStays (slice_get group.config.was.volumes v) (slice_get group.config.now.volumes v) (λ x y _ _ moves. volume_stays x y moves)
             (group.config.change.volumes tells v (slice_get_within group.config.was.volumes v e is)))
+
+    -- the fuse of the disks ran out in the calls of the log
+    pub group_fused : (Off : Type 0) → Off → (next : GroupNode) → NoteWorks group.middle next → (goes : ConfigGoes (LosesSome (laid_disks laid) (site_disks (site_in x))) group.middle next (Up laid) (site_in x)) → (extra : ℕ) → length goes.was.disks ≤ extra
+        → NotesWork Off s (calls_at (many_at extra)) group.middle next
+    group_fused Off off next works goes extra enough =
+        works_note s (many_at extra) (calls_at (many_at extra)) mid now (names_mid extra) Off middle next goes.was goes.now goes.noted goes.noted_now (omega (arith, enough)) goes.change
+        (record { works = works; quiet = λ none never agreed. absurd (never off) })
 
     -- what the calls of the log made of it then
     module _ (next : GroupNode) (works : NoteWorks group.middle next) (goes : ConfigGoes (LosesSome (laid_disks laid) (site_disks (site_in x))) group.middle next (Up laid) (site_in x))

@@ -69,7 +69,7 @@ use Rattle.vx_group_lines.proofs.BelowAt.{SizedUp, sized_up}
 use Rattle.vx_group_lines.proofs.GroupAt.{lit_up}
 use Rattle.vx_group_lines.proofs.Rising.{shows_cut}
 use Rattle.vx_group_lines.proofs.Arriving.{Arrives, arrives_noted, noted_at}
-use Rattle.vx_group_lines.proofs.RvgComing.{DownCall, carries_so, down_made, never_receives, rest_links, rest_named, rest_noted, rest_origin, rest_some, rest_sure, rest_unfused, stands_so}
+use Rattle.vx_group_lines.proofs.RvgComing.{DownCall, RestCall, carries_so, down_made, never_receives, rest_call, rest_links, rest_named, rest_noted, rest_origin, rest_some, rest_sure, rest_unfused, stands_so}
 use Rattle.vx_group_lines.proofs.RvgFacts.{gained_fact, up_seen}
 use Rattle.vx_group_lines.proofs.RvgReturns.{calls_are_of, calls_at, calls_rose, extra_at, group_back, group_keeps, group_works, many_at, named_again}
 use Rattle.vx_group_lines.proofs.RvgStanding.{RvgOver, rvg_over, set_volumes}
@@ -88,6 +88,9 @@ module _ {R : Type 0} {g : Ghosts R} (d : Doubted) (s kept : ℕ) (taken : Bool)
 
   abbrev n : Node
   n = (rests_as d s kept taken).world.nodes s
+
+  abbrev resting : RestCall b old new s o (Over p)
+  resting = rest_call b old new s o (Over p) call
 
   abbrev note : GroupNode
   note = note_at ((rests_as d s kept taken).world.nodes s)
@@ -137,21 +140,21 @@ module _ {R : Type 0} {g : Ghosts R} (d : Doubted) (s kept : ℕ) (taken : Bool)
     -- ---- the note
 
     abbrev pub extra : ℕ
-    extra = extra_at b old new s o p call r.laid r.group x r.to last next r.over.works r.over.goes r.over.agrees
+    extra = extra_at b old new s o p resting r.laid r.group x r.to last next r.over.works r.over.goes r.over.agrees
 
     abbrev pub fails : Fails
-    fails = calls_at b old new s o p call (many_at b old new s o p call r.laid r.group x r.to last extra)
+    fails = calls_at b old new s o p resting (many_at b old new s o p resting r.laid r.group x r.to last extra)
 
     pub back : NotesBack (IsTold new) s (d.world.nodes s) fails (note_at (d.world.nodes s)) r.group.middle
     back =
         subst (λ (k : GroupNode). NotesBack (IsTold new) s (d.world.nodes s) fails k r.group.middle) note_before
-        (group_back b old new s o p call r.laid r.group x r.to last (d.world.nodes s) extra rests.disks rests.blocks (λ _. r.told))
+        (group_back b old new s o p resting r.laid r.group x r.to last (d.world.nodes s) extra rests.disks rests.blocks (λ _. r.told))
 
     pub keeps_back : NoteKeepsRvg note r.group.middle
-    keeps_back = group_keeps b old new s o p call r.laid r.group x r.to last r.told r.named
+    keeps_back = group_keeps b old new s o p resting r.laid r.group x r.to last r.told r.named
 
     pub works : NotesWork ⊥ s fails r.group.middle next
-    works = group_works b old new s o p call r.laid r.group x r.to last next r.over.works r.over.goes r.over.agrees extra (omega arith)
+    works = group_works b old new s o p resting r.laid r.group x r.to last next r.over.works r.over.goes r.over.agrees extra (omega arith)
 
     pub keeps_next : NoteKeepsRvg note next
     keeps_next = then_keeps note r.group.middle next keeps_back (loses s fails r.group.middle next works)
@@ -280,7 +283,7 @@ module _ {R : Type 0} {g : Ghosts R} (d : Doubted) (s kept : ℕ) (taken : Bool)
 
         ends : (name : List ℕ) (said : Said) → said ≡ rvg_view last_world s next shown → RvgBack (IsTold new) d (Recover name) s fails said risen_world
         ends name said is =
-            RvgUp name kept taken r.group.middle next shown rests.over refl (calls_are_of b old new s o p call (many_at b old new s o p call r.laid r.group x r.to last extra)) back
+            RvgUp name kept taken r.group.middle next shown rests.over refl (calls_are_of b old new s o p resting (many_at b old new s o p resting r.laid r.group x r.to last extra)) back
             (subst (λ (k : GroupNode). NoteKeepsRvg k r.group.middle) note_before keeps_back) works (is ∙ says_kept) shows
             (subst (λ (e : Doubted). IsLeftBack s (Recover name) taken next d e risen_world) (sym (rest_then d s kept taken (RecoverAt s None ∷ []))) (record { world = refl; after = λ i. refl; strayed = refl }))
 
@@ -293,5 +296,5 @@ module _ {R : Type 0} {g : Ghosts R} (d : Doubted) (s kept : ℕ) (taken : Bool)
               ∙ ap (λ (k : Option Kept). Resumed (over_disks (last_world.nodes s) next (linked_view last_world s)) k) shown_is));
           stands = risen_stands facts;
           carries = λ was. carries_so b old new s o (Over p) call risen_world risen arrives (never_receives b old new s o (Over p) call risen origin_rest) load was;
-          rose = calls_rose b old new s o p call (many_at b old new s o p call r.laid r.group x r.to last extra);
+          rose = calls_rose b old new s o p resting (many_at b old new s o p resting r.laid r.group x r.to last extra);
         }

@@ -158,16 +158,18 @@ module _ {R : Type 0} {g : Ghosts R} (d : Doubted) (y : Yard R g) where
 
     -- ---- one that brings the group up, and may find one
 
-    import_works : (name : List ℕ) (r : Result Said OutOfMemory) → StandsFor d y → IsYardKept y → IsFree y (GroupImport name) → is_open d.world (GroupImport name) ≡ false
-        → (is_for_group d.world (GroupImport name) ≡ true → LeadsBesideIs d (GroupImport name) y new r) → WorksIs d (GroupImport name) y new r
-    import_works name r stands kept free closed beside =
-        works_beside d (GroupImport name) y new tt closed closed r (beside (alone_goes (GroupImport name) tt stands kept free refl closed))
+    import_works : (name : List ℕ) (r : Result Said OutOfMemory) → StandsFor d y → IsYardKept y → IsFree y (GroupImport name) → (is_for_group d.world (GroupImport name) ≡ true → LeadsBesideIs d (GroupImport name) y new r)
+        → (is_for_rvg d.world (GroupImport name) ≡ true → LeadsAboveIs d (GroupImport name) y new r) → WorksIs d (GroupImport name) y new r
+    import_works name r stands kept free beside above = by (over_rvg_at d.world name) refl
+      where
+        by : (b : Bool) → over_rvg_at d.world name ≡ b → WorksIs d (GroupImport name) y new r
+        by true over = works_above d (GroupImport name) y new tt refl over r (above over)
+        by false off = works_beside d (GroupImport name) y new tt refl off r (beside (alone_goes (GroupImport name) tt stands kept free refl off))
 
-    pub works_import : (words : ScriptLine) (name : List ℕ) (r : Result Said OutOfMemory) → words ≡ GroupImport name → StandsFor d y → IsYardKept y → IsFree y words → is_open d.world words ≡ false
-        → (is_for_group d.world (GroupImport name) ≡ true → LeadsBesideIs d (GroupImport name) y new r) → WorksIs d words y new r
-    works_import words name r is stands kept free closed beside =
-        subst (λ (x : ScriptLine). WorksIs d x y new r) (sym is)
-        (import_works name r stands kept (subst (λ (x : ScriptLine). IsFree y x) is free) (subst (λ (x : ScriptLine). is_open d.world x ≡ false) is closed) beside)
+    pub works_import : (words : ScriptLine) (name : List ℕ) (r : Result Said OutOfMemory) → words ≡ GroupImport name → StandsFor d y → IsYardKept y → IsFree y words → (is_for_group d.world (GroupImport name) ≡ true → LeadsBesideIs d (GroupImport name) y new r)
+        → (is_for_rvg d.world (GroupImport name) ≡ true → LeadsAboveIs d (GroupImport name) y new r) → WorksIs d words y new r
+    works_import words name r is stands kept free beside above =
+        subst (λ (x : ScriptLine). WorksIs d x y new r) (sym is) (import_works name r stands kept (subst (λ (x : ScriptLine). IsFree y x) is free) beside above)
 
     recover_works : (name : List ℕ) (r : Result Said OutOfMemory) → (over_group_at d.world name || over_rvg_at d.world name) ≡ true → (is_for_group d.world (Recover name) ≡ true → LeadsBesideIs d (Recover name) y new r)
         → (is_for_rvg d.world (Recover name) ≡ true → LeadsAboveIs d (Recover name) y new r) → WorksIs d (Recover name) y new r

@@ -2,8 +2,9 @@
 ghost use Rattle.std.specs.Prelude.{◌≡◌, IfOk, true};
 ghost use Rattle.vx_history.specs.Doubts.{Doubted};
 ghost use Rattle.vx_script.specs.declared.line.ScriptLine.TheVariants.{GroupImport};
+ghost use Rattle.vx_events.specs.RvgSteps.{is_for_rvg};
 ghost use Rattle.vx_events.specs.StepsOver.{is_for_group};
-ghost use Rattle.vx_yard.specs.AboveLines.{LeadsBesideIs};
+ghost use Rattle.vx_yard.specs.AboveLines.{LeadsAboveIs, LeadsBesideIs};
 ghost use Rattle.vx_yard.specs.OfSites.{AsAsked, HasCalled};
 ghost use Rattle.vx_yard.specs.Standing.{StandsFor};
 ghost use Rattle.vx_yard.specs.Working.{IsFree};
@@ -29,6 +30,7 @@ pub fn import_line<R: Rack>(
     requires kept { IsYardKept yard.old }
     requires free { IsFree yard.old (GroupImport name.now) }
     ensures beside { (d : Doubted) → StandsFor d yard.old → is_for_group d.world (GroupImport name.now) ≡ true → LeadsBesideIs d (GroupImport name.now) yard.old yard.new result }
+    ensures above { (d : Doubted) → StandsFor d yard.old → is_for_rvg d.world (GroupImport name.now) ≡ true → LeadsAboveIs d (GroupImport name.now) yard.old yard.new result }
     ensures asked { (d : Doubted) → StandsFor d yard.old → is_for_group d.world (GroupImport name.now) ≡ true → AsAsked d.world (GroupImport name.now) yard.old yard.new }
     ensures called { (d : Doubted) → StandsFor d yard.old → is_for_group d.world (GroupImport name.now) ≡ true → IfOk result (λ said. HasCalled d.world (GroupImport name.now) said yard.old yard.new) }
     ensures told { IsTold yard.new → IsTold yard.old }

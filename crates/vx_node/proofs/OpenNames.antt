@@ -9,7 +9,7 @@ use Rattle.vx_order.specs.Sites.{named_facts, unknown_one}
 use Rattle.vx_order.specs.Subject.{first_name, second_name}
 use Rattle.vx_order.specs.declared.facts.SiteFacts.{SiteFacts}
 use Rattle.vx_script.specs.declared.line.ScriptLine.{ScriptLine}
-use Rattle.vx_script.specs.declared.line.ScriptLine.TheVariants.{Deliver, GroupImport, Link, PlexAttach, PlexDetach, Volume}
+use Rattle.vx_script.specs.declared.line.ScriptLine.TheVariants.{Deliver, Link, PlexAttach, PlexDetach, Volume}
 use Rattle.vx_events.proofs.Places.{some_same}
 use Rattle.vx_events.proofs.Refused.{named, passes}
 use Rattle.vx_events.specs.Facts.{seat_of, site_number}
@@ -28,7 +28,6 @@ use Rattle.vx_node.specs.OpenSites.{halted_site, open_second, open_site}
 
 first_of : (line : ScriptLine) (site : List ℕ) → open_site line ≡ Some site → first_name line ≡ Some site
 unfolding first_name
-first_of (GroupImport name) site is = is
 first_of (Link p s sync prot) site is = is
 first_of other site is = absurd (cc)
 
@@ -93,7 +92,6 @@ module _ {R : Type 0} {g : Ghosts R} where
 
 module _ (w : World) where
   pub open_nowhere : (line : ScriptLine) → halted_site line ≡ None → open_site line ≡ None → is_open w line ≡ false
-  open_nowhere (GroupImport name) runs none = absurd (cc)
   open_nowhere (Volume name volume blocks mirrors layout log map policy) runs none = absurd (cc)
   open_nowhere (PlexDetach name volume plex) runs none = absurd (cc)
   open_nowhere (PlexAttach name volume plex) runs none = absurd (cc)
@@ -117,13 +115,11 @@ module _ (w : World) where
   either_first name site second b is over = ap (λ (x : Bool). x || over_rvg_at w second) (over_first name site b is over)
 
   pub open_there : (line : ScriptLine) (site : List ℕ) → open_site line ≡ Some site → over_rvg_at w site ≡ true → is_open w line ≡ true
-  open_there (GroupImport name) site is over = over_first name site true is over
   open_there (Link p s sync prot) site is over = either_first p site s true is over
   open_there other site is over = absurd (cc)
 
   -- where the first site has none
   pub open_not : (line : ScriptLine) (site : List ℕ) → open_site line ≡ Some site → open_second line ≡ None → over_rvg_at w site ≡ false → is_open w line ≡ false
-  open_not (GroupImport name) site is none off = over_first name site false is off
   open_not (Link p s sync prot) site is none off = absurd (cc)
   open_not other site is none off = absurd (cc)
 

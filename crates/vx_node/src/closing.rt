@@ -21,7 +21,6 @@ fn open_site(line: &ScriptLine) -> Option<Name>
     ensures { result ≡ open_site line.now }
 {
     match line {
-        ScriptLine::GroupImport { site } => Some(*site),
         ScriptLine::Link { primary, .. } => Some(*primary),
         _ => None,
     }

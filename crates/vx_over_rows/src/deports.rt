@@ -1,5 +1,5 @@
 // A deport of a group with a replicated volume group over it, word for word.
-use crate::done::{ends_at, is_done};
+use crate::done::is_done;
 use std::alloc::Global;
 use std::sync::Wait;
 use std::test::Fail;
@@ -7,24 +7,25 @@ use std::thread::Threads;
 use vx_model::OutOfMemory;
 use vx_runs::{Status, answers};
 
-// The site is down to every line but an import, at which a run ends.
+// The site is down to every line but an import.
 #[test]
 fn a_site_is_deported(rt: HostRuntime) -> Result<(), Fail> {
-    let made =
-        "rvg a srl=log1 dcm=maps vols=v\nwrite a v 0 1 11\ndg a deport\nread a v 0 1\nrecover a\ncrash a 0\ndg a deport\n";
+    let script =
+        b"site a 2 1024\ndg a init\nvol a log1 64 mirrors=2 layout=concat log=none fmr=off rdpol=round\nvol a maps 8 mirrors=2 layout=concat log=none fmr=off rdpol=round\nvol a v 256 mirrors=2 layout=concat log=none fmr=off rdpol=round\nrvg a srl=log1 dcm=maps vols=v\nwrite a v 0 1 11\ndg a deport\nread a v 0 1\nrecover a\ncrash a 0\ndg a deport\ndg a import\nread a v 0 1\n";
     let wanted =
-        "done\ndone\ndone\ndone\ndone\ndone\ndone 1\ndone\nno 6 down\nno 5 role\nno 6 down\nno 6 down\nbad 13 1\n";
-    assert!(rt; ends_at(&rt, rt.alloc(), made, "dg a import\n", 13, wanted)?);
+        "done\ndone\ndone\ndone\ndone\ndone\ndone 1\ndone\nno 6 down\nno 5 role\nno 6 down\nno 6 down\ndone\n11\n";
+    assert!(rt; is_done(&rt, rt.alloc(), script, wanted)?);
     Ok(())
 }
 
 // A mirror fails in it: the deport is done, as the other one takes what it writes.
 #[test]
 fn a_deport_bears_a_mirror_that_fails(rt: HostRuntime) -> Result<(), Fail> {
-    let made =
-        "rvg a srl=log1 dcm=maps vols=v\nwrite a v 0 1 11\ndisk a 1 fail\ndg a deport\nread a v 0 1\n";
-    let wanted = "done\ndone\ndone\ndone\ndone\ndone\ndone 1\ndone\ndone\nno 6 down\nbad 11 1\n";
-    assert!(rt; ends_at(&rt, rt.alloc(), made, "dg a import\n", 11, wanted)?);
+    let script =
+        b"site a 2 1024\ndg a init\nvol a log1 64 mirrors=2 layout=concat log=none fmr=off rdpol=round\nvol a maps 8 mirrors=2 layout=concat log=none fmr=off rdpol=round\nvol a v 256 mirrors=2 layout=concat log=none fmr=off rdpol=round\nrvg a srl=log1 dcm=maps vols=v\nwrite a v 0 1 11\ndisk a 1 fail\ndg a deport\nread a v 0 1\ndisk a 1 ok\ndg a import\nread a v 0 1\n";
+    let wanted =
+        "done\ndone\ndone\ndone\ndone\ndone\ndone 1\ndone\ndone\nno 6 down\ndone\ndone\n11\n";
+    assert!(rt; is_done(&rt, rt.alloc(), script, wanted)?);
     Ok(())
 }
 

@@ -12,6 +12,8 @@ mod done;
 #[cfg(test)]
 mod failing;
 #[cfg(test)]
+mod imports;
+#[cfg(test)]
 mod kept;
 #[cfg(test)]
 mod lines;

@@ -73,12 +73,12 @@ module _ (i : ℕ) (o : Option GroupNode) (d : Doubted) (x : OtherNotes.Standing
       OtherLines.are_notes i o line d middle new left (OtherLines.moved_notes i o d x a b middle both.1 moves)
 
   rvg_notes : (line : ScriptLine) → may_note d.world line i ≡ false → RvgShort told d line (short_place d.world line) new → HasNote i o new
-  rvg_notes line off (ShortGroup site kept taken lost next has is notes left) =
+  rvg_notes line off (ShortGroup kept taken lost next has is notes left) =
       let s : ℕ = short_place d.world line in
-      OtherLines.fell i o d x told [] Done new line s (short_apart d.world line i off (subst BringsUp (sym is) tt)) taken lost next (fall_first (d.world.nodes s).state s kept) left
-  rvg_notes line off (ShortLog site kept taken fails middle next has is are back keeps cut left) =
+      OtherLines.fell i o d x told [] Done new line s (short_apart d.world line i off is) taken lost next (fall_first (d.world.nodes s).state s kept) left
+  rvg_notes line off (ShortLog kept taken fails middle next has is are back keeps cut left) =
       let s : ℕ = short_place d.world line in
-      OtherLines.fell i o d x told fails Done new line s (short_apart d.world line i off (subst BringsUp (sym is) tt)) taken true next (fall_first (d.world.nodes s).state s kept) left
+      OtherLines.fell i o d x told fails Done new line s (short_apart d.world line i off is) taken true next (fall_first (d.world.nodes s).state s kept) left
   rvg_notes line off (ShortMade site srl maps volumes fails next is are notes left) =
       let apart : eqb i (short_place d.world line) ≡ false =
       subst (λ (l : ScriptLine). eqb i (short_place d.world l) ≡ false) (sym is) (subst (λ (l : ScriptLine). may_note d.world l i ≡ false) is off) in

@@ -43,10 +43,10 @@ module _ (told : Type 0) (tells : told) (d : Doubted) (line : ScriptLine) (s : �
   short_bright b agree short = by short (short_known told d line s new (b.sites s) agree short)
     where
       by : RvgShort told d line s new → IsBright (new.world.nodes s) → AllBright new
-      by (ShortGroup site kept taken lost next has is notes left) here =
+      by (ShortGroup kept taken lost next has is notes left) here =
           let falls : List Event = fall_first (d.world.nodes s).state s kept in
           but_bright lost s line taken next d (run_as taken d falls) new left here b (run_bright taken d falls b)
-      by (ShortLog site kept taken fails middle next has is are back keeps cut left) here =
+      by (ShortLog kept taken fails middle next has is are back keeps cut left) here =
           let falls : List Event = fall_first (d.world.nodes s).state s kept in
           but_bright true s line taken next d (run_as taken d falls) new left here b (run_bright taken d falls b)
       by (ShortMade site srl maps volumes fails next is are notes left) here = made_bright s next d new left here b

@@ -37,5 +37,5 @@ pub returns-in-Err : goal.returns-in-Err
 returns-in-Err g c = record {
   starts = λ dark.
       plain_fails c.args.away c.args.rested c.args.units.now c.args.laid c.start_in-laid.result.0 c.args.cut c.in-Err.stop c.plain_back.result.0 c.plain_back.result.1
-      (inl (dark, subst (λ r. StartsIn c.args.units.now c.args.laid c.start_in-laid.result.0 r) c.in-Err.is c.start_in-laid.ensures.starts)) c.plain_back.ensures;
+      (inl (dark, (subst (λ r. StartsIn c.args.units.now c.args.laid c.start_in-laid.result.0 r) c.in-Err.is c.start_in-laid.ensures.starts).0)) c.plain_back.ensures;
 }

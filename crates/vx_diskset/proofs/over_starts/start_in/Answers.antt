@@ -37,4 +37,4 @@ pub returns-in-Ok : goal.returns-in-Ok
 returns-in-Ok g c = record { starts = c.start_with.ensures.starts }
 
 pub returns-in-Err : goal.returns-in-Err
-returns-in-Err g c = record { starts = refl }
+returns-in-Err g c = record { starts = (refl, λ why same on down. absurd (cc)) }

@@ -9,9 +9,11 @@ use Rattle.vx_diskset.proofs.KeepsFailing.{failing_same}
 use Rattle.vx_diskset.specs.Asked.{FuseGoesOn, SameFailing}
 use Rattle.vx_diskset.specs.GroupCalls.{ImportsOn}
 use Rattle.vx_diskset.specs.OverStarts.{ImportsIn}
+use Rattle.vx_diskset.specs.OverTakes.{TakesAbove}
 use Rattle.vx_diskset.specs.Recovers.{cut_past}
 use Rattle.vx_diskset.specs.declared.disk_set.DiskSet.TheVariants.{Gone}
 use Rattle.vx_events.specs.GroupNotes.{note_at}
+use Rattle.vx_events.specs.LinkedFacts.{linked_fact}
 use Rattle.vx_events.specs.StepsOver.{fact_of_group}
 use Rattle.vx_yard.proofs.ChangeSite.{told_before}
 use Rattle.vx_yard.proofs.Lists.{get_at, get-set_same, set_twice}
@@ -23,9 +25,11 @@ use Rattle.vx_yard.specs.Yards.{in_files}
 use Rattle.std.proofs.lemmas.Option.{slice_get_within}
 use Rattle.vx_model.proofs.Lists.{get_there}
 use Rattle.vx_above.proofs.Works.{beside_over}
+use Rattle.vx_group_lines.proofs.AwayTakes.{away_above, takes_done, takes_refused}
 use Rattle.vx_group_lines.proofs.GroupLeads.{or_stops}
 use Rattle.vx_group_lines.proofs.GroupNamed.{away_named, if_ok, reply_same, unbegun_over}
 use Rattle.vx_group_lines.proofs.ImportBeside.{import_came, import_kept}
+use Rattle.vx_group_lines.proofs.RvgRecovers.{unbegun_above}
 use Rattle.vx_group_lines.proofs.Tests.{import_may}
 use Rattle.vx_group_lines.proofs.import.import_line.Goals as goal
 
@@ -101,6 +105,50 @@ returns-in-Err-clause-beside g c = λ d stands over.
     (subst (λ r. ImportsIn before after r) c.in-Err.is c.import_group-disk_set.ensures.brought)
     (subst (λ r. ImportsOn (λ o e. SiteImports n note o e r) before after) c.in-Err.is (c.import_group-disk_set.ensures.imported n note up.noted))
     (subst (λ r. ImportsOn (λ o e. CameMapped o e r) before after) c.in-Err.is (c.import_group-disk_set.ensures.maps n note up.noted)) reply
+
+pub returns-in_err-room-clause-above : goal.returns-in_err-room-clause-above
+returns-in_err-room-clause-above g c = λ d stands over.
+    let p = err_from_is_err_and c.from_residual.result c.from_residual.ensures.1 in
+    unbegun_above d (GroupImport c.args.name.now) c.args.yard.now c.from_residual.result p.0 p.1 stands
+
+pub returns-in-Ok-clause-above : goal.returns-in-Ok-clause-above
+returns-in-Ok-clause-above g c = λ d stands over.
+    let y = c.args.yard.now in
+    let s = c.site_of-site.result in
+    let sets = y.disk_sets.items in
+    let before = c.replace-disk_set.result in
+    let after = c.import_group-disk_set.result.0 in
+    let there = get_at sets s c.index_mut.result.now c.site_of-site.ensures.disk_set c.index_mut.ensures.value ∙ ap (λ e. Some e) (sym c.replace-disk_set.ensures.value) in
+    let twice = ap (λ e. slice_set (slice_set sets s e) s after) c.replace-disk_set.ensures.after ∙ set_twice sets s Gone after in
+    let at = away_above d y c.args.name.now s stands c.site_of-site.ensures.seat (import_may y.facts.items (in_files y) c.args.name.now c.requires.free) over in
+    let same = c.note_up.ensures.same in
+    let now = ap (λ es. slice_get es s) twice ∙ get-set_same sets s after (slice_get_within sets s before there) in
+    takes_done d y c.note_up.new.yard c.args.name.now s at.number before after stands at.below at.over at.away
+    (record { there = there; later = c.import_group-disk_set.ensures.later; disk_sets = ap (λ es. es.items) same.disk_sets ∙ twice; racks = same.racks })
+    c.import_group-disk_set.ensures.failing
+    (subst (λ r. TakesAbove before after r) c.in-Ok.is c.import_group-disk_set.ensures.above)
+    (record { flight = same.flight; assemblies = ap (λ xs. xs.items) c.note_up.ensures.assemblies; feeders = ap (λ xs. xs.items) same.feeders })
+    (λ x has plain none. c.note_up.ensures.facts (linked_fact d.world s) x at.fact (record { disk_set = after; there = now; is = has }) plain (record { disk_set = after; there = now; is = none }))
+    (λ core x has held. c.note_up.ensures.made (linked_fact d.world s) x core at.fact (record { disk_set = after; there = now; is = held }) (record { disk_set = after; there = now; is = has }))
+
+pub returns-in-Err-clause-above : goal.returns-in-Err-clause-above
+returns-in-Err-clause-above g c = λ d stands over.
+    let y = c.args.yard.now in
+    let s = c.site_of-site.result in
+    let sets = y.disk_sets.items in
+    let before = c.replace-disk_set.result in
+    let after = c.import_group-disk_set.result.0 in
+    let there = get_at sets s c.index_mut.result.now c.site_of-site.ensures.disk_set c.index_mut.ensures.value ∙ ap (λ e. Some e) (sym c.replace-disk_set.ensures.value) in
+    let twice = ap (λ e. slice_set (slice_set sets s e) s after) c.replace-disk_set.ensures.after ∙ set_twice sets s Gone after in
+    let at = away_above d y c.args.name.now s stands c.site_of-site.ensures.seat (import_may y.facts.items (in_files y) c.args.name.now c.requires.free) over in
+    let f = linked_fact d.world s in
+    let reply = c.group_stopped.ensures f at.fact in
+    let same = reply_same s f c.in-Err.stop _ c.group_stopped.new.yard c.group_stopped.result reply in
+    takes_refused d y c.group_stopped.new.yard c.args.name.now s at.number before after stands at.below at.over at.away
+    (record { there = there; later = c.import_group-disk_set.ensures.later; disk_sets = ap (λ es. es.items) same.disk_sets ∙ twice; racks = same.racks })
+    c.import_group-disk_set.ensures.failing
+    _ (record { facts = refl; load = record { flight = refl; assemblies = refl; feeders = refl } }) c.group_stopped.result c.in-Err.stop
+    (subst (λ r. TakesAbove before after r) c.in-Err.is c.import_group-disk_set.ensures.above) reply
 
 pub returns-in-Ok-clause-asked : goal.returns-in-Ok-clause-asked
 returns-in-Ok-clause-asked g c = λ d stands over.

@@ -49,7 +49,7 @@ import_line-requires-clause-free g c = λ κs lives. subst (λ line. IsFree c.ar
 
 pub returns-in-GroupImport-clause-leads : goal.returns-in-GroupImport-clause-leads
 returns-in-GroupImport-clause-leads g c = λ d stands goes closed.
-    works_import d c.args.yard.now c.import_line.new.yard c.args.words.now _ c.import_line.result c.in-GroupImport.is stands c.requires.kept c.requires.free closed (λ group. c.import_line.ensures.beside d stands group)
+    works_import d c.args.yard.now c.import_line.new.yard c.args.words.now _ c.import_line.result c.in-GroupImport.is stands c.requires.kept c.requires.free (λ group. c.import_line.ensures.beside d stands group) (λ over. c.import_line.ensures.above d stands over)
 
 pub returns-in-GroupImport-clause-asked : goal.returns-in-GroupImport-clause-asked
 returns-in-GroupImport-clause-asked g c = λ d stands goes off. subst (λ line. AsAsked d.world line c.args.yard.now c.import_line.new.yard) (sym c.in-GroupImport.is) (c.import_line.ensures.asked d stands (goes_alone d c.args.yard.now c.args.words.now _ c.in-GroupImport.is tt stands c.requires.kept c.requires.free goes off))

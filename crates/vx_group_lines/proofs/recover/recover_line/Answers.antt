@@ -91,7 +91,7 @@ returns-in_default-clause-asked g c = λ d stands over.
 pub returns-in_err-room-clause-above : goal.returns-in_err-room-clause-above
 returns-in_err-room-clause-above g c = λ d stands over.
     let p = err_from_is_err_and c.from_residual.result c.from_residual.ensures.1 in
-    unbegun_above d c.args.name.now c.args.yard.now c.from_residual.result p.0 p.1 stands
+    unbegun_above d (Recover c.args.name.now) c.args.yard.now c.from_residual.result p.0 p.1 stands
 
 pub returns-in-Up-clause-above : goal.returns-in-Up-clause-above
 returns-in-Up-clause-above g c = λ d stands over.

@@ -15,6 +15,7 @@ use Rattle.vx_diskset.proofs.OverCalling.{at_overs}
 use Rattle.vx_diskset.proofs.OverImports.{take_rises, take_tells}
 use Rattle.vx_diskset.proofs.OverMaking.{fuse_rest}
 use Rattle.vx_diskset.proofs.OverRisen.{over_failing, over_fuse, over_later}
+use Rattle.vx_diskset.proofs.OverTakes.{takes_over, takes_rest}
 use Rattle.vx_diskset.proofs.OverTaking.{take_cut, take_settles}
 use Rattle.vx_diskset.specs.Aboves.{site_in}
 use Rattle.vx_diskset.proofs.PlainImports.{import_settles, imports_none, imports_rest}
@@ -23,6 +24,7 @@ use Rattle.vx_untold.specs.Shades.{shade_lawful, shade_rack}
 use Rattle.vx_grouped.specs.SiteMaps.{CameMapped}
 use Rattle.vx_diskset.specs.OverRises.{FindsOver}
 use Rattle.vx_diskset.specs.OverStarts.{ImportsIn}
+use Rattle.vx_diskset.specs.OverTakes.{TakesAbove}
 use Rattle.vx_diskset.specs.Stands.{SiteStands}
 use Rattle.vx_diskset.proofs.disk_set.DiskSet.import_group.Goals as goal
 
@@ -120,3 +122,16 @@ returns-in-Over-clause-later g c =
     let racks = shade_rack g.R.Shelf.meaning (g.met.R.Rack g.world.𝓛 g.world.𝓜 g.world.𝓡 ((λ s x. x), (λ x. x), (λ x. x), λ x. x)).rack in
     over_later c.args.self c.take_over.result.0 c.in-Over.over c.in-Over.is (take_rises racks (site_in c.in-Over.over) c.in-Over.over.cut c.take_over.result.0 c.take_over.result.1 c.take_over.ensures.brought)
     (take_tells (site_in c.in-Over.over) c.in-Over.over.cut c.take_over.result.0 c.take_over.result.1 c.take_over.ensures.brought)
+
+pub returns-in-OfGroup-clause-above : goal.returns-in-OfGroup-clause-above
+returns-in-OfGroup-clause-above g c = subst (λ x. TakesAbove x c.import_in.result.0 c.import_in.result.1) (sym c.in-OfGroup.is) tt
+
+pub returns-in-Over-clause-above : goal.returns-in-Over-clause-above
+returns-in-Over-clause-above g c =
+    let lawful = (g.met.R.Shelf g.world.𝓛 g.world.𝓜 g.world.𝓡 ((λ s x. x), (λ x. x), (λ x. x), λ x. x)).lawful in
+    let is_rack = (g.met.R.Rack g.world.𝓛 g.world.𝓜 g.world.𝓡 ((λ s x. x), (λ x. x), (λ x. x), λ x. x)).rack in
+    subst (λ x. TakesAbove x c.take_over.result.0 c.take_over.result.1) (sym c.in-Over.is)
+    (takes_over (shade_rack g.R.Shelf.meaning is_rack) (shade_lawful g.R.Shelf.meaning lawful) c.in-Over.over c.take_over.result.0 c.take_over.result.1 c.take_over.ensures.brought)
+
+pub returns-in_default-clause-above : goal.returns-in_default-clause-above
+returns-in_default-clause-above g c = takes_rest c.args.self c.args.self (Err (Refused Role)) c.in_default.not-Over

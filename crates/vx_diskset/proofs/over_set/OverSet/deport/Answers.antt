@@ -4,7 +4,7 @@ use Rattle.vx_disk.specs.Moves.{Nowhere}
 use Rattle.vx_untold.specs.Shades.{shade_lawful, shade_rack}
 use Rattle.vx_watched.specs.Since.{CalledSince}
 use Rattle.vx_watched.specs.Traces.{TellsLess}
-use Rattle.vx_grouped.specs.GroupSites.{UpNoted, site_below, site_disks}
+use Rattle.vx_grouped.specs.GroupSites.{DownNoted, UpNoted, site_below, site_disks}
 use Rattle.vx_diskset.specs.Aboves.{above_in, site_in}
 use Rattle.vx_diskset.specs.Noted.{RestsNamed}
 use Rattle.vx_diskset.specs.OverAways.{DeportedBelow}
@@ -37,7 +37,8 @@ returns-clause-deports g c =
       away = λ beside n idle stands state running gone.
           gave_up (shade_lawful g.R.Shelf.meaning lawful) c.args.self.now c.of.result c.parts-site.result.1 c.parts-site.result.0 c.deport-left.result.0 stood was c.deport-left.ensures.closes c.parts-site.ensures.stays beside n idle stands state running
           (doubted_away c.deport-left.result.0 c.doubt_fallen-site.result idle c.doubt_fallen-site.ensures (sym c.of.ensures.site ∙ gone)) gone;
-      named = λ units count. subst (λ s. RestsNamed units count s) (sym c.of.ensures.site) (doubted_named units count c.deport-left.result.0 c.doubt_fallen-site.result c.doubt_fallen-site.ensures);
+      named = λ units count k note down.
+          subst (λ s. RestsNamed units count s) (sym c.of.ensures.site) (doubted_named units count c.deport-left.result.0 c.doubt_fallen-site.result c.doubt_fallen-site.ensures k note (subst (λ s. DownNoted k note s) c.of.ensures.site down));
     }
 
 pub returns-clause-since : goal.returns-clause-since

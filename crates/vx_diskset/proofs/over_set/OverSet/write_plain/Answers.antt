@@ -5,7 +5,7 @@ use Rattle.vx_untold.specs.Shades.{shade_lawful, shade_rack}
 use Rattle.vx_watched.specs.Since.{CalledSince}
 use Rattle.vx_watched.specs.Traces.{TellsLess}
 use Rattle.vx_grouped.specs.Ends.{plain_write}
-use Rattle.vx_grouped.specs.GroupSites.{UpNoted, site_below, site_disks}
+use Rattle.vx_grouped.specs.GroupSites.{DownNoted, UpNoted, site_below, site_disks}
 use Rattle.vx_diskset.specs.Aboves.{IsOutside, above_in, site_in}
 use Rattle.vx_diskset.specs.GroupSets.{cut_behind, cut_value}
 use Rattle.vx_diskset.specs.Noted.{RestsNamed}
@@ -40,7 +40,9 @@ returns-clause-writes g c =
           keeps_doubted (shade_lawful g.R.Shelf.meaning lawful) (shade_rack g.R.Shelf.meaning is_rack) (Covers c.args.volume c.args.start c.args.bytes.now) c.args.self.now c.of.result c.parts-site.result.1 c.parts-site.result.0 c.write_set-answer.new.group.site stood was
           c.write_set-answer.ensures.volumes c.parts-site.ensures.stays (covers_aside c.args.volume c.args.start c.args.bytes.now c.parts-site.result.1 (subst (λ a. IsOutside c.args.volume a) (sym stood) out)) c.doubt_fallen-site.result c.of.ensures.site
           c.of.ensures.above c.doubt_fallen-site.ensures;
-      named = λ units count. subst (λ s. RestsNamed units count s) (sym c.of.ensures.site) (doubted_named units count c.write_set-answer.new.group.site c.doubt_fallen-site.result c.doubt_fallen-site.ensures);
+      named = λ units count k note down.
+          subst (λ s. RestsNamed units count s) (sym c.of.ensures.site)
+          (doubted_named units count c.write_set-answer.new.group.site c.doubt_fallen-site.result c.doubt_fallen-site.ensures k note (subst (λ s. DownNoted k note s) c.of.ensures.site down));
     }
 
 pub returns-clause-since : goal.returns-clause-since
