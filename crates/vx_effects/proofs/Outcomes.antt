@@ -163,8 +163,6 @@ module _ (w : World) (p s : ℕ) where
   joins_without : may_link w p s ≡ true → StillKeeps w.sites (w.links s) (w.nodes s) (joined (w.nodes p) p (w.nodes s))
   joins_without may k below linked keeps = let f : true ≡ false = sym linked ∙ no_links (fresh_of may) k below in absurd (cc)
 
--- ---- the changes
-
 module _ (E : ℕ → Type 0) (w : World) where
   pub written_moves : (s : ℕ) (x : WriteBlocks) → Moves E w (written w s x)
   written_moves s x = moves_like E w (with_node w s (logged (w.nodes s) x)) (written w s x) refl (λ p. refl) (λ p k. refl)
