@@ -1,5 +1,7 @@
 -- A call on the group below a replicated volume group for which memory was short: the yard stands for the same world.
 use Rattle.std.proofs.Common.{◌≡◌, ◌∙◌, ℕ, List, length, ap, refl, subst, sym}
+use Rattle.std.specs.Prelude.{Result, Err}
+use Rattle.vx_model.specs.declared.errors.OutOfMemory.{OutOfMemory}
 use Rattle.vx_disk.specs.Shelf.{Meaning}
 use Rattle.vx_disk.specs.declared.shelf.Shelf.{Ghosts}
 use Rattle.vx_history.specs.Doubts.{Doubted}
@@ -24,13 +26,18 @@ use Rattle.vx_events.proofs.RvgEvents.{rvg_apart}
 use Rattle.vx_events.specs.GroupNotes.{note_at}
 use Rattle.vx_events.specs.LinkedFacts.{linked_fact}
 use Rattle.vx_events.specs.RvgFits.{entries_noted}
+use Rattle.vx_events.specs.declared.said.Said.{Said}
+use Rattle.vx_script.specs.declared.line.ScriptLine.{ScriptLine}
 use Rattle.vx_yard.proofs.Carrying.{SameLoad, carries_same}
 use Rattle.vx_yard.proofs.CrashLine.{rose_still}
 use Rattle.vx_yard.proofs.Lists.{set_same}
+use Rattle.vx_yard.proofs.NamedSite.{unbegun_for}
 use Rattle.vx_yard.proofs.OneSite.{Changed, Comes, stands_at, told_by}
+use Rattle.vx_yard.specs.AboveLines.{LeadsAboveIs}
 use Rattle.vx_yard.specs.Standing.{StandsFor, StaysFor}
 use Rattle.vx_yard.specs.declared.yard.Yard.{Yard}
 use Rattle.vx_above.proofs.OverSites.{note_is}
+use Rattle.vx_above.proofs.Works.{beside_short}
 use Rattle.vx_group_lines.proofs.BelowAt.{BelowAt}
 
 module _ {R : Type 0} {g : Ghosts R} (d : Doubted) (old new : Yard R g) (name : List ℕ) (s : ℕ) (before after : DiskSet R g) (p : OverSet R g) (stands : StandsFor d old) (at : BelowAt d old name s before) (changed : Changed old new s before after) (is : after ≡ Over p)
@@ -87,3 +94,8 @@ module _ {R : Type 0} {g : Ghosts R} (d : Doubted) (old new : Yard R g) (name : 
     carries = λ carries. carries_same d old new load (told_by old new s before (Over p) changed_over) carries;
     rose = rose_still old new s before after changed.there changed.later changed.disk_sets;
   }
+
+module _ {R : Type 0} {g : Ghosts R} where
+  -- memory was short before anything was done
+  pub unbegun_below : (d : Doubted) (line : ScriptLine) (y : Yard R g) (r : Result Said OutOfMemory) (x : OutOfMemory) → r ≡ Err x → StandsFor d y → LeadsAboveIs d line y y r
+  unbegun_below d line y r x is stands = subst (λ (q : Result Said OutOfMemory). LeadsAboveIs d line y y q) (sym is) (beside_short d line y y (unbegun_for d y stands))

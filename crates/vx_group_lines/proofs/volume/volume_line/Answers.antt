@@ -1,8 +1,11 @@
 -- Each case of a line that makes a volume of a group.
 use Rattle.std.proofs.Common.{ap, refl}
+use Rattle.std.proofs.lemmas.Result.{err_from_is_err_and}
 use Rattle.std.specs.Prelude.{is_some}
+use Rattle.vx_script.specs.declared.line.ScriptLine.TheVariants.{Volume}
 use Rattle.vx_yard.proofs.Lists.{get_at}
 use Rattle.vx_group_lines.proofs.BelowMakes.{made, unmade}
+use Rattle.vx_group_lines.proofs.BelowShort.{unbegun_below}
 use Rattle.vx_group_lines.proofs.VolumeLine.{asked_by, asked_none, called_by, done_by, if_ok, rest_of, stopped_by, told_on}
 use Rattle.vx_group_lines.proofs.volume.volume_line.Goals as goal
 
@@ -67,6 +70,11 @@ pub returns-in-Err-clause-files : goal.returns-in-Err-clause-files
 returns-in-Err-clause-files g c =
     let rest = rest_of c.site_of-site.result c.in-Err.stop c.group_stopped.result _ c.group_stopped.new.yard c.group_stopped.ensures c.args.yard.now.facts.items refl c.site_of-site.ensures.fact in
     ap (λ o. is_some o) rest.dir
+
+pub returns-in_err-room-clause-above : goal.returns-in_err-room-clause-above
+returns-in_err-room-clause-above g c = λ d blocks mirrors layout log map policy stands is_want free over closed.
+    let p = err_from_is_err_and c.from_residual.result c.from_residual.ensures.1 in
+    unbegun_below d (Volume c.args.name.now c.args.volume.now blocks mirrors layout log map policy) c.args.yard.now c.from_residual.result p.0 p.1 stands
 
 pub returns-in-Ok-clause-above : goal.returns-in-Ok-clause-above
 returns-in-Ok-clause-above g c = λ d blocks mirrors layout log map policy stands is_want free over closed.
