@@ -1,5 +1,5 @@
 -- What an import leaves of a site that was deported, with a replicated volume group over its group of disks.
-use Rattle.std.proofs.Common.{◌≡◌, ◌∙◌, ◌<◌, ℕ, true, false, [], ap, sym, subst, refl, arith}
+use Rattle.std.proofs.Common.{◌≡◌, ◌∙◌, ◌<◌, ℕ, true, false, [], ap, sym, subst, refl}
 use Rattle.std.specs.Prelude.{Option, None, slice_set}
 use Rattle.vx_model.specs.Sites.{is_origin}
 use Rattle.vx_model.specs.declared.site.SiteState.{SiteState}
@@ -39,7 +39,7 @@ use Rattle.vx_events.specs.LinkedFacts.{linked_fact, links_by, links_of_site, se
 use Rattle.vx_events.specs.RvgBack.{fall_first}
 use Rattle.vx_events.specs.RvgViews.{is_over_rvg, over_table}
 use Rattle.vx_events.specs.StepsOver.{fact_of_group, fact_over}
-use Rattle.vx_yard.proofs.Carrying.{LetsGo, SameLoad, carries_at, carries_let, feeds_none}
+use Rattle.vx_yard.proofs.Carrying.{SameLoad, carries_at, feeds_none}
 use Rattle.vx_yard.proofs.FailsStay.{fails_then}
 use Rattle.vx_yard.proofs.FuseStays.{fused_none}
 use Rattle.vx_yard.proofs.OneSite.{Changed, Comes, stands_at, told_by}
@@ -184,12 +184,6 @@ module _ {R : Type 0} {g : Ghosts R} where
         (feeds_none n (e.world.nodes s) (λ up receives. never (ap (λ (x : Node). x.state) (sym arrives.node) ∙ up) (ap (λ (x : Node). is_origin x.role) (sym arrives.node) ∙ receives)))
         (told_by old new s (Over o) after call.changed)
 
-    -- one that is down has nothing in assembly, as none that is deported has
-    pub fell_carries : (e : Doubted) (m : Node) → Arrives d e s m (d.world.gathering s) → m.state ≡ IsDown → LetsGo old new s → Carries d old → Carries e new
-    fell_carries e m arrives down lets carries =
-        carries_let s d e old new lets (omega (arith, call.below, call.stands.disk_sets.few)) arrives.site arrives.packets (arrives.gathering ∙ call.stands.links.idle s call.away)
-        (λ up. let clash : IsDown ≡ IsUp = sym down ∙ ap (λ (x : Node). x.state) (sym arrives.node) ∙ up in absurd (cc)) (told_by old new s (Over o) after call.changed) carries
-
   -- ---- a site that is deported still
 
   module _ (d : Doubted) (old new : Yard R g) (s : ℕ) (o p : OverSet R g) (call : AwayCall d old new s o (Over p)) (fuse : Fuse) (session : ℕ) (next : GroupNode)
@@ -241,5 +235,5 @@ module _ {R : Type 0} {g : Ghosts R} where
         (role_origin m (Over p) (away_origin d old new s o (Over p) call)) (down_fact (linked_fact d.world s))
         ((λ k is. subst (λ (y : GroupNode). SiteNoted m y (Over p)) (some_same is) noted), named) fell_fact facts
 
-    pub fell_goes : LetsGo old new s → Carries d old → Carries e new
-    fell_goes lets was = fell_carries d old new s o (Over p) call e m arrives refl lets was
+    pub fell_goes : SameLoad old new → Carries d old → Carries e new
+    fell_goes load was = away_carries d old new s o (Over p) call e m arrives (λ up. let clash : IsDown ≡ IsUp = up in absurd (cc)) load was

@@ -44,7 +44,7 @@ use Rattle.vx_events.specs.RvgParts.{RvgShort, ShortGroup}
 use Rattle.vx_events.specs.RvgTakes.{NotesOff, RvgTakes, TakeHeld, TakeOff, TakeUnfound}
 use Rattle.vx_events.specs.RvgViews.{over_table}
 use Rattle.vx_events.specs.declared.said.Said.TheVariants.{Refused}
-use Rattle.vx_yard.proofs.Carrying.{LetsGo, SameLoad}
+use Rattle.vx_yard.proofs.Carrying.{SameLoad}
 use Rattle.vx_yard.proofs.CrashLine.{rose_still}
 use Rattle.vx_yard.proofs.FuseStays.{fused_none}
 use Rattle.vx_yard.proofs.Lists.{get-set_same}
@@ -233,7 +233,7 @@ module _ {R : Type 0} {g : Ghosts R} (d : Doubted) (old new : Yard R g) (name : 
 
   -- ---- the fuse ran out in it: the site is down
 
-  module _ (h : HeldOff (beside_of d s) (d.world.nodes s) (note_at (d.world.nodes s)) (site_in o) p) (facts : new.facts.items ≡ slice_set old.facts.items s (down_fact (linked_fact d.world s))) (lets : LetsGo old new s) where
+  module _ (h : HeldOff (beside_of d s) (d.world.nodes s) (note_at (d.world.nodes s)) (site_in o) p) (facts : new.facts.items ≡ slice_set old.facts.items s (down_fact (linked_fact d.world s))) (load : SameLoad old new) where
     abbrev dark : GroupNode
     dark = note_held h.loosens true note
 
@@ -276,6 +276,6 @@ module _ {R : Type 0} {g : Ghosts R} (d : Doubted) (old new : Yard R g) (name : 
       works = inl (subst (λ (k : ℕ). RvgTakes (IsTold new) d (GroupImport name) k (fails 0) (Refused IsOff) down) (sym number)
           (TakeOff name dark call.over refl (calls_are_of d old new s o p resting 0) h.fused notes_off refl (record { world = refl; after = λ i. refl; strayed = refl })));
       stands = fell_stands d old new s o p call n.session dark table_down named_down h.noted h.stands down arrives_down headers_down facts;
-      carries = λ was. fell_goes d old new s o p call n.session dark table_down named_down h.noted h.stands down arrives_down headers_down lets was;
+      carries = λ was. fell_goes d old new s o p call n.session dark table_down named_down h.noted h.stands down arrives_down headers_down load was;
       rose = calls_rose d old new s o p resting 0;
     }

@@ -48,7 +48,7 @@ use Rattle.vx_events.specs.RvgViews.{over_table}
 use Rattle.vx_events.specs.RvgWorks.{NotesWork, WorksCut}
 use Rattle.vx_events.specs.declared.said.Said.{Said}
 use Rattle.vx_events.specs.declared.said.Said.TheVariants.{Refused}
-use Rattle.vx_yard.proofs.Carrying.{LetsGo, SameLoad}
+use Rattle.vx_yard.proofs.Carrying.{SameLoad}
 use Rattle.vx_yard.proofs.CrashLine.{rose_still}
 use Rattle.vx_yard.proofs.FuseStays.{fused_none}
 use Rattle.vx_yard.specs.AboveLines.{LeadsAbove}
@@ -228,7 +228,7 @@ module _ {R : Type 0} {g : Ghosts R} (d : Doubted) (old new : Yard R g) (name : 
 
   -- ---- the fuse ran out: the site is down
 
-  module _ (r : LostOff (beside_of d s) (d.world.nodes s) (note_at (d.world.nodes s)) (site_in o) p) (facts : new.facts.items ≡ slice_set old.facts.items s (down_fact (linked_fact d.world s))) (lets : LetsGo old new s) where
+  module _ (r : LostOff (beside_of d s) (d.world.nodes s) (note_at (d.world.nodes s)) (site_in o) p) (facts : new.facts.items ≡ slice_set old.facts.items s (down_fact (linked_fact d.world s))) (load : SameLoad old new) where
     abbrev off_note : GroupNode
     off_note = lost_note r.over
 
@@ -262,7 +262,7 @@ module _ {R : Type 0} {g : Ghosts R} (d : Doubted) (old new : Yard R g) (name : 
       fails = fails r.over enough;
       works = inl (subst (λ (k : ℕ). RvgTakes (IsTold new) d (GroupImport name) k (fails r.over enough) (Refused IsOff) e) (sym number) ends);
       stands = fell_stands d old new s o p call r.session off_note (table_of r.over keeps_off q refl) (named_of r.over keeps_off q refl refl off_still) r.noted r.stands e arrives headers facts;
-      carries = λ was. fell_goes d old new s o p call r.session off_note (table_of r.over keeps_off q refl) (named_of r.over keeps_off q refl refl off_still) r.noted r.stands e arrives headers lets was;
+      carries = λ was. fell_goes d old new s o p call r.session off_note (table_of r.over keeps_off q refl) (named_of r.over keeps_off q refl refl off_still) r.noted r.stands e arrives headers load was;
       rose = calls_rose d old new s o p resting (many r.over enough);
     }
 

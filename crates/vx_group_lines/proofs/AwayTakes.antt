@@ -49,14 +49,14 @@ use Rattle.vx_yard.specs.Writes.{below_facts}
 use Rattle.vx_yard.specs.declared.yard.Yard.{Yard}
 use Rattle.vx_above.proofs.SeenSites.{state_placed}
 use Rattle.vx_above.proofs.OverSites.{OverIs, note_is, over_set, site_noted}
-use Rattle.vx_group_lines.specs.Noting.{IsNotedRefusal, made_facts, reply_noted}
+use Rattle.vx_group_lines.specs.Noting.{IsKeptRefusal, made_facts, reply_kept}
 use Rattle.vx_group_lines.proofs.AwayCalls.{AwayCall}
 use Rattle.vx_group_lines.proofs.AwayFound.{away_found}
 use Rattle.vx_group_lines.proofs.AwayHeld.{away_device, away_limit, away_memory, away_missing, away_none, away_off, away_strange}
 use Rattle.vx_group_lines.proofs.AwayLost.{lost_disk, lost_fuse, lost_number, lost_room}
 use Rattle.vx_group_lines.proofs.AwayPlain.{away_plain}
 use Rattle.vx_group_lines.proofs.AwayRose.{away_rose}
-use Rattle.vx_group_lines.proofs.GroupEnding.{Midway, lets_on, load_on}
+use Rattle.vx_group_lines.proofs.GroupEnding.{Midway, load_on}
 use Rattle.vx_group_lines.proofs.Tests.{AwayMay}
 
 never_done : {stop : Stop} → (let x : Result (Unit {0}) Stop = Err stop in x ≡ Ok tt) → ⊥
@@ -153,8 +153,8 @@ module _ {R : Type 0} {g : Ghosts R} (d : Doubted) (old new : Yard R g) (name : 
   first_fact = fact_of d old s stands below ∙ ap (λ (x : SiteFacts). Some x) (fact_apart d.world s (rvg_apart n over))
 
   module _ (mid : Yard R g) (half : Midway old mid) (result : Result Said OutOfMemory) where
-    facts_off : (why : No) → below_facts why f ≡ f → IsNotedRefusal s f why mid new result → new.facts.items ≡ slice_set old.facts.items s f
-    facts_off why quiet it = it.facts ∙ ap (λ (x : SiteFacts). slice_set mid.facts.items s x) quiet ∙ ap (λ (fs : List SiteFacts). slice_set fs s f) half.facts
+    facts_off : (p : OverSet R g) (why : No) → below_facts why f ≡ f → IsKeptRefusal (Over p) s f why mid new result → new.facts.items ≡ slice_set old.facts.items s f
+    facts_off p why quiet it = it.facts ∙ ap (λ (x : SiteFacts). slice_set mid.facts.items s x) quiet ∙ ap (λ (fs : List SiteFacts). slice_set fs s f) half.facts
 
     memory_facts : new ≡ mid → new.facts.items ≡ slice_set old.facts.items s f
     memory_facts as_mid = ap (λ (y : Yard R g). y.facts.items) as_mid ∙ half.facts ∙ sym (set_same old.facts.items s f first_fact)
@@ -169,53 +169,56 @@ module _ {R : Type 0} {g : Ghosts R} (d : Doubted) (old new : Yard R g) (name : 
     said_as why is it = subst (λ (q : Result Said OutOfMemory). LeadsAboveIs d (GroupImport name) old new q) (sym is) it
 
     -- the replicated volume group did not come up
-    lost : (p : OverSet R g) → after ≡ Over p → (stop : Stop) → reply_noted s f stop mid new result → LostAway (beside_of d s) n note (site_in o) p stop → Leads
+    lost : (p : OverSet R g) → after ≡ Over p → (stop : Stop) → reply_kept (Over p) s f stop mid new result → LostAway (beside_of d s) n note (site_in o) p stop → Leads
     lost p is (StopsBy (Device disk)) it r =
-        said_as _ it.said (lost_disk d old new name s number o p (call (Over p) is) (StopsBy (Device disk)) r (facts_off (Device disk) refl it) (load_on old mid new half it.same it.assemblies) disk r.why.1 r.why.0)
+        said_as _ it.said (lost_disk d old new name s number o p (call (Over p) is) (StopsBy (Device disk)) r (facts_off p (Device disk) refl it) (load_on old mid new half it.same it.assemblies) disk r.why.1 r.why.0)
     lost p is (StopsBy (Limit what most)) it r =
-        said_as _ it.said (lost_number d old new name s number o p (call (Over p) is) (StopsBy (Limit what most)) r (facts_off (Limit what most) refl it) (load_on old mid new half it.same it.assemblies) what most r.why.0 r.why.1 r.why.2)
+        said_as _ it.said (lost_number d old new name s number o p (call (Over p) is) (StopsBy (Limit what most)) r (facts_off p (Limit what most) refl it) (load_on old mid new half it.same it.assemblies) what most r.why.0 r.why.1 r.why.2)
     lost p is (StopsBy other) it r = absurd r.why
     lost p is MemoryStop it r = said_as _ it.1 (lost_room d old new name s number o p (call (Over p) is) MemoryStop r (memory_facts it.0) (memory_load it.0) r.why.0 r.why.1)
 
     -- the group did not, or nothing was known of what did
-    held : (p : OverSet R g) → after ≡ Over p → (stop : Stop) → reply_noted s f stop mid new result → HeldAway (beside_of d s) n note (site_in o) p stop → Leads
+    held : (p : OverSet R g) → after ≡ Over p → (stop : Stop) → reply_kept (Over p) s f stop mid new result → HeldAway (beside_of d s) n note (site_in o) p stop → Leads
     held p is (StopsBy (Device disk)) it h =
-        said_as _ it.said (away_device d old new name s number o p (call (Over p) is) (StopsBy (Device disk)) h (facts_off (Device disk) refl it) (load_on old mid new half it.same it.assemblies) disk h.why)
+        said_as _ it.said (away_device d old new name s number o p (call (Over p) is) (StopsBy (Device disk)) h (facts_off p (Device disk) refl it) (load_on old mid new half it.same it.assemblies) disk h.why)
     held p is (StopsBy (Lacks disk)) it h =
-        said_as _ it.said (away_missing d old new name s number o p (call (Over p) is) (StopsBy (Lacks disk)) h (facts_off (Lacks disk) refl it) (load_on old mid new half it.same it.assemblies) disk refl h.why)
+        said_as _ it.said (away_missing d old new name s number o p (call (Over p) is) (StopsBy (Lacks disk)) h (facts_off p (Lacks disk) refl it) (load_on old mid new half it.same it.assemblies) disk refl h.why)
     held p is (StopsBy NoConfig) it h =
-        said_as _ it.said (away_none d old new name s number o p (call (Over p) is) (StopsBy NoConfig) h (facts_off NoConfig refl it) (load_on old mid new half it.same it.assemblies) refl h.why)
+        said_as _ it.said (away_none d old new name s number o p (call (Over p) is) (StopsBy NoConfig) h (facts_off p NoConfig refl it) (load_on old mid new half it.same it.assemblies) refl h.why)
     held p is (StopsBy (Limit what most)) it h =
-        said_as _ it.said (away_limit d old new name s number o p (call (Over p) is) (StopsBy (Limit what most)) h (facts_off (Limit what most) refl it) (load_on old mid new half it.same it.assemblies) what most h.why.0 h.why.1)
+        said_as _ it.said (away_limit d old new name s number o p (call (Over p) is) (StopsBy (Limit what most)) h (facts_off p (Limit what most) refl it) (load_on old mid new half it.same it.assemblies) what most h.why.0 h.why.1)
     held p is (StopsBy (Damaged unit block stored computed)) it h =
         said_as _ it.said
-        (away_strange d old new name s number o p (call (Over p) is) (StopsBy (Damaged unit block stored computed)) h (facts_off (Damaged unit block stored computed) refl it) (load_on old mid new half it.same it.assemblies)
+        (away_strange d old new name s number o p (call (Over p) is) (StopsBy (Damaged unit block stored computed)) h (facts_off p (Damaged unit block stored computed) refl it) (load_on old mid new half it.same it.assemblies)
         (Damaged unit block stored computed) refl refl tt h.why)
     held p is (StopsBy (Format version)) it h =
         said_as _ it.said
-        (away_strange d old new name s number o p (call (Over p) is) (StopsBy (Format version)) h (facts_off (Format version) refl it) (load_on old mid new half it.same it.assemblies) (Format version) refl refl tt h.why)
+        (away_strange d old new name s number o p (call (Over p) is) (StopsBy (Format version)) h (facts_off p (Format version) refl it) (load_on old mid new half it.same it.assemblies) (Format version) refl refl tt h.why)
     held p is (StopsBy other) it h = absurd h.why
     held p is MemoryStop it h = said_as _ it.1 (away_memory d old new name s number o p (call (Over p) is) MemoryStop h (memory_facts it.0) (memory_load it.0) refl)
 
     -- the fuse ran out
-    off_facts : IsNotedRefusal s f IsOff mid new result → new.facts.items ≡ slice_set old.facts.items s (down_fact f)
-    off_facts it = it.facts ∙ ap (λ (fs : List SiteFacts). slice_set fs s (down_fact f)) half.facts
+    off_facts : (p : OverSet R g) → IsKeptRefusal (Over p) s f IsOff mid new result → new.facts.items ≡ slice_set old.facts.items s (down_fact f)
+    off_facts p it = it.facts ∙ ap (λ (fs : List SiteFacts). slice_set fs s (down_fact f)) half.facts
 
-    off_reply : (stop : Stop) → stop ≡ StopsBy IsOff → reply_noted s f stop mid new result → IsNotedRefusal s f IsOff mid new result
-    off_reply stop is reply = subst (λ (w : Stop). reply_noted s f w mid new result) is reply
+    reply_over : (p : OverSet R g) (stop : Stop) → after ≡ Over p → reply_kept after s f stop mid new result → reply_kept (Over p) s f stop mid new result
+    reply_over p stop is reply = subst (λ (e : DiskSet R g). reply_kept e s f stop mid new result) is reply
 
-    pub takes_refused : (stop : Stop) → TakesAbove before after (Err stop) → reply_noted s (linked_fact d.world s) stop mid new result → LeadsAboveIs d (GroupImport name) old new result
+    off_reply : (p : OverSet R g) (stop : Stop) → after ≡ Over p → stop ≡ StopsBy IsOff → reply_kept after s f stop mid new result → IsKeptRefusal (Over p) s f IsOff mid new result
+    off_reply p stop at is reply = subst (λ (w : Stop). reply_kept (Over p) s f w mid new result) is (reply_over p stop at reply)
+
+    pub takes_refused : (stop : Stop) → TakesAbove before after (Err stop) → reply_kept after s (linked_fact d.world s) stop mid new result → LeadsAboveIs d (GroupImport name) old new result
     takes_refused stop above reply = by (takes (Err stop) above)
       where
         by : OverTakes (beside_of d s) n note (site_in o) after (Err stop) → Leads
         by (TakesAgain p is ok keeps r) = absurd (never_done ok)
         by (TakesFound p is ok keeps r) = absurd (never_done ok)
         by (TakesPlain x is ok keeps r) = absurd (never_done ok)
-        by (TakesLost p end is err r) = lost p is stop reply (subst (λ (w : Stop). LostAway (beside_of d s) n note (site_in o) p w) (sym (stopped_by err)) r)
+        by (TakesLost p end is err r) = lost p is stop (reply_over p stop is reply) (subst (λ (w : Stop). LostAway (beside_of d s) n note (site_in o) p w) (sym (stopped_by err)) r)
         by (TakesLostOff p is err r) =
-            let it : IsNotedRefusal s f IsOff mid new result = off_reply stop (stopped_by err) reply in
-            said_as _ it.said (lost_fuse d old new name s number o p (call (Over p) is) r (off_facts it) (lets_on old mid new s half it.same it.assemblies))
-        by (TakesHeld p end is err r) = held p is stop reply (subst (λ (w : Stop). HeldAway (beside_of d s) n note (site_in o) p w) (sym (stopped_by err)) r)
+            let it : IsKeptRefusal (Over p) s f IsOff mid new result = off_reply p stop is (stopped_by err) reply in
+            said_as _ it.said (lost_fuse d old new name s number o p (call (Over p) is) r (off_facts p it) (load_on old mid new half it.same it.assemblies))
+        by (TakesHeld p end is err r) = held p is stop (reply_over p stop is reply) (subst (λ (w : Stop). HeldAway (beside_of d s) n note (site_in o) p w) (sym (stopped_by err)) r)
         by (TakesHeldOff p is err r) =
-            let it : IsNotedRefusal s f IsOff mid new result = off_reply stop (stopped_by err) reply in
-            said_as _ it.said (away_off d old new name s number o p (call (Over p) is) r (off_facts it) (lets_on old mid new s half it.same it.assemblies))
+            let it : IsKeptRefusal (Over p) s f IsOff mid new result = off_reply p stop is (stopped_by err) reply in
+            said_as _ it.said (away_off d old new name s number o p (call (Over p) is) r (off_facts p it) (load_on old mid new half it.same it.assemblies))

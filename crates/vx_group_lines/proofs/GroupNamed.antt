@@ -1,10 +1,11 @@
 -- The group, and the plex of it, that a line names; and what a reply to a refusal leaves.
-use Rattle.std.proofs.Common.{◌≡◌, ◌∙◌, ◌<◌, ◌≤◌, ℕ, true, List, ap, sym, subst, arith}
-use Rattle.std.specs.Prelude.{Option, Some, IfOk, IsSome, is_some, min, slice_get, unwrap_or, Result, Ok, Err}
+use Rattle.std.proofs.Common.{◌≡◌, ◌∙◌, ◌<◌, ◌≤◌, ℕ, true, List, ap, refl, sym, subst, arith}
+use Rattle.std.specs.Prelude.{Option, Some, IfOk, IsSome, is_some, min, slice_get, slice_set, unwrap_or, Result, Ok, Err}
 use Rattle.std.specs.Str.{bytes_eq}
 use Rattle.vx_model.specs.declared.errors.OutOfMemory.{OutOfMemory}
 use Rattle.vx_model.specs.declared.errors.Stop.{Stop}
 use Rattle.vx_model.specs.declared.errors.Stop.TheVariants.{No as StopsBy, OutOfMemory as MemoryStop}
+use Rattle.vx_model.specs.declared.no.No.{No}
 use Rattle.vx_model.specs.declared.site.SiteState.TheVariants.{Up as IsUp, Deported as IsDeported}
 use Rattle.vx_disk.specs.declared.shelf.Shelf.{Ghosts}
 use Rattle.vx_group.proofs.HoldLemmas.{narrow_sound}
@@ -21,6 +22,9 @@ use Rattle.vx_grouped.specs.declared.group_site.GroupSite.{GroupSite}
 use Rattle.vx_grouped.specs.declared.group_site.GroupSite.TheVariants.{Up as SiteUp, Deported as SiteAway, Down as SiteDown, Marked, Gone as SiteGone}
 use Rattle.vx_diskset.specs.GroupCalls.{AtSite}
 use Rattle.vx_diskset.specs.declared.disk_set.DiskSet.{DiskSet}
+use Rattle.vx_diskset.specs.declared.disk_set.DiskSet.TheVariants.{OfGroup}
+use Rattle.vx_diskset.specs.declared.group_set.GroupSet.{GroupSet}
+use Rattle.vx_events.proofs.Places.{some_same}
 use Rattle.vx_events.proofs.Refused.{FoundAt}
 use Rattle.vx_events.specs.Facts.{place_of, seat_of}
 use Rattle.vx_events.specs.GroupLines.{plain_number}
@@ -28,15 +32,17 @@ use Rattle.vx_events.specs.GroupNotes.{note_at}
 use Rattle.vx_events.specs.GroupViews.{noted_table}
 use Rattle.vx_events.specs.StepsOver.{fact_of_group, over_group_at}
 use Rattle.vx_events.specs.declared.said.Said.{Said}
+use Rattle.vx_events.specs.declared.said.Said.TheVariants.{Refused}
 use Rattle.vx_yard.proofs.NamedSite.{named_same}
 use Rattle.vx_yard.specs.Standing.{LeadsIs, LeadsOverIs, StandsFor}
+use Rattle.vx_yard.specs.Writes.{below_facts}
 use Rattle.vx_yard.specs.declared.yard.Yard.{Yard}
 use Rattle.vx_yard.specs.Yards.{in_files}
 use Rattle.vx_group_lines.proofs.GroupAt.{GroupAt, away_noted, group_at, up_noted}
 use Rattle.vx_group_lines.proofs.GroupCalls.{at_up}
 use Rattle.vx_group_lines.proofs.GroupPlex.{HasPlex, has_plex_at}
 use Rattle.vx_group_lines.proofs.Tests.{AwayMay, PlexMay, UpMay}
-use Rattle.vx_group_lines.specs.Noting.{reply_noted}
+use Rattle.vx_group_lines.specs.Noting.{ImportReply, KeepsRest, LetsGoAt, reply_kept, reply_noted}
 
 -- whatever is answered
 pub if_ok : {T E : Type 0} (P : T → Type 0) (r : Result T E) → ((x : T) → P x) → IfOk r P
@@ -115,6 +121,30 @@ module _ {R : Type 0} {g : Ghosts R} where
   pub reply_same : (s : ℕ) (f : SiteFacts) (stop : Stop) (mid new : Yard R g) (r : Result Said OutOfMemory) → reply_noted s f stop mid new r → ReplySame mid new
   reply_same s f (StopsBy why) mid new r it = record { disk_sets = it.same.disk_sets; racks = it.same.racks; files = ap (λ o. is_some o) it.same.dir }
   reply_same s f MemoryStop mid new r it = record { disk_sets = ap (λ (y : Yard R g). y.disk_sets) it.0; racks = ap (λ (y : Yard R g). y.racks) it.0; files = ap (λ (y : Yard R g). in_files y) it.0 }
+
+  -- and one to a refusal of an import, by the disks that it left
+  pub kept_same : (e : DiskSet R g) (s : ℕ) (f : SiteFacts) (stop : Stop) (mid new : Yard R g) (r : Result Said OutOfMemory) → reply_kept e s f stop mid new r → ReplySame mid new
+  kept_same e s f (StopsBy why) mid new r it = record { disk_sets = it.same.disk_sets; racks = it.same.racks; files = ap (λ o. is_some o) it.same.dir }
+  kept_same e s f MemoryStop mid new r it = record { disk_sets = ap (λ (y : Yard R g). y.disk_sets) it.0; racks = ap (λ (y : Yard R g). y.racks) it.0; files = ap (λ (y : Yard R g). in_files y) it.0 }
+
+  pub kept_as : (s : ℕ) (f : SiteFacts) (stop : Stop) (mid new : Yard R g) (r : Result Said OutOfMemory) (e : DiskSet R g) → ImportReply s f stop mid new r → slice_get mid.disk_sets.items s ≡ Some e → reply_kept e s f stop mid new r
+  kept_as s f stop mid new r e it there = subst (λ (x : DiskSet R g). reply_kept x s f stop mid new r) (some_same (sym it.there ∙ there)) it.is
+
+  pub refusal_kept : (s : ℕ) (f : SiteFacts) (why : No) (stop : Stop) (mid new : Yard R g) (said : Said) → stop ≡ StopsBy why → new.facts.items ≡ slice_set mid.facts.items s (below_facts why f) → LetsGoAt s why mid new → KeepsRest mid new
+      → said ≡ Refused why → ImportReply s f stop mid new (Ok said)
+  refusal_kept s f why stop mid new said is facts lets same as_said = record {
+    disk_set = lets.disk_set;
+    there = lets.there;
+    is = subst (λ (w : Stop). reply_kept lets.disk_set s f w mid new (Ok said)) (sym is) (record { facts = facts; assemblies = lets.is; same = same; said = ap (λ (x : Said). Ok x) as_said });
+  }
+
+  pub memory_kept : (s : ℕ) (f : SiteFacts) (stop : Stop) (mid : Yard R g) (e : DiskSet R g) → stop ≡ MemoryStop → slice_get mid.disk_sets.items s ≡ Some e → ImportReply s f stop mid mid (Err (record {}))
+  memory_kept s f stop mid e is there = record { disk_set = e; there = there; is = subst (λ (w : Stop). reply_kept e s f w mid mid (Err (record {}))) (sym is) (refl, refl) }
+
+  -- which is as to any refusal, where no replicated volume group is over the group
+  pub plain_reply : (t : GroupSet R g) (s : ℕ) (f : SiteFacts) (stop : Stop) (mid new : Yard R g) (r : Result Said OutOfMemory) → reply_kept (OfGroup t) s f stop mid new r → reply_noted s f stop mid new r
+  plain_reply t s f (StopsBy why) mid new r it = record { facts = it.facts; assemblies = it.assemblies; same = it.same; said = it.said }
+  plain_reply t s f MemoryStop mid new r it = it
 
   -- memory was wanted before anything was done
   pub unbegun_over : (d : Doubted) (line : ScriptLine) (y new : Yard R g) (r : Result Said OutOfMemory) (e : OutOfMemory) → r ≡ Err e → LeadsIs d line y new r → LeadsOverIs d line y new r

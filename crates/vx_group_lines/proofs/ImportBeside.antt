@@ -58,12 +58,13 @@ use Rattle.vx_yard.specs.Yards.{IsTold}
 use Rattle.vx_yard.specs.declared.yard.Yard.{Yard}
 use Rattle.vx_above.proofs.FuseGoing.{fused_goes, some_disks}
 use Rattle.vx_above.proofs.Works.{beside_over}
-use Rattle.vx_group_lines.specs.Noting.{made_facts, reply_noted}
+use Rattle.vx_group_lines.specs.Noting.{made_facts, reply_kept}
 use Rattle.vx_group_lines.specs.RvgRises.{rests_world}
 use Rattle.vx_group_lines.proofs.GroupAt.{away_notes}
 use Rattle.vx_group_lines.proofs.GroupCalls.{Called}
 use Rattle.vx_group_lines.proofs.GroupEnding.{Midway}
 use Rattle.vx_group_lines.proofs.GroupImports.{import_done, import_stopped}
+use Rattle.vx_group_lines.proofs.GroupNamed.{plain_reply}
 use Rattle.vx_group_lines.proofs.ImportWhys.{imported_disks}
 use Rattle.vx_group_lines.proofs.RvgComing.{none_after}
 use Rattle.vx_group_lines.proofs.RvgFound.{FoundCall, found_carries, found_ends, found_fails, found_left, found_rose, found_sits, found_stands}
@@ -265,7 +266,7 @@ module _ {R : Type 0} {g : Ghosts R} where
     -- it is refused, or memory ran out
     pub import_kept : (mid : Yard R g) → Midway old mid → (result : Result Said OutOfMemory) → cut_in after ≡ cut_in before → (stop : Stop) → ImportsIn before after (Err stop)
         → ImportsOn (λ o e. SiteImports (d.world.nodes s) (note_at (d.world.nodes s)) o e (Err stop)) before after → ImportsOn (λ o e. CameMapped o e (Err stop)) before after
-        → reply_noted s (fact_of_group (d.world.nodes s) (note_at (d.world.nodes s))) stop mid new result → LeadsBesideIs d (GroupImport name) old new result
+        → reply_kept after s (fact_of_group (d.world.nodes s) (note_at (d.world.nodes s))) stop mid new result → LeadsBesideIs d (GroupImport name) old new result
     import_kept mid half result cut stop brought on maps reply = by (came_either call.at.set before after (Err stop) call.at.is_set brought)
       where
         by : CameEither after (Err stop) → LeadsBesideIs d (GroupImport name) old new result
@@ -273,5 +274,7 @@ module _ {R : Type 0} {g : Ghosts R} where
             beside_over d (GroupImport name) old new result over
             (import_stopped d old new name s before after stands call place away noted mid half result cut stop
             (on_plain (λ o e. SiteImports n note o e (Err stop)) before after call.at.set t call.at.is_set is on)
-            (on_plain (λ o e. CameMapped o e (Err stop)) before after call.at.set t call.at.is_set is maps) over reply)
+            (on_plain (λ o e. CameMapped o e (Err stop)) before after call.at.set t call.at.is_set is maps) over
+            (plain_reply t s (fact_of_group (d.world.nodes s) (note_at (d.world.nodes s))) stop mid new result
+            (subst (λ (x : DiskSet R g). reply_kept x s (fact_of_group (d.world.nodes s) (note_at (d.world.nodes s))) stop mid new result) is reply)))
         by (CameOver p is ok) = absurd (never_ok stop (Err stop) refl ok)

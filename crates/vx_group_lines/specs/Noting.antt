@@ -13,9 +13,11 @@ use Rattle.vx_order.specs.declared.facts.SiteFacts.{SiteFacts}
 use Rattle.vx_grouped.specs.GroupSites.{site_config}
 use Rattle.vx_diskset.specs.GroupCalls.{AtSite, core_in}
 use Rattle.vx_diskset.specs.declared.disk_set.DiskSet.{DiskSet}
+use Rattle.vx_diskset.specs.declared.disk_set.DiskSet.TheVariants.{Over}
 use Rattle.vx_events.specs.declared.said.Said.{Said}
 use Rattle.vx_events.specs.declared.said.Said.TheVariants.{Refused}
 use Rattle.vx_events.specs.RvgViews.{kinds_by}
+use Rattle.vx_packet.specs.Assemblies.{Assembled}
 use Rattle.vx_rvg.specs.Views.{Core, last_of}
 use Rattle.vx_yard.specs.Changes.{up_facts}
 use Rattle.vx_yard.specs.GroupFacts.{group_up_facts}
@@ -55,6 +57,33 @@ module _ {R : Type 0} {g : Ghosts R} where
   abbrev pub reply_noted : (s : ℕ) → SiteFacts → Stop → Yard R g → Yard R g → Result Said OutOfMemory → Type 0
   reply_noted s f (StopsBy why) old new result = IsNotedRefusal s f why old new result
   reply_noted s f MemoryStop old new result = (new ≡ old) × (result ≡ Err (record {}))
+
+  -- What a site has in assembly where an import of these disks was refused: it is let go where the site is down; but one over whose group a replicated volume group is
+  -- has nothing there.
+  abbrev pub LetsGoUnder : DiskSet R g → Refusal → (s : ℕ) → List Assembled → List Assembled → Type 0
+  LetsGoUnder (Over o) why s old new = new ≡ old
+  LetsGoUnder other why s old new = LetGoBy why s old new
+
+  pub record LetsGoAt (s : ℕ) (why : Refusal) (old new : Yard R g) : Type 0 where
+    pub disk_set : DiskSet R g
+    pub there : slice_get old.disk_sets.items s ≡ Some disk_set
+    pub is : LetsGoUnder disk_set why s old.assemblies.items new.assemblies.items
+
+  -- a site with these disks and these facts behind an import that was refused so, and the reply
+  pub record IsKeptRefusal (e : DiskSet R g) (s : ℕ) (f : SiteFacts) (why : Refusal) (old new : Yard R g) (result : Result Said OutOfMemory) : Type 0 where
+    pub facts : new.facts.items ≡ slice_set old.facts.items s (below_facts why f)
+    pub assemblies : LetsGoUnder e why s old.assemblies.items new.assemblies.items
+    pub same : KeepsRest old new
+    pub said : result ≡ Ok (Refused why)
+
+  abbrev pub reply_kept : DiskSet R g → (s : ℕ) → SiteFacts → Stop → Yard R g → Yard R g → Result Said OutOfMemory → Type 0
+  reply_kept e s f (StopsBy why) old new result = IsKeptRefusal e s f why old new result
+  reply_kept e s f MemoryStop old new result = (new ≡ old) × (result ≡ Err (record {}))
+
+  pub record ImportReply (s : ℕ) (f : SiteFacts) (stop : Stop) (old new : Yard R g) (result : Result Said OutOfMemory) : Type 0 where
+    pub disk_set : DiskSet R g
+    pub there : slice_get old.disk_sets.items s ≡ Some disk_set
+    pub is : reply_kept disk_set s f stop old new result
 
   -- the group of the site is up with this configuration
   pub record HasConfig (s : ℕ) (c : Config) (y : Yard R g) : Type 0 where

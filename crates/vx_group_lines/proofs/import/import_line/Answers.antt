@@ -27,7 +27,7 @@ use Rattle.vx_model.proofs.Lists.{get_there}
 use Rattle.vx_above.proofs.Works.{beside_over}
 use Rattle.vx_group_lines.proofs.AwayTakes.{away_above, takes_done, takes_refused}
 use Rattle.vx_group_lines.proofs.GroupLeads.{or_stops}
-use Rattle.vx_group_lines.proofs.GroupNamed.{away_named, if_ok, reply_same, unbegun_over}
+use Rattle.vx_group_lines.proofs.GroupNamed.{away_named, if_ok, kept_as, kept_same, unbegun_over}
 use Rattle.vx_group_lines.proofs.ImportBeside.{import_came, import_kept}
 use Rattle.vx_group_lines.proofs.RvgRecovers.{unbegun_above}
 use Rattle.vx_group_lines.proofs.Tests.{import_may}
@@ -91,16 +91,17 @@ returns-in-Err-clause-beside g c = λ d stands over.
     let n = d.world.nodes s in
     let note = note_at (d.world.nodes s) in
     let f = fact_of_group (d.world.nodes s) (note_at (d.world.nodes s)) in
-    let reply = c.group_stopped.ensures f up.at.fact in
-    let same = reply_same s f c.in-Err.stop _ c.group_stopped.new.yard c.group_stopped.result reply in
-    import_kept d y c.group_stopped.new.yard c.args.name.now s before after stands
+    let now = ap (λ es. slice_get es s) twice ∙ get-set_same sets s after (slice_get_within sets s before there) in
+    let reply = kept_as s f c.in-Err.stop _ c.import_stopped.new.yard c.import_stopped.result after (c.import_stopped.ensures f up.at.fact) now in
+    let same = kept_same after s f c.in-Err.stop _ c.import_stopped.new.yard c.import_stopped.result reply in
+    import_kept d y c.import_stopped.new.yard c.args.name.now s before after stands
     (record {
       at = up.at;
       changed = record { there = there; later = c.import_group-disk_set.ensures.later; disk_sets = ap (λ es. es.items) same.disk_sets ∙ twice; racks = same.racks };
       failing = c.import_group-disk_set.ensures.failing;
     })
     (place_at d y c.args.name.now s stands c.site_of-site.ensures.seat).number up.away up.is_away over
-    _ (record { facts = refl; load = record { flight = refl; assemblies = refl; feeders = refl } }) c.group_stopped.result
+    _ (record { facts = refl; load = record { flight = refl; assemblies = refl; feeders = refl } }) c.import_stopped.result
     (c.import_group-disk_set.ensures.cut ∙ ap (λ r. cut_past r before) c.in-Err.is) c.in-Err.stop
     (subst (λ r. ImportsIn before after r) c.in-Err.is c.import_group-disk_set.ensures.brought)
     (subst (λ r. ImportsOn (λ o e. SiteImports n note o e r) before after) c.in-Err.is (c.import_group-disk_set.ensures.imported n note up.noted))
@@ -142,12 +143,13 @@ returns-in-Err-clause-above g c = λ d stands over.
     let twice = ap (λ e. slice_set (slice_set sets s e) s after) c.replace-disk_set.ensures.after ∙ set_twice sets s Gone after in
     let at = away_above d y c.args.name.now s stands c.site_of-site.ensures.seat (import_may y.facts.items (in_files y) c.args.name.now c.requires.free) over in
     let f = linked_fact d.world s in
-    let reply = c.group_stopped.ensures f at.fact in
-    let same = reply_same s f c.in-Err.stop _ c.group_stopped.new.yard c.group_stopped.result reply in
-    takes_refused d y c.group_stopped.new.yard c.args.name.now s at.number before after stands at.below at.over at.away
+    let now = ap (λ es. slice_get es s) twice ∙ get-set_same sets s after (slice_get_within sets s before there) in
+    let reply = kept_as s f c.in-Err.stop _ c.import_stopped.new.yard c.import_stopped.result after (c.import_stopped.ensures f at.fact) now in
+    let same = kept_same after s f c.in-Err.stop _ c.import_stopped.new.yard c.import_stopped.result reply in
+    takes_refused d y c.import_stopped.new.yard c.args.name.now s at.number before after stands at.below at.over at.away
     (record { there = there; later = c.import_group-disk_set.ensures.later; disk_sets = ap (λ es. es.items) same.disk_sets ∙ twice; racks = same.racks })
     c.import_group-disk_set.ensures.failing
-    _ (record { facts = refl; load = record { flight = refl; assemblies = refl; feeders = refl } }) c.group_stopped.result c.in-Err.stop
+    _ (record { facts = refl; load = record { flight = refl; assemblies = refl; feeders = refl } }) c.import_stopped.result c.in-Err.stop
     (subst (λ r. TakesAbove before after r) c.in-Err.is c.import_group-disk_set.ensures.above) reply
 
 pub returns-in-Ok-clause-asked : goal.returns-in-Ok-clause-asked
@@ -171,8 +173,9 @@ returns-in-Err-clause-asked g c = λ d stands over.
     let there = get_at sets s c.index_mut.result.now c.site_of-site.ensures.disk_set c.index_mut.ensures.value ∙ ap (λ e. Some e) (sym c.replace-disk_set.ensures.value) in
     let twice = ap (λ e. slice_set (slice_set sets s e) s after) c.replace-disk_set.ensures.after ∙ set_twice sets s Gone after in
     let f = get_there y.facts.items s c.site_of-site.ensures.fact in
-    let same = reply_same s f.0 c.in-Err.stop _ c.group_stopped.new.yard c.group_stopped.result (c.group_stopped.ensures f.0 f.1) in
-    asks_at SameFailing d y c.group_stopped.new.yard c.args.name.now s before after stands c.site_of-site.ensures.seat there (ap (λ es. es.items) same.disk_sets ∙ twice) c.import_group-disk_set.ensures.failing
+    let reply = c.import_stopped.ensures f.0 f.1 in
+    let same = kept_same reply.disk_set s f.0 c.in-Err.stop _ c.import_stopped.new.yard c.import_stopped.result reply.is in
+    asks_at SameFailing d y c.import_stopped.new.yard c.args.name.now s before after stands c.site_of-site.ensures.seat there (ap (λ es. es.items) same.disk_sets ∙ twice) c.import_group-disk_set.ensures.failing
 
 pub returns-in-Ok-clause-called : goal.returns-in-Ok-clause-called
 returns-in-Ok-clause-called g c = λ d stands over.
@@ -198,9 +201,10 @@ returns-in-Err-clause-called g c = λ d stands over.
     let twice = ap (λ e. slice_set (slice_set sets s e) s after) c.replace-disk_set.ensures.after ∙ set_twice sets s Gone after in
     let up = away_named d y c.args.name.now s before stands c.site_of-site.ensures.seat over there (import_may y.facts.items (in_files y) c.args.name.now c.requires.free) in
     let f = get_there y.facts.items s c.site_of-site.ensures.fact in
-    let same = reply_same s f.0 c.in-Err.stop _ c.group_stopped.new.yard c.group_stopped.result (c.group_stopped.ensures f.0 f.1) in
-    if_ok (λ said. HasCalled d.world (GroupImport c.args.name.now) said y c.group_stopped.new.yard) c.group_stopped.result
-    (λ said. asks_at FuseGoesOn d y c.group_stopped.new.yard c.args.name.now s before after stands c.site_of-site.ensures.seat there (ap (λ es. es.items) same.disk_sets ∙ twice)
+    let reply = c.import_stopped.ensures f.0 f.1 in
+    let same = kept_same reply.disk_set s f.0 c.in-Err.stop _ c.import_stopped.new.yard c.import_stopped.result reply.is in
+    if_ok (λ said. HasCalled d.world (GroupImport c.args.name.now) said y c.import_stopped.new.yard) c.import_stopped.result
+    (λ said. asks_at FuseGoesOn d y c.import_stopped.new.yard c.args.name.now s before after stands c.site_of-site.ensures.seat there (ap (λ es. es.items) same.disk_sets ∙ twice)
     (c.import_group-disk_set.ensures.fuse (d.world.nodes s) (note_at (d.world.nodes s)) up.noted))
 
 pub returns-in-Ok-clause-told : goal.returns-in-Ok-clause-told
@@ -224,7 +228,8 @@ returns-in-Err-clause-told g c = λ told.
     let there = get_at sets s c.index_mut.result.now c.site_of-site.ensures.disk_set c.index_mut.ensures.value ∙ ap (λ e. Some e) (sym c.replace-disk_set.ensures.value) in
     let twice = ap (λ e. slice_set (slice_set sets s e) s after) c.replace-disk_set.ensures.after ∙ set_twice sets s Gone after in
     let f = get_there y.facts.items s c.site_of-site.ensures.fact in
-    let same = reply_same s f.0 c.in-Err.stop _ c.group_stopped.new.yard c.group_stopped.result (c.group_stopped.ensures f.0 f.1) in
+    let reply = c.import_stopped.ensures f.0 f.1 in
+    let same = kept_same reply.disk_set s f.0 c.in-Err.stop _ c.import_stopped.new.yard c.import_stopped.result reply.is in
     told_before sets s before after there c.import_group-disk_set.ensures.later (subst (λ es. AreTold es) (ap (λ es. es.items) same.disk_sets ∙ twice) told)
 
 pub returns-in-Err-clause-files : goal.returns-in-Err-clause-files
@@ -232,7 +237,8 @@ returns-in-Err-clause-files g c =
     let y = c.args.yard.now in
     let s = c.site_of-site.result in
     let f = get_there y.facts.items s c.site_of-site.ensures.fact in
-    (reply_same s f.0 c.in-Err.stop _ c.group_stopped.new.yard c.group_stopped.result (c.group_stopped.ensures f.0 f.1)).files
+    let reply = c.import_stopped.ensures f.0 f.1 in
+    (kept_same reply.disk_set s f.0 c.in-Err.stop _ c.import_stopped.new.yard c.import_stopped.result reply.is).files
 
 pub returns-in-Ok-clause-files : goal.returns-in-Ok-clause-files
 returns-in-Ok-clause-files g c = ap (λ o. is_some o) c.note_up.ensures.same.dir
