@@ -47,6 +47,8 @@ pub mod OverHolds
 pub mod OverKnown
 pub mod OverGone
 pub mod OverTakes
+pub mod OverTakesHeld
+pub mod OverTakesLost
 pub mod OverRecovers
 pub mod OverSettles
 pub mod OverMaking
