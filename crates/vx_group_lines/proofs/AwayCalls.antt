@@ -190,26 +190,26 @@ module _ {R : Type 0} {g : Ghosts R} where
       (table : over_table (gone_in fuse session next (d.world.nodes s)) next ≡ over_table (d.world.nodes s) (note_at (d.world.nodes s))) (named : IsNamed (gone_in fuse session next (d.world.nodes s)))
       (noted : SiteNoted (gone_in fuse session next (d.world.nodes s)) next (Over p)) (stood : SiteStands (beside_of d s) (gone_in fuse session next (d.world.nodes s)) (Over p)) (fused : FusedAs (gone_in fuse session next (d.world.nodes s)) (Over p))
       (e : Doubted) (arrives : Arrives d e s (gone_in fuse session next (d.world.nodes s)) (d.world.gathering s)) (headers : e.world.headers s ≡ d.world.headers s) where
-    abbrev m : Node
-    m = gone_in fuse session next (d.world.nodes s)
+    abbrev gone_node : Node
+    gone_node = gone_in fuse session next (d.world.nodes s)
 
-    gone_apart : is_over_group m ≡ false
-    gone_apart = rvg_apart m (over_again (d.world.nodes s) m next call.over refl refl)
+    gone_apart : is_over_group gone_node ≡ false
+    gone_apart = rvg_apart gone_node (over_again (d.world.nodes s) gone_node next call.over refl refl)
 
     gone_fact : linked_fact d.world s ≡ fact_over e.world s
     gone_fact =
         away_shown d.world s (d.world.nodes s) refl call.away ∙ ap (λ (f : SiteFacts). let x : SiteFacts = record f { links = [] } in x) (sym (gone_seen (d.world.nodes s) fuse session next call.over call.away table))
-        ∙ sym (away_shown e.world s m arrives.node call.away) ∙ sym (fact_apart e.world s (ap (λ (k : Node). is_over_group k) arrives.node ∙ gone_apart))
+        ∙ sym (away_shown e.world s gone_node arrives.node call.away) ∙ sym (fact_apart e.world s (ap (λ (k : Node). is_over_group k) arrives.node ∙ gone_apart))
 
     pub gone_stands : new.facts.items ≡ slice_set old.facts.items s (linked_fact d.world s) → StandsFor e new
     gone_stands facts =
-        away_stands d old new s o (Over p) call e m (d.world.gathering s) arrives
-        (subst (λ (q : KeptBeside). SiteStands q m (Over p)) (sym (beside_as d e s (away_links d old new s o (Over p) call) arrives.links headers (away_sure d old new s o (Over p) call) arrives.sure)) stood) refl fused
-        (role_origin m (Over p) (away_origin d old new s o (Over p) call)) (linked_fact d.world s)
-        ((λ k is. subst (λ (y : GroupNode). SiteNoted m y (Over p)) (some_same is) noted), named) gone_fact facts
+        away_stands d old new s o (Over p) call e gone_node (d.world.gathering s) arrives
+        (subst (λ (q : KeptBeside). SiteStands q gone_node (Over p)) (sym (beside_as d e s (away_links d old new s o (Over p) call) arrives.links headers (away_sure d old new s o (Over p) call) arrives.sure)) stood) refl fused
+        (role_origin gone_node (Over p) (away_origin d old new s o (Over p) call)) (linked_fact d.world s)
+        ((λ k is. subst (λ (y : GroupNode). SiteNoted gone_node y (Over p)) (some_same is) noted), named) gone_fact facts
 
     pub gone_carries : SameLoad old new → Carries d old → Carries e new
-    gone_carries load was = away_carries d old new s o (Over p) call e m arrives (λ up. let w : IsAway ≡ IsUp = sym call.away ∙ up in absurd (cc)) load was
+    gone_carries load was = away_carries d old new s o (Over p) call e gone_node arrives (λ up. let w : IsAway ≡ IsUp = sym call.away ∙ up in absurd (cc)) load was
 
   -- ---- a site that is down then
 
@@ -217,23 +217,23 @@ module _ {R : Type 0} {g : Ghosts R} where
       (table : over_table (fallen_in session next (d.world.nodes s)) next ≡ over_table (d.world.nodes s) (note_at (d.world.nodes s))) (named : IsNamed (fallen_in session next (d.world.nodes s)))
       (noted : SiteNoted (fallen_in session next (d.world.nodes s)) next (Over p)) (stood : SiteStands (beside_of d s) (fallen_in session next (d.world.nodes s)) (Over p))
       (e : Doubted) (arrives : Arrives d e s (fallen_in session next (d.world.nodes s)) (d.world.gathering s)) (headers : e.world.headers s ≡ d.world.headers s) where
-    abbrev m : Node
-    m = fallen_in session next (d.world.nodes s)
+    abbrev fell_node : Node
+    fell_node = fallen_in session next (d.world.nodes s)
 
-    fell_apart : is_over_group m ≡ false
-    fell_apart = rvg_apart m (over_again (d.world.nodes s) m next call.over refl refl)
+    fell_apart : is_over_group fell_node ≡ false
+    fell_apart = rvg_apart fell_node (over_again (d.world.nodes s) fell_node next call.over refl refl)
 
     fell_fact : down_fact (linked_fact d.world s) ≡ fact_over e.world s
     fell_fact =
         fallen_seen (d.world.nodes s) session next call.over table (linked_fact d.world s) (away_shown d.world s (d.world.nodes s) refl call.away)
-        ∙ sym (fell_shown e.world s m arrives.node refl) ∙ sym (fact_apart e.world s (ap (λ (k : Node). is_over_group k) arrives.node ∙ fell_apart))
+        ∙ sym (fell_shown e.world s fell_node arrives.node refl) ∙ sym (fact_apart e.world s (ap (λ (k : Node). is_over_group k) arrives.node ∙ fell_apart))
 
     pub fell_stands : new.facts.items ≡ slice_set old.facts.items s (down_fact (linked_fact d.world s)) → StandsFor e new
     fell_stands facts =
-        away_stands d old new s o (Over p) call e m (d.world.gathering s) arrives
-        (subst (λ (q : KeptBeside). SiteStands q m (Over p)) (sym (beside_as d e s (away_links d old new s o (Over p) call) arrives.links headers (away_sure d old new s o (Over p) call) arrives.sure)) stood) refl (fused_none m (Over p) refl)
-        (role_origin m (Over p) (away_origin d old new s o (Over p) call)) (down_fact (linked_fact d.world s))
-        ((λ k is. subst (λ (y : GroupNode). SiteNoted m y (Over p)) (some_same is) noted), named) fell_fact facts
+        away_stands d old new s o (Over p) call e fell_node (d.world.gathering s) arrives
+        (subst (λ (q : KeptBeside). SiteStands q fell_node (Over p)) (sym (beside_as d e s (away_links d old new s o (Over p) call) arrives.links headers (away_sure d old new s o (Over p) call) arrives.sure)) stood) refl (fused_none fell_node (Over p) refl)
+        (role_origin fell_node (Over p) (away_origin d old new s o (Over p) call)) (down_fact (linked_fact d.world s))
+        ((λ k is. subst (λ (y : GroupNode). SiteNoted fell_node y (Over p)) (some_same is) noted), named) fell_fact facts
 
     pub fell_goes : SameLoad old new → Carries d old → Carries e new
-    fell_goes load was = away_carries d old new s o (Over p) call e m arrives (λ up. let clash : IsDown ≡ IsUp = up in absurd (cc)) load was
+    fell_goes load was = away_carries d old new s o (Over p) call e fell_node arrives (λ up. let clash : IsDown ≡ IsUp = up in absurd (cc)) load was

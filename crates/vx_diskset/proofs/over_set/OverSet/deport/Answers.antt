@@ -1,5 +1,5 @@
 -- The group below a replicated volume group that is deported.
-use Rattle.std.proofs.Common.{◌≡◌, ◌∙◌, ap, refl, subst, sym}
+use Rattle.std.proofs.Common.{◌≡◌, ◌∙◌, ap, subst, sym}
 use Rattle.vx_disk.specs.Moves.{Nowhere}
 use Rattle.vx_untold.specs.Shades.{shade_lawful, shade_rack}
 use Rattle.vx_watched.specs.Since.{CalledSince}
