@@ -32,7 +32,7 @@ use Rattle.vx_diskset.specs.Founded.{LaidFell}
 use Rattle.vx_diskset.specs.Holds.{KeptBeside}
 use Rattle.vx_diskset.specs.OverKeeps.{StaysAbove}
 use Rattle.vx_diskset.specs.OverPlains.{note_tidied}
-use Rattle.vx_diskset.specs.OverVolumes.{StillSite, VolBelow}
+use Rattle.vx_diskset.specs.OverVolumes.{StandsAgain, StillSite, VolBelow}
 use Rattle.vx_diskset.specs.Stands.{AboveStands, SiteStands}
 use Rattle.vx_diskset.specs.declared.above.Above.{Above}
 use Rattle.vx_diskset.specs.declared.disk_set.DiskSet.TheVariants.{Over}
@@ -41,6 +41,22 @@ use Rattle.vx_diskset.proofs.CallsBelow.{called_below, calls_settled, cut_below}
 use Rattle.vx_diskset.proofs.GroupCalling.{IsSettled, up_settled}
 use Rattle.vx_diskset.proofs.OverFrames.{OverUp, over_from, over_to}
 use Rattle.vx_diskset.proofs.Tidied.{site_tidied}
+
+-- what holds where memory was short
+pub unmoved_map : {T : Type 0} {A B : Type 0} → (A → B) → (r : Result T Stop) → IsUnmoved r A → IsUnmoved r B
+unmoved_map f (Ok x) it = tt
+unmoved_map f (Err (Refused why)) it = tt
+unmoved_map f (Err OutOfMemory) it = f it
+
+-- so nothing is said where the fuse ran out
+pub off_unmoved : (A : Type 0) (stop : Stop) → stops_down stop ≡ true → IsUnmoved {T = ℕ} (Err stop) A
+off_unmoved A (Refused why) off = tt
+off_unmoved A OutOfMemory off = absurd (let clash : false ≡ true = off in cc)
+
+-- what is so of each answer
+pub if_any : {T : Type 0} {P : T → Type 0} (r : Result T Stop) → ((x : T) → P x) → IfOk r P
+if_any (Ok x) each = each x
+if_any (Err stop) each = tt
 
 module _ {R : Type 0} {g : Ghosts R} (n : Node) (note : GroupNode) (name : List ℕ) (want : Shape) (group new : Laid R g) (up : GroupUp n note (laid_below group).tells group.core (laid_disks group)) (since : CalledSince (laid_disks group) (laid_disks new))
     (less : TellsLess (laid_below group) (laid_below new)) (has : HasSpelling new.core.inner.config) (racks : (s : Shade R) → IsRack (shade_meaning g.meaning s)) where
@@ -112,25 +128,12 @@ module _ {R : Type 0} {g : Ghosts R} where
   disks_still Gone new still = absurd still
 
   -- the site stands in the same world
-  pub stands_still : (old new : OverSet R g) (a : Above) (e e' : GroupSite R g) → a ≡ above_in old → e ≡ site_in old → site_in new ≡ e' → StaysAbove a e' (above_in new) → StillSite e e' → (beside : KeptBeside) (n : Node) → SiteStands beside n (Over old) → n.state ≡ IsUp → SiteStands beside n (Over new)
-  stands_still old new a e e' above_is site_is at above still beside n stands state =
-      let was : OverUp beside n (above_in old) (site_in old) = over_to beside n old.site state stands.1 in
-      let it : OverUp beside n a e = subst (λ (x : GroupSite R g). OverUp beside n a x) (sym site_is) (subst (λ (x : Above). OverUp beside n x (site_in old)) (sym above_is) was) in
-      let now : OverUp beside n a e' = over_still beside n a e e' still it in
-      (stands.0, over_from beside n new.site (subst (λ (x : GroupSite R g). OverUp beside n (above_in new) x) (sym at) (subst (λ (x : Above). OverUp beside n x e') (sym (above_still e e' a (above_in new) still above)) now)))
-
-  -- what holds where memory was short
-  pub unmoved_map : {T : Type 0} {A B : Type 0} → (A → B) → (r : Result T Stop) → IsUnmoved r A → IsUnmoved r B
-  unmoved_map f (Ok x) it = tt
-  unmoved_map f (Err (Refused why)) it = tt
-  unmoved_map f (Err OutOfMemory) it = f it
-
-  -- so nothing is said where the fuse ran out
-  pub off_unmoved : {A : Type 0} (stop : Stop) → stops_down stop ≡ true → IsUnmoved {T = ℕ} (Err stop) A
-  off_unmoved (Refused why) off = tt
-  off_unmoved OutOfMemory off = cc
-
-  -- what is so of each answer
-  pub if_any : {T : Type 0} {P : T → Type 0} (r : Result T Stop) → ((x : T) → P x) → IfOk r P
-  if_any (Ok x) each = each x
-  if_any (Err stop) each = tt
+  pub stands_still : (old new : OverSet R g) (a : Above) (e e' : GroupSite R g) → a ≡ above_in old → e ≡ site_in old → site_in new ≡ e' → StaysAbove a e' (above_in new) → StillSite e e' → StandsAgain old new
+  stands_still old new a e e' above_is site_is at above still = record { same = by }
+    where
+      by : (beside : KeptBeside) (n : Node) → SiteStands beside n (Over old) → n.state ≡ IsUp → SiteStands beside n (Over new)
+      by beside n stands state =
+          let was : OverUp beside n (above_in old) (site_in old) = over_to beside n old.site state stands.1 in
+          let it : OverUp beside n a e = subst (λ (x : GroupSite R g). OverUp beside n a x) (sym site_is) (subst (λ (x : Above). OverUp beside n x (site_in old)) (sym above_is) was) in
+          let now : OverUp beside n a e' = over_still beside n a e e' still it in
+          (stands.0, over_from beside n new.site (subst (λ (x : GroupSite R g). OverUp beside n (above_in new) x) (sym at) (subst (λ (x : Above). OverUp beside n x e') (sym (above_still e e' a (above_in new) still above)) now)))

@@ -39,6 +39,10 @@ module _ {R : Type 0} {g : Ghosts R} where
       CalledBelow {T = ℕ} false (λ c d. ⊥) (LosesSome (site_disks old) (site_disks new)) (LosesSome (site_disks old) (site_disks new)) (LacksVolume old name want) n note old new (Err (Refused why))
   VolBelow n note name want old new (Err OutOfMemory) = UpNoted n note new
 
+  -- the site stands in the world in which it stood
+  pub record StandsAgain (old new : OverSet R g) : Type 0 where
+    pub same : (beside : KeptBeside) (n : Node) → SiteStands beside n (Over old) → n.state ≡ IsUp → SiteStands beside n (Over new)
+
   -- of a site: what stood over the group stands, or the site crashed; for want of memory it stands in the same world
   pub record VolsBelow (name : List ℕ) (want : Shape) (r : Result ℕ Stop) (old new : OverSet R g) : Type 0 where
     pub made : (n : Node) (note : GroupNode) → UpNoted n note (site_in old) → VolBelow n note name want (site_in old) (site_in new) r
@@ -47,5 +51,5 @@ module _ {R : Type 0} {g : Ghosts R} where
     pub volume : (n : Node) (note : GroupNode) → UpNoted n note (site_in old) → IfOk r (λ vol. VolumeIn name want vol (site_in old) (site_in new))
     pub cut : new.cut ≡ old.cut
     pub kept : KeepsOver old new
-    pub still : IsUnmoved r ((beside : KeptBeside) (n : Node) → SiteStands beside n (Over old) → n.state ≡ IsUp → SiteStands beside n (Over new))
+    pub still : IsUnmoved r (StandsAgain old new)
     pub disks : IsUnmoved r (site_disks (site_in new) ≡ site_disks (site_in old))

@@ -178,6 +178,6 @@ module _ {R : Type 0} {g : Ghosts R} (d : Doubted) (old mid : Yard R g) (name vo
       let said : reply_noted s (linked_fact d.world s) MemoryStop mid new result = reply (linked_fact d.world s) (ap (λ (fs : List SiteFacts). slice_get fs s) half.facts ∙ first.seat.fact) in
       let asks = noted_up (beside_of d s) (d.world.nodes s) (note_at (d.world.nodes s)) first.set.site first.stands.1 up first.noted.0 in
       let stays = short_stays d old new name s before after then.set stands first (changed_on new rest) then.is (then.holds.made (below_rvg (d.world.nodes s)) (note_at (d.world.nodes s)) asks) then.holds.cut then.holds.kept
-      (then.holds.still (beside_of d s) (d.world.nodes s) first.stands up) then.holds.disks
+      (then.holds.still.same (beside_of d s) (d.world.nodes s) first.stands up) then.holds.disks
       (ap (λ (y : Yard R g). y.facts.items) said.0 ∙ half.facts) (load_on old mid new half rest (ap (λ (y : Yard R g). y.assemblies.items) said.0)) in
       subst (λ (x : Result Said OutOfMemory). LeadsAboveIs d (Volume name volume blocks mirrors layout log map_of policy) old new x) (sym said.1) (beside_short d (Volume name volume blocks mirrors layout log map_of policy) old new stays)

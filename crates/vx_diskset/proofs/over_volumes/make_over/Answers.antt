@@ -14,6 +14,7 @@ use Rattle.vx_grouped.proofs.AddMapLemmas.{add_still}
 use Rattle.vx_grouped.proofs.UpMapLemmas.{down_maps, up_maps}
 use Rattle.vx_grouped.proofs.StayPartLemmas.{quiet_down, quiet_map, stays_up}
 use Rattle.vx_grouped.specs.declared.group_site.GroupSite.TheVariants.{Down, Up}
+use Rattle.vx_diskset.specs.OverVolumes.{StillSite}
 use Rattle.vx_diskset.proofs.MakesBelow.{off_unmoved, vol_below_cut, vol_below_done, vol_below_up}
 use Rattle.vx_diskset.proofs.over_volumes.make_over.Goals as goal
 
@@ -91,7 +92,7 @@ pub returns-in-Ok-clause-still : goal.returns-in-Ok-clause-still
 returns-in-Ok-clause-still g c = tt
 
 pub returns-then-is_down_stop-clause-still : goal.returns-then-is_down_stop-clause-still
-returns-then-is_down_stop-clause-still g c = off_unmoved c.in-Err.stop (sym c.is_down_stop.ensures ∙ c.if-is_down_stop.true)
+returns-then-is_down_stop-clause-still g c = off_unmoved (StillSite (Up c.args.laid) (Down c.fell_idle-idle.result)) c.in-Err.stop (sym c.is_down_stop.ensures ∙ c.if-is_down_stop.true)
 
 pub returns-else-is_down_stop-clause-still : goal.returns-else-is_down_stop-clause-still
 returns-else-is_down_stop-clause-still g c = subst (λ r. IsUnmoved {T = ℕ} r ((c.make_watched-laid.result.0.core ≡ c.args.laid.core) × (c.make_watched-laid.result.0.shelf ≡ c.args.laid.shelf))) c.in-Err.is c.make_watched-laid.ensures.still
