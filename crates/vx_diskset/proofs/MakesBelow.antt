@@ -116,8 +116,8 @@ module _ {R : Type 0} {g : Ghosts R} where
   above_still (Marked rack) new a b still is = absurd still
   above_still Gone new a b still is = absurd still
 
-  pub disks_still : (old new : GroupSite R g) → StillSite old new → site_disks new ≡ site_disks old
-  disks_still (Up old) (Up new) still = ap (λ (s : Shade R). shade_meaning g.meaning s) still.1
+  pub disks_still : (old new : GroupSite R g) → StillSite old new → (site_disks new).disks ≡ (site_disks old).disks
+  disks_still (Up old) (Up new) still = ap (λ (s : Shade R). (shade_meaning g.meaning s).disks) still.1
   disks_still (Up old) (Deported idle) still = absurd still
   disks_still (Up old) (Down idle) still = absurd still
   disks_still (Up old) (Marked rack) still = absurd still

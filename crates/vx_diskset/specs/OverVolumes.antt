@@ -52,4 +52,4 @@ module _ {R : Type 0} {g : Ghosts R} where
     pub cut : new.cut ≡ old.cut
     pub kept : KeepsOver old new
     pub still : IsUnmoved r (StandsAgain old new)
-    pub disks : IsUnmoved r (site_disks (site_in new) ≡ site_disks (site_in old))
+    pub disks : IsUnmoved r ((site_disks (site_in new)).disks ≡ (site_disks (site_in old)).disks)

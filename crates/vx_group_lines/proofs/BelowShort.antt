@@ -41,7 +41,7 @@ use Rattle.vx_above.proofs.Works.{beside_short}
 use Rattle.vx_group_lines.proofs.BelowAt.{BelowAt}
 
 module _ {R : Type 0} {g : Ghosts R} (d : Doubted) (old new : Yard R g) (name : List ℕ) (s : ℕ) (before after : DiskSet R g) (p : OverSet R g) (stands : StandsFor d old) (at : BelowAt d old name s before) (changed : Changed old new s before after) (is : after ≡ Over p)
-    (noted : UpNoted (below_rvg (d.world.nodes s)) (note_at (d.world.nodes s)) (site_in p)) (cut : p.cut ≡ at.set.cut) (kept : KeepsOver at.set p) (stood : SiteStands (beside_of d s) (d.world.nodes s) (Over p)) (disks : site_disks (site_in p) ≡ site_disks (site_in at.set)) where
+    (noted : UpNoted (below_rvg (d.world.nodes s)) (note_at (d.world.nodes s)) (site_in p)) (cut : p.cut ≡ at.set.cut) (kept : KeepsOver at.set p) (stood : SiteStands (beside_of d s) (d.world.nodes s) (Over p)) (disks : (site_disks (site_in p)).disks ≡ (site_disks (site_in at.set)).disks) where
   abbrev n : Node
   n = d.world.nodes s
 
@@ -54,12 +54,12 @@ module _ {R : Type 0} {g : Ghosts R} (d : Doubted) (old new : Yard R g) (name : 
   fails : FailsAs n (Over p)
   fails =
       let was : FailsAs n (Over at.set) = subst (λ (x : DiskSet R g). FailsAs n x) at.is_set (stands.failing s before at.seat.below changed.there) in
-      record { told = λ x told u on. was.told x (ap (λ (m : Meaning). m.disks) (sym disks) ∙ told) u on }
+      record { told = λ x told u on. was.told x (sym disks ∙ told) u on }
 
   fused : FusedAs n (Over p)
   fused =
       let was : FusedAs n (Over at.set) = subst (λ (x : DiskSet R g). FusedAs n x) at.is_set (stands.fuses s before at.seat.below changed.there) in
-      record { told = λ x told. was.told x (ap (λ (m : Meaning). m.disks) (sym disks) ∙ told) }
+      record { told = λ x told. was.told x (sym disks ∙ told) }
 
   kind : RoleIs n (Over p)
   kind = kept.above n (subst (λ (x : DiskSet R g). RoleIs n x) at.is_set (stands.roles.each s before at.seat.below changed.there))

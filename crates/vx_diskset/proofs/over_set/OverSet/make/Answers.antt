@@ -44,7 +44,7 @@ returns-clause-makes g c =
           unmoved_map (λ still. stands_still c.args.self.now c.of.result c.parts-site.result.1 c.parts-site.result.0 c.make_below-site.result.0 stood was c.of.ensures.site c.of.ensures.above still)
           c.make_below-site.result.1 c.make_below-site.ensures.still;
       disks =
-          unmoved_map (λ still. ap (λ s. site_disks s) c.of.ensures.site ∙ disks_still c.parts-site.result.0 c.make_below-site.result.0 still ∙ ap (λ s. site_disks s) was) c.make_below-site.result.1 c.make_below-site.ensures.still;
+          unmoved_map (λ still. ap (λ s. (site_disks s).disks) c.of.ensures.site ∙ disks_still c.parts-site.result.0 c.make_below-site.result.0 still ∙ ap (λ s. (site_disks s).disks) was) c.make_below-site.result.1 c.make_below-site.ensures.still;
     }
 
 pub returns-clause-since : goal.returns-clause-since
