@@ -69,7 +69,7 @@ module _ {R : Type 0} {g : Ghosts R} (racks : (s : Shade R) → IsRack (shade_me
   abbrev first : Meaning
   first = shade_meaning g.meaning brings.first
 
-  group_up : GroupUp (below_rvg (came_with (burned n.fuse) middle n)) middle (laid_below laid).tells laid.core (laid_disks laid)
+  pub group_up : GroupUp (below_rvg (came_with (burned n.fuse) middle n)) middle (laid_below laid).tells laid.core (laid_disks laid)
   group_up = group_here n note idle agrees names laid risen
 
   pub bright_known : not idle.agreed ≡ false

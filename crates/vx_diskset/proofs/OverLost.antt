@@ -208,6 +208,7 @@ module _ {R : Type 0} {g : Ghosts R} (racks : (s : Shade R) → IsRack (shade_me
       -- or were brought up by themselves
       module _ (never : IsTrue (idle_ready fell).tells → LacksCommit mid.core.inner → ⊥) where
         away_k : RestsOver (λ x. AwayLeft x beside k (idle_ready fell)) beside k (idle_ready fell)
+        unfolding rests_k
         away_k = record {
           config = c;
           sure = rests_k.sure;
