@@ -2,6 +2,7 @@
 use Rattle.std.proofs.Common.{◌≡◌, ◌∙◌, ◌⊎◌, inl, inr, ℕ, ◌≤◌, Bool, true, false, length, not, IsTrue, ap, arith, refl, subst, sym}
 use Rattle.std.specs.Prelude.{Option, Some}
 use Rattle.vx_config.specs.declared.config.Config.{Config}
+use Rattle.vx_disk.specs.Moves.{Anything}
 use Rattle.vx_disk.specs.Racks.{IsRack}
 use Rattle.vx_disk.specs.Shelf.{Lawful, Meaning}
 use Rattle.vx_disk.specs.declared.shelf.Shelf.{Ghosts}
@@ -39,15 +40,18 @@ use Rattle.vx_diskset.specs.Noted.{AgreesStill, FoundNamed, NotedOn, NotesWorked
 use Rattle.vx_diskset.specs.OverRises.{CameGroup, CameOver, RoseAgain, came_with}
 use Rattle.vx_diskset.specs.OverStarts.{FellBack, Started, all_latest}
 use Rattle.vx_diskset.specs.Stands.{IsOverSite, idle_ready}
-use Rattle.vx_diskset.specs.Works.{OnlyLog}
+use Rattle.vx_diskset.specs.Works.{LogBlocks, OnlyLog}
 use Rattle.vx_diskset.specs.declared.group_set.CutWrite.{CutWrite}
 use Rattle.vx_diskset.specs.declared.over_set.OverSet.{OverSet}
+use Rattle.vx_disk.proofs.Moving.{still}
+use Rattle.vx_ground.proofs.AccountLemmas.{ground_none}
+use Rattle.vx_watched.proofs.SinceLemmas.{since_none}
 use Rattle.vx_diskset.proofs.MadeOver.{fuse_over}
 use Rattle.vx_diskset.proofs.OverCame.{took}
 use Rattle.vx_diskset.proofs.OverFalls.{crash_noted}
 use Rattle.vx_diskset.proofs.OverHas.{HasVolumes, told_before}
-use Rattle.vx_diskset.proofs.OverHolds.{agreed_told, bright_told, came_group, CameUp, group_here, names_found, read_rvg}
-use Rattle.vx_diskset.proofs.OverMoved.{inside_then, moved, named_then, tidy_then, units_then}
+use Rattle.vx_diskset.proofs.OverHolds.{agreed_told, bright_told, came_group, CameUp, ground_same, group_here, names_found, read_rvg}
+use Rattle.vx_diskset.proofs.OverMoved.{inside_then, moved, moved_is, named_then, tidy_then, units_then}
 use Rattle.vx_diskset.proofs.OverNoted.{note_read}
 use Rattle.vx_diskset.proofs.OverReturns.{came_again, came_session}
 use Rattle.vx_diskset.proofs.OverNoted.{cut_down}
@@ -187,3 +191,10 @@ module _ {R : Type 0} {g : Ghosts R} (racks : (s : Shade R) → IsRack (shade_me
         subst (λ (b : Bool). GroupDown (crashed lost_node 0) worked b (idle_below last).tells (idle_disks last)) (sym agreed_known)
         (subst (λ (x : Shade R). GroupDown (crashed lost_node 0) worked fell.fell.agreed (g.meaning (rack_of x)).tells (shade_meaning g.meaning x)) (sym fell.rack)
         (crash_noted all_latest mid fell.fell fell.is (Up mid) refl lost_node worked moved_known.4 up))
+
+  -- behind no call the note is the same
+  pub none_known : (last : Idle R g) (fell : FellBack laid last)
+      → (moved_known laid last fell (ground_none (ground_state laid.core) (laid_disks laid)) (since_none (laid_disks laid)) (λ below. below) (still (LogBlocks (units_of n)) Anything (laid_volumes laid))).0 ≡ middle
+  none_known last fell =
+      moved_is racks n middle (burned n.fuse) (units_of n) laid laid inside_known named_known group_up (ground_none (ground_state laid.core) (laid_disks laid)) (since_none (laid_disks laid)) (λ below. below) (still (LogBlocks (units_of n)) Anything (laid_volumes laid))
+      ∙ ground_same n note idle agrees names laid risen

@@ -67,11 +67,10 @@ use Rattle.vx_diskset.proofs.CountMoves.{counts_lose}
 use Rattle.vx_diskset.proofs.OverDims.{some_in}
 use Rattle.vx_diskset.proofs.OverFalls.{crash_named}
 use Rattle.vx_diskset.proofs.OverHas.{HasVolumes, fell_has, one_down}
-use Rattle.vx_diskset.proofs.OverHolds.{agrees_down, came_down, came_group, CameUp, down_for, found_again, ground_same, group_here, held_refused, held_untold, names_found, never_both, never_fused, plain_again}
+use Rattle.vx_diskset.proofs.OverHolds.{agrees_down, came_down, came_group, CameUp, down_for, found_again, group_here, held_refused, held_untold, names_found, never_both, never_fused, plain_again}
 use Rattle.vx_diskset.proofs.OverKept.{fell_site}
-use Rattle.vx_diskset.proofs.OverKnown.{agreed_known, bright_known, counts_known, down_known, inner_known, inside_known, moved_known, named_config, named_known, ready_known, rose_known, rvg_known, seen_known, units_known}
+use Rattle.vx_diskset.proofs.OverKnown.{agreed_known, bright_known, counts_known, down_known, inner_known, moved_known, named_config, none_known, ready_known, rose_known, rvg_known, seen_known, units_known}
 use Rattle.vx_diskset.proofs.OverLost.{InSession, left_there, lost_stands, starting_in, still_in}
-use Rattle.vx_diskset.proofs.OverMoved.{moved, moved_is}
 use Rattle.vx_diskset.proofs.StartGroup.{limit_same}
 
 -- ---- a site that stands by itself
@@ -127,12 +126,6 @@ module _ {R : Type 0} {g : Ghosts R} (racks : (s : Shade R) → IsRack (shade_me
 
       bright : not idle.agreed ≡ false
       bright = bright_known racks laws beside n note idle down.agrees names over inside laid risen told has
-
-      inside_middle : InsideOf (units_of n) middle
-      inside_middle = inside_known racks laws beside n note idle down.agrees names over inside laid risen told has
-
-      named_middle : rvg_noted middle ≡ Some (units_of n)
-      named_middle = named_known racks laws beside n note idle down.agrees names over inside laid risen told has
 
       named_now : came.config.now.rvg ≡ Some (units_of n)
       named_now = named_config racks laws beside n note idle down.agrees names over inside laid risen told has
@@ -265,23 +258,13 @@ module _ {R : Type 0} {g : Ghosts R} (racks : (s : Shade R) → IsRack (shade_me
           let has = off.starts.does.2.each (state_with n beside.links) n.session (most_header beside n) with.held with.left in
           never_both (is_alone off.core.log.header.state) (ap (λ (x : State). is_alone x) has.0 ∙ stands_alone n beside.links over.5 over.4 quiet) off.linked
 
-      -- behind no call the note is the same
-      abbrev no_moved : NotesWorked (came_with (burned n.fuse) middle n) middle (Up laid) (Up laid)
-      no_moved =
-          moved racks n middle (burned n.fuse) (units_of n) laid laid inside_middle named_middle group_up (ground_none (ground_state laid.core) (laid_disks laid)) (since_none (laid_disks laid)) (λ below. below) (still (LogBlocks (units_of n)) Anything (laid_volumes laid))
-
-      no_work : no_moved.0 ≡ middle
-      no_work =
-          moved_is racks n middle (burned n.fuse) (units_of n) laid laid inside_middle named_middle group_up (ground_none (ground_state laid.core) (laid_disks laid)) (since_none (laid_disks laid)) (λ below. below) (still (LogBlocks (units_of n)) Anything (laid_volumes laid))
-          ∙ ground_same n note idle down.agrees names laid risen
-
       lost_tried : (mid : Laid R g) (last : Idle R g) (fell : FellBack mid last) (s : OverSet R g) → site_in s ≡ Down last → s.cut ≡ cut → (stop : Stop) → TriedOn (units_of n) laid mid stop → LostAgain beside n note (Down idle) s stop
       lost_tried mid last fell s at cuts (Refused why) (inl it) = lost_cause mid last fell s at cuts it.ground it.since it.told it.does.0 why it
       lost_tried mid last fell s at cuts (Refused why) (inr it) = absurd (never_off mid it.1)
       lost_tried mid last fell s at cuts OutOfMemory it =
           subst (λ (x : Laid R g). FellBack x last → LostAgain beside n note (Down idle) s OutOfMemory) (sym it)
           (λ back. lost_by laid last back s at cuts (ground_none (ground_state laid.core) (laid_disks laid)) (since_none (laid_disks laid)) (λ below. below) (still (LogBlocks (units_of n)) Anything (laid_volumes laid)) n.session (inl refl)
-          (still_in racks laws beside n laid told has laid (since_none (laid_disks laid)) (still (LogBlocks (units_of n)) Anything (laid_volumes laid)) back.fell back.is (λ u b v left. left)) OutOfMemory (refl, no_work))
+          (still_in racks laws beside n laid told has laid (since_none (laid_disks laid)) (still (LogBlocks (units_of n)) Anything (laid_volumes laid)) back.fell back.is (λ u b v left. left)) OutOfMemory (refl, none_known racks laws beside n note idle down.agrees names over inside laid risen told has last back))
           fell
 
     -- ---- by what came of it

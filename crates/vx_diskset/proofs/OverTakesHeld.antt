@@ -225,7 +225,7 @@ module _ {R : Type 0} {g : Ghosts R} (racks : (s : Shade R) → IsRack (shade_me
     group_up : GroupUp (below_rvg (came_with (burned n.fuse) middle n)) middle (laid_below laid).tells laid.core (laid_disks laid)
     group_up = group_here n note idle away.agrees names laid risen
 
-    as_away : (l : Laid R g) → CameGroup n note (Down idle) l → CameGroup n note (Deported idle) l
+    abbrev as_away : (l : Laid R g) → CameGroup n note (Down idle) l → CameGroup n note (Deported idle) l
     as_away l it = record { middle = it.middle; returns = it.returns; config = it.config; up = it.up; from = it.from }
 
     -- ---- it is not known what they hold

@@ -60,12 +60,11 @@ use Rattle.vx_diskset.proofs.OverDisks.{LeavesLess, idle_less, named_less}
 use Rattle.vx_diskset.proofs.OverFalls.{crash_fallen, crash_named}
 use Rattle.vx_diskset.proofs.OverGone.{risen_gone}
 use Rattle.vx_diskset.proofs.OverHas.{HasVolumes, away_has}
-use Rattle.vx_diskset.proofs.OverHolds.{CameUp, agreed_told, agrees_down, came_away, came_group, down_for, ground_same, group_here, never_both}
+use Rattle.vx_diskset.proofs.OverHolds.{CameUp, agreed_told, agrees_down, came_away, came_group, down_for, group_here, never_both}
 use Rattle.vx_diskset.proofs.OverKept.{fell_site}
-use Rattle.vx_diskset.proofs.OverKnown.{agreed_known, bright_known, counts_known, down_known, inner_known, inside_known, moved_known, named_config, named_known, ready_known, rose_known, rvg_known, seen_known, units_known}
+use Rattle.vx_diskset.proofs.OverKnown.{agreed_known, bright_known, counts_known, down_known, inner_known, moved_known, named_config, none_known, ready_known, rose_known, rvg_known, seen_known, units_known}
 use Rattle.vx_diskset.proofs.OverLikes.{fed_like}
 use Rattle.vx_diskset.proofs.OverLost.{InSession, left_there, lost_away, lost_stands, starting_in, still_in}
-use Rattle.vx_diskset.proofs.OverMoved.{moved, moved_is}
 use Rattle.vx_diskset.proofs.OverNoted.{cut_down}
 use Rattle.vx_diskset.proofs.OverRecovers.{stands_alone}
 use Rattle.vx_diskset.proofs.PlainBacks.{fused_back}
@@ -96,7 +95,7 @@ module _ {R : Type 0} {g : Ghosts R} (racks : (s : Shade R) → IsRack (shade_me
     group_up : GroupUp (below_rvg (came_with (burned n.fuse) middle n)) middle (laid_below laid).tells laid.core (laid_disks laid)
     group_up = group_here n note idle away.agrees names laid risen
 
-    as_away : (l : Laid R g) → CameGroup n note (Down idle) l → CameGroup n note (Deported idle) l
+    abbrev as_away : (l : Laid R g) → CameGroup n note (Down idle) l → CameGroup n note (Deported idle) l
     as_away l it = record { middle = it.middle; returns = it.returns; config = it.config; up = it.up; from = it.from }
 
     -- ---- it is known what the disks hold
@@ -109,12 +108,6 @@ module _ {R : Type 0} {g : Ghosts R} (racks : (s : Shade R) → IsRack (shade_me
       taken s started =
           let it : RoseAgain beside n note (Down idle) s = rose_known racks laws beside n note idle away.agrees names over inside laid risen told has s started in
           record { laid = it.laid; group = as_away it.laid it.group; told = it.told; bright = it.bright; named = it.named; over = it.over; to = it.to }
-
-      inside_middle : InsideOf (units_of n) middle
-      inside_middle = inside_known racks laws beside n note idle away.agrees names over inside laid risen told has
-
-      named_middle : rvg_noted middle ≡ Some (units_of n)
-      named_middle = named_known racks laws beside n note idle away.agrees names over inside laid risen told has
 
       module _ (mid : Laid R g) (last : Idle R g) (fell : FellBack mid last) (s : OverSet R g) (cuts : s.cut ≡ cut) (ground : GroundSince (ground_state laid.core) (laid_disks laid) (ground_state mid.core) (laid_disks mid)) (since : CalledSince (laid_disks laid) (laid_disks mid))
           (less : TellsLess (laid_below laid) (laid_below mid)) (only : OnlyLog (units_of n) (laid_volumes laid) (laid_volumes mid)) where
@@ -152,7 +145,7 @@ module _ {R : Type 0} {g : Ghosts R} (racks : (s : Shade R) → IsRack (shade_me
             (subst (λ (u : Units). FoundNamed u (length (entries_noted worked_note)) (idle_ready fell.fell)) (sym lost_units)
             (crash_named all_latest mid fell.fell fell.is (Up mid) refl lost_node worked_note (units_of n) ends lost_named))
 
-        lost_over : (e : GroupSite R g) → site_in s ≡ e → HasNow lost_moved.2.now e → ((d : ℕ) → (site_disks e).disk_faults d ≡ (laid_disks mid).disk_faults d) → LostOver n note (Deported idle) s
+        abbrev lost_over : (e : GroupSite R g) → site_in s ≡ e → HasNow lost_moved.2.now e → ((d : ℕ) → (site_disks e).disk_faults d ≡ (laid_disks mid).disk_faults d) → LostOver n note (Deported idle) s
         lost_over e at has_now counts = record {
           laid = laid;
           group = as_away laid came;
@@ -285,11 +278,6 @@ module _ {R : Type 0} {g : Ghosts R} (racks : (s : Shade R) → IsRack (shade_me
           let it = off.starts.does.2.each (state_with n beside.links) n.session (most_header beside n) with.held with.left in
           never_both (is_alone off.core.log.header.state) (ap (λ (x : State). is_alone x) it.0 ∙ stands_alone n beside.links over.5 over.4 quiet) off.linked
 
-      no_work : (moved racks n middle (burned n.fuse) (units_of n) laid laid inside_middle named_middle group_up (ground_none (ground_state laid.core) (laid_disks laid)) (since_none (laid_disks laid)) (λ below. below) (still (LogBlocks (units_of n)) Anything (laid_volumes laid))).0 ≡ middle
-      no_work =
-          moved_is racks n middle (burned n.fuse) (units_of n) laid laid inside_middle named_middle group_up (ground_none (ground_state laid.core) (laid_disks laid)) (since_none (laid_disks laid)) (λ below. below) (still (LogBlocks (units_of n)) Anything (laid_volumes laid))
-          ∙ ground_same n note idle away.agrees names laid risen
-
       -- the start was refused: the disks are by themselves
       pub lost_taken : (mid : Laid R g) (last : Idle R g) (fell : FellBack mid last) (s : OverSet R g) (x : Idle R g) → site_in s ≡ Deported x → Revived last x → s.cut ≡ cut → (stop : Stop) → stops_down stop ≡ false → UpUnless stop mid → TriedOn (units_of n) laid mid stop
           → LostAway beside n note (Deported idle) s stop
@@ -298,7 +286,7 @@ module _ {R : Type 0} {g : Ghosts R} (racks : (s : Shade R) → IsRack (shade_me
       lost_taken mid last fell s x at back cuts OutOfMemory on up it =
           subst (λ (l : Laid R g). FellBack l last → LostAway beside n note (Deported idle) s OutOfMemory) (sym it)
           (λ again. gone_by laid last again s cuts (ground_none (ground_state laid.core) (laid_disks laid)) (since_none (laid_disks laid)) (λ below. below) (still (LogBlocks (units_of n)) Anything (laid_volumes laid)) x at back group_up.at.up n.session (inl refl)
-          (still_in racks laws beside n laid told has laid (since_none (laid_disks laid)) (still (LogBlocks (units_of n)) Anything (laid_volumes laid)) again.fell again.is (λ u b v left. left)) OutOfMemory (refl, no_work))
+          (still_in racks laws beside n laid told has laid (since_none (laid_disks laid)) (still (LogBlocks (units_of n)) Anything (laid_volumes laid)) again.fell again.is (λ u b v left. left)) OutOfMemory (refl, none_known racks laws beside n note idle away.agrees names over inside laid risen told has last again))
           fell
 
       -- or its fuse ran out
