@@ -98,3 +98,14 @@ fn an_import_is_cut_anywhere(rt: HostRuntime) -> Result<(), Fail> {
     }
     Ok(())
 }
+
+// The other volumes are there behind it with what was written, and those that were made beside.
+#[test]
+fn other_volumes_are_imported(rt: HostRuntime) -> Result<(), Fail> {
+    let script =
+        b"site a 2 1024\ndg a init\nvol a l 8 mirrors=2 layout=concat log=none fmr=off rdpol=round\nvol a m 8 mirrors=2 layout=concat log=none fmr=off rdpol=round\nvol a v 16 mirrors=2 layout=concat log=none fmr=off rdpol=round\nvol a w 16 mirrors=2 layout=concat log=none fmr=off rdpol=round\nrvg a srl=l dcm=m vols=v\nwrite a v 0 1 11\nwrite a w 3 1 22\ndg a deport\ndg a import\nread a w 3 1\nwrite a w 3 1 33\nvol a u 8 mirrors=2 layout=concat log=none fmr=off rdpol=round\ndg a deport\ndg a import\nread a u 7 1\nread a w 3 1\nread a v 0 1\nstatus a\n";
+    let wanted =
+        "done\ndone\ndone\ndone\ndone\ndone\ndone\ndone 1\ndone\ndone\ndone\n22\ndone\ndone\ndone\ndone\n00\n33\n11\nsite a up\ndisk 0 ok\ndisk 1 ok\nvol l 8 none off\nplex 0 ACTIVE\nplex 1 ACTIVE\nvol m 8 none off\nplex 0 ACTIVE\nplex 1 ACTIVE\nvol v 16 none off\nplex 0 ACTIVE\nplex 1 ACTIVE\nvol w 16 none off\nplex 0 ACTIVE\nplex 1 ACTIVE\nvol u 8 none off\nplex 0 ACTIVE\nplex 1 ACTIVE\nrvg primary 1 a head 1 mark consistent session 3\n";
+    assert!(rt; is_done(&rt, rt.alloc(), script, wanted)?);
+    Ok(())
+}

@@ -39,6 +39,28 @@ fn such_a_write_is_refused_where_its_last_plex_fails(rt: HostRuntime) -> Result<
     Ok(())
 }
 
+// A plex that takes no part in such writes gets what it missed, and no more, where its volume has a map.
+#[test]
+fn a_plex_misses_such_writes(rt: HostRuntime) -> Result<(), Fail> {
+    let script =
+        b"site a 2 1024\ndg a init\nvol a l 8 mirrors=2 layout=concat log=none fmr=off rdpol=round\nvol a m 8 mirrors=2 layout=concat log=none fmr=off rdpol=round\nvol a v 16 mirrors=2 layout=concat log=none fmr=off rdpol=round\nvol a w 256 mirrors=2 layout=concat log=drl fmr=on rdpol=round\nrvg a srl=l dcm=m vols=v\nplex a w 1 det\nwrite a w 70 1 11\nwrite a w 200 2 22\nplex a w 1 att\nplex a w 0 det\nread a w 70 1\nread a w 200 2\nread a w 0 1\nplex a w 0 att\n";
+    let wanted =
+        "done\ndone\ndone\ndone\ndone\ndone\ndone\ndone\ndone\ndone\ndone 2\ndone\n11\n22\n22\n00\ndone 0\n";
+    assert!(rt; is_done(&rt, rt.alloc(), script, wanted)?);
+    Ok(())
+}
+
+// A site that is halted refuses them, and a recovery has all that was written.
+#[test]
+fn a_halted_site_refuses_such_a_write(rt: HostRuntime) -> Result<(), Fail> {
+    let script =
+        b"site a 2 1024\ndg a init\nvol a l 8 mirrors=2 layout=concat log=none fmr=off rdpol=round\nvol a m 8 mirrors=2 layout=concat log=none fmr=off rdpol=round\nvol a v 16 mirrors=1 layout=concat log=none fmr=off rdpol=round\nvol a w 16 mirrors=2 layout=concat log=none fmr=off rdpol=round\nrvg a srl=l dcm=m vols=v\nwrite a v 0 1 11\nwrite a w 0 1 22\ndisk a 0 fail\napply a 1\ndisk a 0 ok\nwrite a w 0 1 33\nread a w 0 1\nshow a w 0 1\nwrite a w 16 1 33\ndg a deport\nrecover a\nread a w 0 1\nwrite a w 0 1 33\nread a w 0 1\nread a v 0 1\n";
+    let wanted =
+        "done\ndone\ndone\ndone\ndone\ndone\ndone\ndone 1\ndone\ndone\nno 7 device 0\ndone\nno 20 halted 0\nno 20 halted 0\nno 20 halted 0\nno 20 halted 0\nno 20 halted 0\nrecovered 1\nsite a up\ndisk 0 ok\ndisk 1 ok\nvol l 8 none off\nplex 0 ACTIVE\nplex 1 ACTIVE\nvol m 8 none off\nplex 0 ACTIVE\nplex 1 ACTIVE\nvol v 16 none off\nplex 0 ACTIVE\nvol w 16 none off\nplex 0 ACTIVE\nplex 1 ACTIVE\nrvg primary 1 a head 1 mark consistent session 2\n22\ndone\n33\n11\n";
+    assert!(rt; is_done(&rt, rt.alloc(), script, wanted)?);
+    Ok(())
+}
+
 // Whether such a write before which so many calls were let pass is answered so, the recovery says this of it, once, and the block is this then.
 fn is_written<H: Threads + Wait + Sync>(
     handle: &H,
