@@ -46,9 +46,9 @@ fn an_import_without_disks_is_refused(rt: HostRuntime) -> Result<(), Fail> {
 
 // What is answered by a recovery of the site, in this session of its log.
 fn recovered(alloc: Global, session: u64) -> Result<String, OutOfMemory> {
-    format!(in alloc;
+    Ok(format!(in alloc;
         "recovered 1\nsite a up\ndisk 0 ok\ndisk 1 ok\nvol l 8 none off\nplex 0 ACTIVE\nplex 1 ACTIVE\nvol m 8 none off\nplex 0 ACTIVE\nplex 1 ACTIVE\nvol v 16 none off\nplex 0 ACTIVE\nplex 1 ACTIVE\nrvg primary 1 a head 1 mark consistent session {session}\n11\n"
-    )
+    )?)
 }
 
 // Whether this is answered by a deport and an import before which so many calls were let pass, and the site comes up again in this session.
