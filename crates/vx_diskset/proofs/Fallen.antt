@@ -8,7 +8,9 @@ use Rattle.vx_history.specs.World.{Node}
 use Rattle.vx_disk.specs.Racks.{IsRack, Stopped}
 use Rattle.vx_disk.specs.Shelf.{Lawful}
 use Rattle.vx_disk.specs.declared.shelf.Shelf.{Ghosts}
+use Rattle.vx_blockwise.specs.Blocks.{alone_lawful}
 use Rattle.vx_ground.specs.Lifted.{laid_volumes}
+use Rattle.vx_diskset.specs.LaidBlocks.{laid_blockwise}
 use Rattle.vx_grouped.specs.GroupSites.{GroupSiteStands}
 use Rattle.vx_grouped.specs.declared.group_site.GroupSite.{GroupSite}
 use Rattle.vx_grouped.specs.declared.group_site.GroupSite.TheVariants.{Up as GroupUp, Deported, Down as GroupDown, Marked, Gone as GroupGone}
@@ -84,8 +86,8 @@ module _ {R : Type 0} {g : Ghosts R} where
   -- of a replicated volume group over a group: its disks hold the site with its durable writes
   module _ (lawful : (f : FoundedReceiver R g) → Lawful (laid_volumes f.laid)) (beside : KeptBeside) (n : Node) (up : n.state ≡ IsUp) (runs : n.halted ≡ None) where
     cut_durable : (s : OverSite R g) → OverStands beside n s → CutOver beside (with_first n n.safe) s
-    cut_durable (OriginSite f) h = whole_held n (laid_volumes f.laid) (h.durable runs) (held_up n f.core (laid_volumes f.laid) h)
-    cut_durable (ReceiverSite f) h = held_up (durable_of n) f.core (laid_volumes f.laid) (receiver_up n f.core f.waiting (laid_volumes f.laid) h runs (lawful f) f.sound.log_unit)
+    cut_durable (OriginSite f) h = whole_held n (laid_blockwise f.laid) (h.durable runs) (held_up n f.core (laid_blockwise f.laid) h)
+    cut_durable (ReceiverSite f) h = held_up (durable_of n) f.core (laid_blockwise f.laid) (receiver_up n f.core f.waiting (laid_blockwise f.laid) h runs (alone_lawful (laid_volumes f.laid) (lawful f)) f.sound.log_unit)
     cut_durable (OverAway idle) h = absurd (let e : IsAway ≡ IsUp = sym h.0 ∙ up in cc)
     cut_durable (OverFell idle) h = absurd (let e : IsDown ≡ IsUp = sym h.0 ∙ up in cc)
     cut_durable NoOver h = absurd h

@@ -10,7 +10,7 @@ use Rattle.vx_watched.specs.Since.{CalledSince}
 use Rattle.vx_watched.specs.Traces.{TellsLess}
 use Rattle.vx_watched.proofs.SinceLemmas.{since_none}
 use Rattle.vx_ground.proofs.AccountLemmas.{ground_none}
-use Rattle.vx_diskset.proofs.RvgMoves.{no_moves}
+use Rattle.vx_diskset.proofs.BlockWorks.{no_changes}
 use Rattle.vx_diskset.specs.Founded.{FoundedWorks}
 use Rattle.vx_diskset.specs.Works.{KeepsSound}
 use Rattle.vx_diskset.proofs.OverWorks.{carried_core}
@@ -25,7 +25,7 @@ module _ {R : Type 0} {g : Ghosts R} where
   pub founded_none : (c : Core) (laid : Laid R g) → FoundedWorks c laid c laid
   founded_none c laid = record {
     units = refl;
-    moves = no_moves c (laid_volumes laid);
+    moves = no_changes c (laid_volumes laid);
     ground = ground_none (ground_state laid.core) (laid_disks laid);
     since = since_none (laid_disks laid);
     told = λ told. told;

@@ -3,6 +3,8 @@ pub mod ApplyGroup
 pub mod Asking
 pub mod BesideLemmas
 pub mod Blamed
+pub mod BlockLemmas
+pub mod BlockWorks
 pub mod RvgMoves
 pub mod OverWorks
 pub mod IdleFalls
@@ -84,6 +86,7 @@ pub mod LogDisks
 pub mod MakeGroup
 pub mod MakeRoom
 pub mod MakeSites
+pub mod MixedImages
 pub mod Mores
 pub mod NeedLemmas
 pub mod NotedLikes

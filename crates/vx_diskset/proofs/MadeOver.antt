@@ -19,6 +19,8 @@ use Rattle.vx_group.proofs.HoldLemmas.{wide_shape}
 use Rattle.vx_group.proofs.RvgSound.{rvg_sound}
 use Rattle.vx_ground.specs.Accounts.{ground_state}
 use Rattle.vx_ground.specs.Lifted.{laid_volumes}
+use Rattle.vx_diskset.specs.LaidBlocks.{laid_blockwise}
+use Rattle.vx_diskset.proofs.BlockLemmas.{up_alone}
 use Rattle.vx_ground.specs.Named.{named_state}
 use Rattle.vx_ground.proofs.AccountLemmas.{account_loses}
 use Rattle.vx_ground.proofs.NamedSpelling.{named_spelled, spelled_few}
@@ -211,10 +213,13 @@ module _ {R : Type 0} {g : Ghosts R} (rackful : (s : R) → IsRack (g.meaning s)
   core_here : core ≡ new_core u (first_state site) (ring_of (blocks_of l.core.inner.config.volumes u.srl)) core.maps
   core_here = made.core_is ∙ ap (λ (j : ℕ). new_core u (first_state site) (ring_of j) core.maps) ((wide_shape l.core).blocks u.srl)
 
-  stands : (beside : KeptBeside) → beside.links ≡ [] → beside.doubt ≡ None → IsUpAt beside after core (laid_volumes k)
-  stands = rvg_stands site n at_first up.noted.none up.at.state l.core.inner.config u middle gained core (laid_volumes k) law sound placed core_here may (λ v. made.alone.size v ∙ (wide_shape l.core).blocks v) made.up
+  plain : (beside : KeptBeside) → beside.links ≡ [] → beside.doubt ≡ None → IsUpAt beside after core (laid_volumes k)
+  plain = rvg_stands site n at_first up.noted.none up.at.state l.core.inner.config u middle gained core (laid_volumes k) law sound placed core_here may (λ v. made.alone.size v ∙ (wide_shape l.core).blocks v) made.up
       (fuse_over n.fuse (laid_disks k) (laid_volumes k) (λ off. off) (fuse_burned n.fuse (laid_disks l) (laid_disks k) made.went.since.unarmed up.fuse)) on made.stands
       (λ told v b low. narrowed_left (laid_volumes k) law u maps note told (unit_of u.vols v) b (is_among u.vols v low))
+
+  stands : (beside : KeptBeside) → beside.links ≡ [] → beside.doubt ≡ None → IsUpAt beside after core (laid_blockwise k)
+  stands beside unlinked certain = up_alone after core (laid_volumes k) up.noted.none.running law sound (plain beside unlinked certain)
 
   disks_many : length l.core.inner.config.disks ≡ n.disks
   disks_many = wanted_count (laid_disks l).units (laid_disks l).size (wide l.core).config l.stands.group.stands.wanted ∙ up.at.lies.units

@@ -14,6 +14,7 @@ use Rattle.vx_model.specs.declared.site.SiteState.TheVariants.{Up as IsUp, Down 
 use Rattle.vx_model.specs.declared.state.KeptLink.{KeptLink}
 use Rattle.vx_model.specs.declared.state.State.{State}
 use Rattle.vx_ground.specs.Lifted.{laid_volumes}
+use Rattle.vx_diskset.specs.LaidBlocks.{laid_blockwise}
 use Rattle.vx_rvg.specs.Contents.{write_of_update}
 use Rattle.vx_rvg.specs.Views.{Core, IsSound, last_of}
 use Rattle.vx_rvg.specs.declared.group.Rvg.{Rvg}
@@ -27,6 +28,7 @@ use Rattle.vx_diskset.specs.declared.disk_set.DiskSet.TheVariants.{Over, Up}
 use Rattle.vx_diskset.specs.declared.over_set.OverSet.{OverSet}
 use Rattle.vx_diskset.specs.declared.over_set.OverSite.{OverSite}
 use Rattle.vx_diskset.specs.declared.over_set.OverSite.TheVariants.{Origin as OriginSite, Receiver as ReceiverSite, Deported as GroupAway, Down as GroupFell, Gone as NoGroup}
+use Rattle.vx_diskset.proofs.BlockLemmas.{sound_alone}
 use Rattle.vx_diskset.proofs.NeedLemmas.{low_needed, used_is, used_none}
 
 -- ---- the log of one that is up
@@ -132,7 +134,7 @@ module _ {R : Type 0} {g : Ghosts R} (beside : KeptBeside) (n : Node) where
   over_links e o is stands told s at = links_by o.site s (over_here e o is stands) (subst (λ (x : DiskSet R g). IsToldAt x) is told) at
 
   used_by : (s : OverSite R g) (above : ℕ) (o : Option ℕ) → OverStands beside n s → n.halted ≡ None → UsesOver (above_site s) above o → IfSome o (λ blocks. blocks ≡ logged_blocks (drop above n.log))
-  used_by (OriginSite f) above o here running uses = used_up n f.core (laid_volumes f.laid) above o here running f.sound uses
+  used_by (OriginSite f) above o here running uses = used_up n f.core (laid_blockwise f.laid) above o here running (sound_alone f.core (laid_volumes f.laid) f.sound) uses
   used_by (ReceiverSite f) above o here running uses = none_used n above o uses
   used_by (GroupAway idle) above o here running uses = none_used n above o uses
   used_by (GroupFell idle) above o here running uses = none_used n above o uses
@@ -143,7 +145,7 @@ module _ {R : Type 0} {g : Ghosts R} (beside : KeptBeside) (n : Node) where
 
   needed_by : (s : OverSite R g) (k above : ℕ) (l : KeptLink) (o : Option ℕ) → OverStands beside n s → is_origin n.role ≡ true → n.state ≡ IsUp → n.halted ≡ None → IsToldAt (Over (record { site = s; cut = None })) → slice_get beside.links k ≡ Some l
       → is_needing l ≡ true → hold_of l ≤ above → UsesOver (above_site s) above o → IsSome o
-  needed_by (OriginSite f) k above l o here origin up running told there needing far uses = uses.some (low_needed beside n f.core (laid_volumes f.laid) k above l here running told there needing far)
+  needed_by (OriginSite f) k above l o here origin up running told there needing far uses = uses.some (low_needed beside n f.core (laid_blockwise f.laid) k above l here running told there needing far)
   needed_by (ReceiverSite f) k above l o here origin up running told there needing far uses = absurd (let clash : true ≡ false = sym origin ∙ here.role in cc)
   needed_by (GroupAway idle) k above l o here origin up running told there needing far uses = never_away n here.0 up
   needed_by (GroupFell idle) k above l o here origin up running told there needing far uses = never_fell n here.0 up
@@ -158,7 +160,7 @@ module _ {R : Type 0} {g : Ghosts R} (beside : KeptBeside) (n : Node) where
 
   waiting_by : (o : OverSite R g) → OverStands beside n o → n.state ≡ IsUp → n.halted ≡ None → many_waiting (above_site o) ≡ length n.log - n.safe
   waiting_by (OriginSite f) here up running = let whole = here.durable running in omega (arith, whole)
-  waiting_by (ReceiverSite f) here up running = let many = behind n f.core f.waiting (laid_volumes f.laid) here in let head = here.head running in omega (arith, many, head)
+  waiting_by (ReceiverSite f) here up running = let many = behind n f.core f.waiting (laid_blockwise f.laid) here in let head = here.head running in omega (arith, many, head)
   waiting_by (GroupAway idle) here up running = never_away n here.0 up
   waiting_by (GroupFell idle) here up running = never_fell n here.0 up
   waiting_by NoGroup here up running = absurd here
@@ -168,7 +170,7 @@ module _ {R : Type 0} {g : Ghosts R} (beside : KeptBeside) (n : Node) where
 
   received_by : (o : OverSite R g) → OverStands beside n o → n.state ≡ IsUp → n.halted ≡ None → many_received (above_site o) ≡ length n.log
   received_by (OriginSite f) here up running = let whole = here.durable running in let head = here.head in let logged = here.logged in omega (arith, whole, head, logged)
-  received_by (ReceiverSite f) here up running = let many = behind n f.core f.waiting (laid_volumes f.laid) here in let most = here.most in omega (arith, many, most)
+  received_by (ReceiverSite f) here up running = let many = behind n f.core f.waiting (laid_blockwise f.laid) here in let most = here.most in omega (arith, many, most)
   received_by (GroupAway idle) here up running = never_away n here.0 up
   received_by (GroupFell idle) here up running = never_fell n here.0 up
   received_by NoGroup here up running = absurd here

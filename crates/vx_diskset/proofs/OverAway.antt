@@ -12,7 +12,10 @@ use Rattle.vx_group.specs.Deports.{DeportedBy}
 use Rattle.vx_group.specs.Holding.{GroupStands, wide}
 use Rattle.vx_group.specs.Laws.{group_lawful}
 use Rattle.vx_group.proofs.Standing.{sound_of}
+use Rattle.vx_blockwise.specs.Blocks.{alone_lawful}
 use Rattle.vx_ground.specs.Lifted.{laid_volumes}
+use Rattle.vx_diskset.specs.LaidBlocks.{laid_blockwise}
+use Rattle.vx_diskset.proofs.BlockLemmas.{sound_alone}
 use Rattle.vx_grouped.specs.GroupSites.{idle_disks, laid_disks}
 use Rattle.vx_grouped.specs.Volumes.{SiteCloses}
 use Rattle.vx_grouped.specs.declared.group_site.GroupSite.{GroupSite}
@@ -200,8 +203,8 @@ module _ {R : Type 0} {g : Ghosts R} (beside : KeptBeside) (n : Node) (l : Laid 
 
   -- ---- the site
 
-  module _ (lies : LiesOn n (laid_volumes l)) (low : n.low ≡ 1) (begun : IsTrue (laid_volumes l).tells → 0 < n.session) (sure : beside.doubt ≡ None) (over : n.group ≡ None → ⊥) (most : n.safe ≤ length n.log)
-      (left : IsTrue (laid_volumes l).tells → LeftWith (units_of n) n.ring (state_with n beside.links) n.session (most_header beside n) (take n.safe n.log) n.base (laid_volumes l)) where
+  module _ (lies : LiesOn n (laid_blockwise l)) (low : n.low ≡ 1) (begun : IsTrue (laid_blockwise l).tells → 0 < n.session) (sure : beside.doubt ≡ None) (over : n.group ≡ None → ⊥) (most : n.safe ≤ length n.log)
+      (left : IsTrue (laid_blockwise l).tells → LeftWith (units_of n) n.ring (state_with n beside.links) n.session (most_header beside n) (take n.safe n.log) n.base (laid_blockwise l)) where
     abbrev after : Node
     after = given_up n
 
@@ -211,8 +214,8 @@ module _ {R : Type 0} {g : Ghosts R} (beside : KeptBeside) (n : Node) (l : Laid 
     same_base : n.base ≡ after.base
     same_base = ap (λ (xs : List Write). fold_writes n.base xs) (sym (drop_all n.safe (take n.safe n.log) (omega (arith, long))))
 
-    left_base : IsTrue (laid_volumes l).tells → LeftWith (units_of after) after.ring (state_with after beside.links) after.session (most_header beside after) after.log after.base (laid_volumes l)
-    left_base tells = subst (λ (k : Content). LeftWith (units_of n) n.ring (state_with n beside.links) n.session (most_header beside n) (take n.safe n.log) k (laid_volumes l)) same_base (left tells)
+    left_base : IsTrue (laid_blockwise l).tells → LeftWith (units_of after) after.ring (state_with after beside.links) after.session (most_header beside after) after.log after.base (laid_blockwise l)
+    left_base tells = subst (λ (k : Content). LeftWith (units_of n) n.ring (state_with n beside.links) n.session (most_header beside n) (take n.safe n.log) k (laid_blockwise l)) same_base (left tells)
 
     pub away_rests : RestsOver (λ k. AwayLeft k beside after r) beside after r
     away_rests = record {
@@ -220,15 +223,15 @@ module _ {R : Type 0} {g : Ghosts R} (beside : KeptBeside) (n : Node) (l : Laid 
       sure = sure;
       lies =
           laid_sized (units_of n) n.ring n.volumes n.base.size after.base.size (group_meaning at (λ v. 0) m') (folded_size n.base (drop n.safe (take n.safe n.log)))
-          (laid_as (units_of n) n.ring n.volumes n.base.size (laid_volumes l) (group_meaning at (λ v. 0) m') shape.blocks (laid_in n (laid_volumes l) lies));
-      there = λ k is. let here = over_there n (laid_volumes l) over lies k is in let same = shape.volumes in omega (arith, here, same);
+          (laid_as (units_of n) n.ring n.volumes n.base.size (laid_blockwise l) (group_meaning at (λ v. 0) m') shape.blocks (laid_in n (laid_blockwise l) lies));
+      there = λ k is. let here = over_there n (laid_blockwise l) over lies k is in let same = shape.volumes in omega (arith, here, same);
       low = low;
       logged = long;
       begun = λ tells. begun (told_up tells);
       left = λ tells. inl (record {
         extends = λ i x each is. (kin i x each is).shape;
         left = λ i x opened readable each is opens.
-            left_still_with (units_of after) after.ring (state_with after beside.links) after.session (most_header beside after) after.log after.base (laid_volumes l) (group_meaning opened (λ v. 0) r) (tells ∙ sym (told_up tells))
+            left_still_with (units_of after) after.ring (state_with after beside.links) after.session (most_header beside after) after.log after.base (laid_blockwise l) (group_meaning opened (λ v. 0) r) (tells ∙ sym (told_up tells))
             (size_is i x each is readable opened opens) (left_up i x each is readable opened opens) (left_base (told_up tells));
       });
     }
@@ -253,17 +256,17 @@ module _ {R : Type 0} {g : Ghosts R} (laws : (s : Shade R) → Lawful (shade_mea
     abbrev Rests : Type 0
     Rests = RestsOver (λ k. AwayLeft k beside (given_up n) (idle_ready idle)) beside (given_up n) (idle_ready idle)
 
-    origin_away : (l : Laid R g) (core : Core) → DeportedBy (wide l.core).config l.core.inner (laid_disks l) (idle_disks idle) → IsSound core (laid_volumes l) → IsUpAt beside n core (laid_volumes l) → Rests
+    origin_away : (l : Laid R g) (core : Core) → DeportedBy (wide l.core).config l.core.inner (laid_disks l) (idle_disks idle) → IsSound core (laid_volumes l) → IsUpAt beside n core (laid_blockwise l) → Rests
     origin_away l core it sound up =
         away_rests beside n l idle it up.lies up.low up.begun (up.sure running) over.0 up.logged
-        (λ tells. subst (λ (xs : List Write). LeftWith (units_of n) n.ring (state_with n beside.links) n.session (most_header beside n) xs n.base (laid_volumes l)) (sym (take_all n.safe n.log (up.durable running)))
-        (up_left n core (laid_volumes l) up sound running tells))
+        (λ tells. subst (λ (xs : List Write). LeftWith (units_of n) n.ring (state_with n beside.links) n.session (most_header beside n) xs n.base (laid_blockwise l)) (sym (take_all n.safe n.log (up.durable running)))
+        (up_left n core (laid_blockwise l) up (sound_alone core (laid_volumes l) sound) running tells))
 
-    receiver_away : (l : Laid R g) (core : Core) (waiting : List Update) → DeportedBy (wide l.core).config l.core.inner (laid_disks l) (idle_disks idle) → IsSound core (laid_volumes l) → IsReceiverAt beside n core waiting (laid_volumes l) → Rests
+    receiver_away : (l : Laid R g) (core : Core) (waiting : List Update) → DeportedBy (wide l.core).config l.core.inner (laid_disks l) (idle_disks idle) → IsSound core (laid_volumes l) → IsReceiverAt beside n core waiting (laid_blockwise l) → Rests
     receiver_away l core waiting it sound here =
-        let up : IsUpAt beside (durable_of n) core (laid_volumes l) = receiver_up n core waiting (laid_volumes l) here running (law l) sound.log_unit in
+        let up : IsUpAt beside (durable_of n) core (laid_blockwise l) = receiver_up n core waiting (laid_blockwise l) here running (alone_lawful (laid_volumes l) (law l)) sound.log_unit in
         away_rests beside n l idle it here.lies here.low here.begun (here.sure running) over.0 (let least = here.least in let most = here.most in omega (arith, least, most))
-        (λ tells. up_left (durable_of n) core (laid_volumes l) up sound running tells)
+        (λ tells. up_left (durable_of n) core (laid_blockwise l) up (sound_alone core (laid_volumes l) sound) running tells)
 
     away_by : (e : GroupSite R g) (a : Above) → SiteCloses e (Deported idle) → AboveStays a e → OverUp beside n a e → Rests
     away_by (Up l) Nothing closes sound it = absurd it

@@ -24,6 +24,7 @@ use Rattle.vx_untold.specs.declared.shade.Shade.{Shade}
 use Rattle.vx_untold.specs.declared.shade.Shade.TheVariants.{Bright, Dark}
 use Rattle.vx_volume.specs.Plexes.{Inside}
 use Rattle.vx_ground.specs.Lifted.{laid_volumes}
+use Rattle.vx_diskset.specs.LaidBlocks.{laid_blockwise}
 use Rattle.vx_grouped.specs.GroupSites.{idle_disks, laid_disks}
 use Rattle.vx_grouped.specs.Readies.{ready_of}
 use Rattle.vx_grouped.specs.declared.idle.Idle.{Idle}
@@ -103,7 +104,7 @@ module _ {R : Type 0} {g : Ghosts R} where
   -- ---- the site, or what it may be besides
 
   module _ (k : KeptSite) (n : Node) (l : Laid R g) (idle : Idle R g) (good : ℕ → Type 0) (same : SameGround k.node n) (stop : Stopped (laid_disks l) (idle_disks idle)) (law : Lawful (idle_disks idle)) (rack : IsRack (idle_disks idle))
-      (kept : KeptFact (wide l.core).config good (laid_disks l)) (lies : LiesOn k.node (laid_volumes l)) (low : k.node.low ≡ 1) (begun : IsTrue (laid_volumes l).tells → 0 < k.node.session)
+      (kept : KeptFact (wide l.core).config good (laid_disks l)) (lies : LiesOn k.node (laid_blockwise l)) (low : k.node.low ≡ 1) (begun : IsTrue (laid_volumes l).tells → 0 < k.node.session)
       (there : (u : ℕ) → inside_of (units_of n) u ≡ true → u < (laid_volumes l).units) where
     abbrev m : Meaning
     m = laid_disks l
@@ -132,8 +133,8 @@ module _ {R : Type 0} {g : Ghosts R} where
     lies_down : (count : ℕ) → IsLaidBy (units_of n) k.node.ring k.node.volumes (fold_writes k.node.base (drop k.node.safe (take count k.node.log))).size (blocks_of c.volumes)
     lies_down count =
         subst (λ (u : Units). IsLaidBy u k.node.ring k.node.volumes (fold_writes k.node.base (drop k.node.safe (take count k.node.log))).size (blocks_of c.volumes)) same.units
-        (laid_sized (units_of k.node) k.node.ring k.node.volumes k.node.base.size (fold_writes k.node.base (drop k.node.safe (take count k.node.log))).size (laid_volumes l)
-        (folded_size k.node.base (drop k.node.safe (take count k.node.log))) (laid_in k.node (laid_volumes l) lies))
+        (laid_sized (units_of k.node) k.node.ring k.node.volumes k.node.base.size (fold_writes k.node.base (drop k.node.safe (take count k.node.log))).size (laid_blockwise l)
+        (folded_size k.node.base (drop k.node.safe (take count k.node.log))) (laid_in k.node (laid_blockwise l) lies))
 
     fell_units : (count : ℕ) → units_of n ≡ units_of (fell_to n k.node count)
     fell_units count = ap (λ (d : ℕ). units_by n.group d) (sym same.disks)
@@ -184,13 +185,14 @@ module _ {R : Type 0} {g : Ghosts R} where
     pub most : count ≤ length kept.node.log
     pub rests : RestsOver (λ x. FellOver x (sure_of kept) (fell_to n kept.node count) (idle_ready idle)) (sure_of kept) (fell_to n kept.node count) (idle_ready idle)
 
-  module _ {beside : KeptBeside} (n : Node) (l : Laid R g) (idle : Idle R g) (good : ℕ → Type 0) (over : IsOverSite beside n) (held : IsHeldAt beside n (laid_volumes l)) (stop : Stopped (laid_disks l) (idle_disks idle)) (law : Lawful (idle_disks idle)) (rack : IsRack (idle_disks idle))
-      (kept : KeptFact (wide l.core).config good (laid_disks l)) where
+  module _ {beside : KeptBeside} (n : Node) (l : Laid R g) (idle : Idle R g) (good : ℕ → Type 0) (over : IsOverSite beside n) (held : IsHeldAt beside n (laid_blockwise l)) (stop : Stopped (laid_disks l) (idle_disks idle)) (law : Lawful (idle_disks idle)) (rack : IsRack (idle_disks idle))
+      (kept : KeptFact (wide l.core).config good (laid_disks l))
+      (lawful : Lawful (laid_volumes l)) where
     abbrev volumes_config : Config
     volumes_config = (wide l.core).config
 
     here : (u : ℕ) → inside_of (units_of n) u ≡ true → u < (laid_volumes l).units
-    here = over_there n (laid_volumes l) over.0 held.lies
+    here = over_there n (laid_blockwise l) over.0 held.lies
 
     own : SameGround n n
     own = record { units = refl; disks = refl; blocks = refl }
@@ -221,7 +223,7 @@ module _ {R : Type 0} {g : Ghosts R} where
         let each : Each (laid_disks l).leaves j = λ u b. stop.leaves u b (j u b) (law.within j it.1 u b) in
         let some = found_some (finds (laid_disks l) j) (kept.finds j each) in
         ⊎_elim (λ has. fell_itself j some.0 it.1 some.1 has) (λ has. fell_besides (shown volumes_config some.0 j) has)
-        (held.left (shown volumes_config some.0 j) (record { image = j; left = stop.now j it.1; config = some.0; found = some.1; shows = shows volumes_config some.0 j }))
+        (held.left (shown volumes_config some.0 j) (lawful.within (shown volumes_config some.0 j) (record { image = j; left = stop.now j it.1; config = some.0; found = some.1; shows = shows volumes_config some.0 j })))
     fell_by false untold = record {
       kept = itself beside n;
       is = inl refl;

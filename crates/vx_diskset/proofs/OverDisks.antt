@@ -20,6 +20,8 @@ use Rattle.vx_untold.specs.declared.shade.Shade.{Shade}
 use Rattle.vx_untold.specs.declared.shade.Shade.TheVariants.{Bright, Dark}
 use Rattle.vx_watched.specs.Traces.{TellsLess}
 use Rattle.vx_ground.specs.Lifted.{laid_volumes}
+use Rattle.vx_diskset.specs.LaidBlocks.{laid_blockwise}
+use Rattle.vx_diskset.proofs.BlockLemmas.{alike_blockwise}
 use Rattle.vx_grouped.specs.GroupSites.{AwayNoted, DownNoted, UpNoted, idle_below, idle_disks, laid_below, laid_disks, site_disks}
 use Rattle.vx_grouped.specs.Readies.{ready_of}
 use Rattle.vx_grouped.specs.declared.group_site.GroupSite.TheVariants.{Up, Deported, Down}
@@ -160,7 +162,7 @@ module _ {R : Type 0} {g : Ghosts R} where
     laid_waits us waits = wait_as core core (laid_volumes l).size (laid_volumes k).size us refl refl refl refl alike.contents.size waits
 
   -- the fuse, as the volumes have it
-  fuse_volumes : (f : Fuse) (l k : Laid R g) → (laid_disks k).armed ≡ (laid_disks l).armed → FuseOn f (laid_volumes l) → FuseOn f (laid_volumes k)
+  fuse_volumes : (f : Fuse) (l k : Laid R g) → (laid_disks k).armed ≡ (laid_disks l).armed → FuseOn f (laid_blockwise l) → FuseOn f (laid_blockwise k)
   fuse_volumes NoFuse l k armed it = armed ∙ it
   fuse_volumes (FuseSet calls) l k armed it = tt
   fuse_volumes (FuseLit most) l k armed it = tt
@@ -169,9 +171,9 @@ module _ {R : Type 0} {g : Ghosts R} where
 
   module _ (s : OverSite R g) (f f' : Founded R g) (is : s ≡ OriginSite f) (core : f'.core ≡ f.core) where
     -- whatever it stands for still
-    origin_with : (beside : KeptBeside) (n k : Node) → (IsUpAt beside n f.core (laid_volumes f.laid) → IsUpAt beside k f.core (laid_volumes f'.laid)) → OverStands beside n s → OverStands beside k (OriginSite f')
+    origin_with : (beside : KeptBeside) (n k : Node) → (IsUpAt beside n f.core (laid_blockwise f.laid) → IsUpAt beside k f.core (laid_blockwise f'.laid)) → OverStands beside n s → OverStands beside k (OriginSite f')
     origin_with beside n k still stands =
-        subst (λ (x : Core). IsUpAt beside k x (laid_volumes f'.laid)) (sym core) (still (subst (λ (x : OverSite R g). OverStands beside n x) is stands))
+        subst (λ (x : Core). IsUpAt beside k x (laid_blockwise f'.laid)) (sym core) (still (subst (λ (x : OverSite R g). OverStands beside n x) is stands))
 
     pub origin_above : above_site (OriginSite f') ≡ above_site s
     origin_above = ap (λ (x : Core). origin_of x) core ∙ sym (ap (λ (x : OverSite R g). above_site x) is)
@@ -179,20 +181,20 @@ module _ {R : Type 0} {g : Ghosts R} where
     pub origin_fails : (disk : ℕ) (on : Bool) → LaidFails disk on f.laid f'.laid → (beside : KeptBeside) (n : Node) → OverStands beside n s → OverStands beside n (OriginSite f')
     origin_fails disk on fails beside n =
         origin_with beside n n
-        (λ up. up_still n f.core (laid_volumes f.laid) (laid_volumes f'.laid) (alike_Goes Nothing (laid_volumes f.laid) (laid_volumes f'.laid) fails.volumes fails.down fails.armed) fails.volumes.contents.now fails.down
+        (λ up. up_still n f.core (laid_blockwise f.laid) (laid_blockwise f'.laid) (alike_Goes Nothing (laid_blockwise f.laid) (laid_blockwise f'.laid) (alike_blockwise (laid_volumes f.laid) (laid_volumes f'.laid) fails.volumes) fails.down fails.armed) (alike_blockwise (laid_volumes f.laid) (laid_volumes f'.laid) fails.volumes).contents.now fails.down
         (fuse_volumes n.fuse f.laid f'.laid fails.armed up.fuse) up)
 
     pub origin_fuses : (calls pick : ℕ) → LaidFuses calls pick f.laid f'.laid → (beside : KeptBeside) (n : Node) → OverStands beside n s → OverStands beside (record n { fuse = FuseSet calls }) (OriginSite f')
     origin_fuses calls pick fuses beside n =
-        origin_with beside n (record n { fuse = FuseSet calls }) (λ up. up_alike n (FuseSet calls) f.core (laid_volumes f.laid) (laid_volumes f'.laid) fuses.volumes fuses.down tt up)
+        origin_with beside n (record n { fuse = FuseSet calls }) (λ up. up_alike n (FuseSet calls) f.core (laid_blockwise f.laid) (laid_blockwise f'.laid) (alike_blockwise (laid_volumes f.laid) (laid_volumes f'.laid) fuses.volumes) fuses.down tt up)
 
   -- ---- a receiver
 
   module _ (s : OverSite R g) (f f' : FoundedReceiver R g) (is : s ≡ ReceiverSite f) (core : f'.core ≡ f.core) (waiting : f'.waiting ≡ f.waiting) where
-    receiver_with : (beside : KeptBeside) (n k : Node) → (IsReceiverAt beside n f.core f.waiting (laid_volumes f.laid) → IsReceiverAt beside k f.core f.waiting (laid_volumes f'.laid)) → OverStands beside n s → OverStands beside k (ReceiverSite f')
+    receiver_with : (beside : KeptBeside) (n k : Node) → (IsReceiverAt beside n f.core f.waiting (laid_blockwise f.laid) → IsReceiverAt beside k f.core f.waiting (laid_blockwise f'.laid)) → OverStands beside n s → OverStands beside k (ReceiverSite f')
     receiver_with beside n k still stands =
-        subst (λ (x : Core). IsReceiverAt beside k x f'.waiting (laid_volumes f'.laid)) (sym core)
-        (subst (λ (us : List Update). IsReceiverAt beside k f.core us (laid_volumes f'.laid)) (sym waiting) (still (subst (λ (x : OverSite R g). OverStands beside n x) is stands)))
+        subst (λ (x : Core). IsReceiverAt beside k x f'.waiting (laid_blockwise f'.laid)) (sym core)
+        (subst (λ (us : List Update). IsReceiverAt beside k f.core us (laid_blockwise f'.laid)) (sym waiting) (still (subst (λ (x : OverSite R g). OverStands beside n x) is stands)))
 
     pub receiver_above : above_site (ReceiverSite f') ≡ above_site s
     receiver_above = ap (λ (x : Core). receiver_of x f'.waiting) core ∙ ap (λ (us : List Update). receiver_of f.core us) waiting ∙ sym (ap (λ (x : OverSite R g). above_site x) is)
@@ -200,12 +202,12 @@ module _ {R : Type 0} {g : Ghosts R} where
     pub receiver_fails : (disk : ℕ) (on : Bool) → LaidFails disk on f.laid f'.laid → (beside : KeptBeside) (n : Node) → OverStands beside n s → OverStands beside n (ReceiverSite f')
     receiver_fails disk on fails beside n =
         receiver_with beside n n
-        (λ r. receiver_still n f.core f.waiting (laid_volumes f.laid) (laid_volumes f'.laid) (alike_Goes Nothing (laid_volumes f.laid) (laid_volumes f'.laid) fails.volumes fails.down fails.armed) fails.volumes.contents.now fails.down
+        (λ r. receiver_still n f.core f.waiting (laid_blockwise f.laid) (laid_blockwise f'.laid) (alike_Goes Nothing (laid_blockwise f.laid) (laid_blockwise f'.laid) (alike_blockwise (laid_volumes f.laid) (laid_volumes f'.laid) fails.volumes) fails.down fails.armed) (alike_blockwise (laid_volumes f.laid) (laid_volumes f'.laid) fails.volumes).contents.now fails.down
         (fuse_volumes n.fuse f.laid f'.laid fails.armed r.fuse) r)
 
     pub receiver_fuses : (calls pick : ℕ) → LaidFuses calls pick f.laid f'.laid → (beside : KeptBeside) (n : Node) → OverStands beside n s → OverStands beside (record n { fuse = FuseSet calls }) (ReceiverSite f')
     receiver_fuses calls pick fuses beside n =
-        receiver_with beside n (record n { fuse = FuseSet calls }) (λ r. receiver_alike n (FuseSet calls) f.core f.waiting (laid_volumes f.laid) (laid_volumes f'.laid) fuses.volumes fuses.down tt r)
+        receiver_with beside n (record n { fuse = FuseSet calls }) (λ r. receiver_alike n (FuseSet calls) f.core f.waiting (laid_blockwise f.laid) (laid_blockwise f'.laid) (alike_blockwise (laid_volumes f.laid) (laid_volumes f'.laid) fuses.volumes) fuses.down tt r)
 
   -- ---- the note, and the counts
 

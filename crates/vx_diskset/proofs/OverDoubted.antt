@@ -195,9 +195,9 @@ module _ {R : Type 0} {g : Ghosts R} (laws : (s : Shade R) → Lawful (shade_mea
         let between : OverSet R g = record { site = GroupFell idle; cut = new.cut } in
         let kept : KeepsOver old between = keeps_over laws racks mine old between a e (Down idle) above_is site_is refl tt (subst (λ (x : GroupSite R g). SiteGoes mine e x) was goes) sound aside in
         record {
-          each = λ beside n stands state running here.
+          each = λ beside n stands state here.
               subst (λ (x : GroupSite R g). KeptBy beside n new x) (sym now)
-              (crashed_doubted beside n idle other doubts between new refl (fell_site new.site other now) (kept.each beside n stands state running tt));
+              (crashed_doubted beside n idle other doubts between new refl (fell_site new.site other now) (kept.each beside n stands state tt));
           above = λ n role. role_kept n a (Down other) new.site now tt (subst (λ (x : Above). RoleBy n x) (sym above_is) role);
         }
 

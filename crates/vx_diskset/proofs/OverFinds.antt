@@ -39,6 +39,7 @@ use Rattle.vx_diskset.proofs.BesideLemmas.{never_besides}
 use Rattle.vx_diskset.proofs.MakeStepping.{may_same}
 use Rattle.vx_diskset.proofs.Narrowing.{inside_there, volumes_at, volumes_many, volumes_named, volumes_past, volumes_size}
 use Rattle.vx_diskset.proofs.NeedLemmas.{ins_length, stand_ins, takes_ins}
+use Rattle.vx_diskset.proofs.BlockLemmas.{up_alone}
 use Rattle.vx_diskset.proofs.OverUp.{set_came}
 use Rattle.vx_diskset.proofs.StartGroup.{found_site}
 use Rattle.vx_diskset.proofs.StaysUp.{not_true, told_now}
@@ -142,5 +143,6 @@ module _ {R : Type 0} {g : Ghosts R} (laws : (s : Shade R) → Lawful (shade_mea
   set_found beside sure links origin = (
     ((λ none. never_note next none), sure, few, some, links, origin),
     set_came beside (found_over n next fuse c u started.core) s started.laid started.core started.site started.above
-        (found_over_up n next fuse c u (laid_volumes laid) (laid_volumes started.laid) started.core found_may (laid_placed laid u had) size on started.starts.does.0 started.starts.does.2 started.starts.does.3 law lit untold beside sure),
+        (up_alone (found_over n next fuse c u started.core) started.core (laid_volumes started.laid) refl law started.starts.does.1
+        (found_over_up n next fuse c u (laid_volumes laid) (laid_volumes started.laid) started.core found_may (laid_placed laid u had) size on started.starts.does.0 started.starts.does.2 started.starts.does.3 law lit untold beside sure)),
   )

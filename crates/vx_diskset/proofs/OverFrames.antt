@@ -11,6 +11,7 @@ use Rattle.vx_model.specs.declared.units.Units.{Units}
 use Rattle.vx_history.specs.Groups.{GroupNode}
 use Rattle.vx_disk.specs.declared.shelf.Shelf.{Ghosts}
 use Rattle.vx_ground.specs.Lifted.{laid_volumes}
+use Rattle.vx_diskset.specs.LaidBlocks.{laid_blockwise}
 use Rattle.vx_grouped.specs.declared.group_site.GroupSite.{GroupSite}
 use Rattle.vx_grouped.specs.declared.group_site.GroupSite.TheVariants.{Up, Deported, Down, Marked, Gone}
 use Rattle.vx_grouped.specs.declared.laid.Laid.{Laid}
@@ -20,7 +21,8 @@ use Rattle.vx_diskset.specs.declared.above.Above.{Above}
 use Rattle.vx_diskset.specs.declared.above.Above.TheVariants.{Nothing, Origin, Receiver}
 use Rattle.vx_diskset.specs.declared.over_set.OverSite.{OverSite}
 use Rattle.vx_diskset.specs.declared.over_set.OverSite.TheVariants.{Origin as OriginSite, Receiver as ReceiverSite, Deported as GroupAway, Down as GroupFell, Gone as NoGroup}
-use Rattle.vx_diskset.proofs.BesideLemmas.{never_besides}
+use Rattle.vx_diskset.proofs.BesideLemmas.{never_besides, site_map}
+use Rattle.vx_diskset.proofs.MixedImages.{aside_of, left_mixed}
 use Rattle.vx_diskset.proofs.Laying.{laid_in, over_there}
 use Rattle.vx_events.specs.RvgNotes.{inside_of}
 use Rattle.vx_diskset.proofs.Receiving.{as_held, as_receiver, durable_of, receiver_up}
@@ -30,7 +32,7 @@ use Rattle.vx_history.specs.Steps.{burned, worked}
 use Rattle.vx_history.specs.World.{Fuse, NoFuse, FuseSet, FuseLit, Node}
 use Rattle.vx_disk.specs.Maps.{maps_of}
 use Rattle.vx_disk.specs.Moves.{Blocks}
-use Rattle.vx_disk.specs.Shelf.{Keeps, Lawful, Meaning}
+use Rattle.vx_disk.specs.Shelf.{Each, Image, Keeps, Lawful, Meaning}
 use Rattle.vx_overlay.specs.Writes.{newest_of}
 use Rattle.vx_rvg.specs.Contents.{writes_of}
 use Rattle.vx_rvg.specs.Holdings.{Holding}
@@ -42,7 +44,7 @@ use Rattle.vx_srl.specs.Rings.{RingOn}
 use Rattle.vx_secondary.specs.Receivers.{Wait, can_log}
 use Rattle.vx_grouped.specs.Volumes.{SiteGoes, VolumesGo, laid_seen}
 use Rattle.vx_diskset.specs.Fuses.{FuseOn}
-use Rattle.vx_diskset.specs.Holds.{HasWrites, KeptBeside}
+use Rattle.vx_diskset.specs.Holds.{HasSite, KeptBeside}
 use Rattle.vx_diskset.specs.Lasts.{StandsHolding}
 use Rattle.vx_diskset.specs.OverKeeps.{BelowGoes}
 use Rattle.vx_diskset.specs.Stands.{AboveStands, IsHeldAt, IsReceiverAt, IsUpAt, OverStands}
@@ -186,7 +188,7 @@ module _ (c : Core) (m m' : Meaning) (mine : Blocks) (goes : VolumesGo mine m m'
   pub frame_wait : (us : List Update) → Wait c m.size us → Wait c m'.size us
   frame_wait us wait = record { few = wait.few; line = wait.line; number = wait.number; fits = λ k u is. can_kept u (wait.fits k u is) }
 
--- ---- a site that is up and runs
+-- ---- a site that is up
 
 -- a replicated volume group that is laid on these volumes of a group
 lies_over : (o : Option GroupNode) (n : Node) (sizes : ℕ → ℕ) (m : Meaning) → (o ≡ None → ⊥) → IsLaid (units_by o n.disks) n.ring n.volumes sizes m → ((k : ℕ) → inside_of (units_by o n.disks) k ≡ true → k < m.units) → LiesBy o n.disks n.blocks n.ring n.volumes sizes m
@@ -211,22 +213,16 @@ module _ (n : Node) (c : Core) (m m' : Meaning) (mine : Blocks) (goes : VolumesG
       lies_over n.group n n.base.size m' over
       (subst (λ (u : Units). IsLaidBy u n.ring n.volumes n.base.size m'.size) units (laid_kept (subst (λ (u : Units). IsLaidBy u n.ring n.volumes n.base.size m.size) (sym units) (laid_in n m lies)))) (λ k is. (let low = over_there n m over lies k is in let more = goes.units in omega (arith, low, more)))
 
-module _ (beside : KeptBeside) (n : Node) (c : Core) (m m' : Meaning) (mine : Blocks) (goes : VolumesGo mine m m') (sound : IsSound c m) (over : n.group ≡ None → ⊥) (running : n.halted ≡ None) (after : Lawful m') (log_aside : (b : ℕ) → mine c.units.srl b → ⊥)
-    (maps_aside : (b : ℕ) → mine c.units.maps b → ⊥) (vols_aside : (v b : ℕ) → v < length c.units.vols → mine (unit_of c.units.vols v) b → ⊥) where
-  -- what a crash leaves then, where the reads of before are given
-  abbrev rested : Meaning
-  rested = record m' { down = false; reads = m.reads }
+-- whether it runs or not, where before the call each mix of what a crash might leave of the blocks had the site
+module _ {beside : KeptBeside} (n : Node) (c : Core) (m m' : Meaning) (mine : Blocks) (goes : VolumesGo mine m m') (sound : IsSound c m) (over : n.group ≡ None → ⊥) (certain : beside.doubt ≡ None) (lawful : Lawful m) (after : Lawful m')
+    (closed : (i : Image) → Each m.leaves i → m.now i) (log_aside : (b : ℕ) → mine c.units.srl b → ⊥) (maps_aside : (b : ℕ) → mine c.units.maps b → ⊥) (vols_aside : (v b : ℕ) → v < length c.units.vols → mine (unit_of c.units.vols v) b → ⊥) where
+  left_behind : c.units ≡ units_of n → LiesOn n m → ((i : Image) → m.now i → HasSite beside n i) → (i : Image) → m'.now i → HasSite beside n i
+  left_behind units lies left i now =
+      left_mixed n m (laid_in n m lies) m' mine goes lawful after (over_there n m over lies)
+      (λ u b is. aside_of c.units mine log_aside maps_aside vols_aside u b (subst (λ (w : Units). inside_of w u ≡ true) (sym units) is)) closed certain left i (after.within i now)
 
-  rested_goes : IsFalse m.down → VolumesGo mine m rested
-  rested_goes up = record {
-    units = goes.units;
-    size = goes.size;
-    tells = goes.tells;
-    reads = λ u b v low read. inl read;
-    leaves = goes.leaves;
-    falls = λ down. absurd (let e : true ≡ false = sym down ∙ up in cc);
-    unarmed = goes.unarmed;
-  }
+  worked_left : ((i : Image) → m'.now i → HasSite beside n i) → (i : Image) → m'.now i → HasSite beside (worked n) i
+  worked_left left i now = site_map n (worked n) i (λ has. record { count = has.count; least = has.least; most = has.most; found = has.found }) (left i now)
 
   -- whether its shelf is down or not, a crash leaves the site's writes
   pub frame_held : IsUpAt beside n c m → IsHeldAt beside n m'
@@ -235,76 +231,89 @@ module _ (beside : KeptBeside) (n : Node) (c : Core) (m m' : Meaning) (mine : Bl
     low = up.low;
     logged = up.logged;
     begun = λ told. up.begun (sym goes.tells ∙ told);
-    left = λ i now.
-        let told : IsTrue m.tells = sym goes.tells ∙ told_now m' i after now in
-        let stood : StandsHolding c n.log n.base rested = still_with c n.log n.base m rested (frame_stands c m rested mine (rested_goes up.up) sound refl log_aside maps_aside vols_aside) (up.content running told) in
-        let has : HasWrites beside n i =
-        writes_found n c i up.units up.ring (kept_whole n c m up told) up.session (let t = up.stamp told running in omega (arith, t)) (omega (arith, up.logged, up.durable running))
-        (record { held = stood.held; has = stood.has; needs = stood.needs; found = left_found c stood.held rested i sound.log_unit stood.stands (after.within i now) }) in
-        inl (record { count = has.count; least = has.least; most = has.most; found = has.found });
-    may = λ k is. never_besides beside.doubt m' (up.sure running) k is;
+    left = left_behind up.units up.lies up.left;
+    may = λ k is. never_besides beside.doubt m' certain k is;
   }
 
-module _ {beside : KeptBeside} (n : Node) (c : Core) (m m' : Meaning) (mine : Blocks) (goes : VolumesGo mine m m') (sound : IsSound c m) (over : n.group ≡ None → ⊥) (running : n.halted ≡ None) (after : Lawful m') (still : IsFalse m'.down) (fuse : FuseOn (burned n.fuse) m')
-    (log_aside : (b : ℕ) → mine c.units.srl b → ⊥) (maps_aside : (b : ℕ) → mine c.units.maps b → ⊥) (vols_aside : (v b : ℕ) → v < length c.units.vols → mine (unit_of c.units.vols v) b → ⊥) where
-  pub frame_up : IsUpAt beside n c m → IsUpAt beside (worked n) c m'
-  frame_up up = record {
-    state = up.state;
-    up = still;
-    fuse = fuse;
-    lies = lies_kept n c m m' mine goes sound over up.units up.lies;
-    low = up.low;
-    units = up.units;
-    ring = up.ring;
-    found = up.found;
-    kept = up.kept;
-    linked = λ told. up.linked (sym goes.tells ∙ told);
-    session = up.session;
-    begun = λ told. up.begun (sym goes.tells ∙ told);
-    stamp = λ told none. up.stamp (sym goes.tells ∙ told) none;
-    fresh = λ origin told none one room. up.fresh origin (sym goes.tells ∙ told) none one room;
-    first = up.first;
-    head = up.head;
-    halted = up.halted;
-    logged = up.logged;
-    durable = up.durable;
-    takes = up.takes;
-    content = λ none told. holds told;
-    left = λ i now.
-        let told = told_now m' i after now in
-        let has : HasWrites beside n i =
-        writes_found n c i up.units up.ring (kept_whole n c m up (sym goes.tells ∙ told)) up.session (let t = up.stamp (sym goes.tells ∙ told) running in omega (arith, t)) (omega (arith, up.logged, up.durable running))
-        (stands_with c n.log n.base m' i sound.log_unit after (holds told) now) in
-        inl (record { count = has.count; least = has.least; most = has.most; found = has.found });
-    sure = up.sure;
-    may = λ k is. never_besides beside.doubt m' (up.sure running) k is;
+  -- of a receiver too
+  pub receiver_behind : (us : List Update) → IsReceiverAt beside n c us m → IsHeldAt beside n m'
+  receiver_behind us r = record {
+    lies = lies_kept n c m m' mine goes sound over r.units r.lies;
+    low = r.low;
+    logged = omega (arith, r.least, r.most);
+    begun = λ told. r.begun (sym goes.tells ∙ told);
+    left = left_behind r.units r.lies r.left;
+    may = λ k is. never_besides beside.doubt m' certain k is;
   }
-    where
-      holds : IsTrue m'.tells → StandsHolding c n.log n.base m'
-      holds told = still_with c n.log n.base m m' (frame_stands c m m' mine goes sound still log_aside maps_aside vols_aside) (up.content running (sym goes.tells ∙ told))
 
--- a receiver is one with its durable writes
-pub receiver_behind : {beside : KeptBeside} (n : Node) (c : Core) (us : List Update) (m m' : Meaning) (mine : Blocks) → VolumesGo mine m m' → IsSound c m → (n.group ≡ None → ⊥) → n.halted ≡ None → Lawful m → Lawful m' → ((b : ℕ) → mine c.units.srl b → ⊥)
-    → ((b : ℕ) → mine c.units.maps b → ⊥) → ((v b : ℕ) → v < length c.units.vols → mine (unit_of c.units.vols v) b → ⊥) → IsReceiverAt beside n c us m → IsHeldAt beside n m'
-receiver_behind {beside} n c us m m' mine goes sound over running lawful after log_aside maps_aside vols_aside r =
-    as_held n m' (r.sure running) (omega (arith, r.least, r.most)) (frame_held beside (durable_of n) c m m' mine goes sound over running after log_aside maps_aside vols_aside (receiver_up n c us m r running lawful sound.log_unit))
+  module _ (still : IsFalse m'.down) (fuse : FuseOn (burned n.fuse) m') where
+    pub frame_up : IsUpAt beside n c m → IsUpAt beside (worked n) c m'
+    frame_up up = record {
+      state = up.state;
+      up = still;
+      fuse = fuse;
+      lies = lies_kept n c m m' mine goes sound over up.units up.lies;
+      low = up.low;
+      units = up.units;
+      ring = up.ring;
+      found = up.found;
+      kept = up.kept;
+      linked = λ told. up.linked (sym goes.tells ∙ told);
+      session = up.session;
+      begun = λ told. up.begun (sym goes.tells ∙ told);
+      stamp = λ told none. up.stamp (sym goes.tells ∙ told) none;
+      fresh = λ origin told none one room. up.fresh origin (sym goes.tells ∙ told) none one room;
+      first = up.first;
+      head = up.head;
+      halted = up.halted;
+      logged = up.logged;
+      durable = up.durable;
+      takes = up.takes;
+      content = λ none told. still_with c n.log n.base m m' (frame_stands c m m' mine goes sound still log_aside maps_aside vols_aside) (up.content none (sym goes.tells ∙ told));
+      left = worked_left (left_behind up.units up.lies up.left);
+      sure = up.sure;
+      may = λ k is. never_besides beside.doubt m' certain k is;
+    }
 
-pub frame_receiver : {beside : KeptBeside} (n : Node) (c : Core) (us : List Update) (m m' : Meaning) (mine : Blocks) → VolumesGo mine m m' → IsSound c m → (n.group ≡ None → ⊥) → n.halted ≡ None → Lawful m → Lawful m' → IsFalse m'.down → FuseOn (burned n.fuse) m'
-    → ((b : ℕ) → mine c.units.srl b → ⊥) → ((b : ℕ) → mine c.units.maps b → ⊥) → ((v b : ℕ) → v < length c.units.vols → mine (unit_of c.units.vols v) b → ⊥) → IsReceiverAt beside n c us m → IsReceiverAt beside (worked n) c us m'
-frame_receiver {beside} n c us m m' mine goes sound over running lawful after still fuse log_aside maps_aside vols_aside r =
-    as_receiver n us n.halted (burned n.fuse) c m' (r.sure running) r.role (omega (arith, r.least, r.most)) (r.waits ∙ ap (λ (k : ℕ). drop k n.log) (r.head running))
-    (frame_up (durable_of n) c m m' mine goes sound over running after still fuse log_aside maps_aside vols_aside (receiver_up n c us m r running lawful sound.log_unit))
+    pub frame_receiver : (us : List Update) → IsReceiverAt beside n c us m → IsReceiverAt beside (worked n) c us m'
+    frame_receiver us r = record {
+      state = r.state;
+      role = r.role;
+      up = still;
+      fuse = fuse;
+      lies = lies_kept n c m m' mine goes sound over r.units r.lies;
+      low = r.low;
+      units = r.units;
+      ring = r.ring;
+      found = r.found;
+      kept = r.kept;
+      linked = λ told. r.linked (sym goes.tells ∙ told);
+      session = r.session;
+      begun = λ told. r.begun (sym goes.tells ∙ told);
+      stamp = λ told none. r.stamp (sym goes.tells ∙ told) none;
+      first = r.first;
+      least = r.least;
+      most = r.most;
+      head = r.head;
+      halted = r.halted;
+      waits = r.waits;
+      takes = r.takes;
+      content = λ none told. still_with c (take n.safe n.log) n.base m m' (frame_stands c m m' mine goes sound still log_aside maps_aside vols_aside) (r.content none (sym goes.tells ∙ told));
+      left = worked_left (left_behind r.units r.lies r.left);
+      sure = r.sure;
+      may = λ k is. never_besides beside.doubt m' certain k is;
+    }
 
 module _ {R : Type 0} {g : Ghosts R} where
   -- the fuse, as the volumes have it behind calls
-  pub fuse_gone : (f : Fuse) (l k : Laid R g) → (IsFalse (laid_volumes l).armed → IsFalse (laid_volumes k).armed) → FuseOn f (laid_volumes l) → FuseOn (burned f) (laid_volumes k)
+  pub fuse_gone : (f : Fuse) (l k : Laid R g) → (IsFalse (laid_blockwise l).armed → IsFalse (laid_blockwise k).armed) → FuseOn f (laid_blockwise l) → FuseOn (burned f) (laid_blockwise k)
   fuse_gone NoFuse l k unarmed it = unarmed it
   fuse_gone (FuseSet calls) l k unarmed it = tt
   fuse_gone (FuseLit most) l k unarmed it = tt
 
   -- what stands over a group that is up
   abbrev pub OverUp : KeptBeside → Node → Above → GroupSite R g → Type 0
-  OverUp beside n above (Up laid) = AboveStands beside n above (laid_volumes laid)
+  OverUp beside n above (Up laid) = AboveStands beside n above (laid_blockwise laid)
   OverUp beside n above other = ⊥
 
   pub over_from : (beside : KeptBeside) (n : Node) (s : OverSite R g) → OverUp beside n (above_site s) (below_site s) → OverStands beside n s

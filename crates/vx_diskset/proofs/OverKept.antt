@@ -14,7 +14,10 @@ use Rattle.vx_model.specs.declared.units.Units.{Units}
 use Rattle.vx_rvg.specs.Views.{unit_of}
 use Rattle.vx_untold.specs.Shades.{shade_meaning}
 use Rattle.vx_untold.specs.declared.shade.Shade.{Shade}
+use Rattle.vx_blockwise.specs.Blocks.{alone_lawful}
 use Rattle.vx_ground.specs.Lifted.{laid_volumes}
+use Rattle.vx_diskset.specs.LaidBlocks.{laid_blockwise}
+use Rattle.vx_diskset.proofs.BlockLemmas.{sound_alone}
 use Rattle.vx_grouped.specs.GroupSites.{laid_disks}
 use Rattle.vx_grouped.specs.Volumes.{SiteGoes, VolumesGo, laid_seen}
 use Rattle.vx_grouped.specs.declared.group_site.GroupSite.{GroupSite}
@@ -91,36 +94,45 @@ module _ {R : Type 0} {g : Ghosts R} (laws : (s : Shade R) → Lawful (shade_mea
   law : (l : Laid R g) → Lawful (laid_volumes l)
   law l = group_lawful (wide l.core) (shade_meaning g.meaning l.shelf) (laws l.shelf) l.stands.group.stands
 
-  -- what stood over it stands
-  stands_up : (beside : KeptBeside) (n : Node) (a : Above) (old new : Laid R g) → VolumesGo mine (laid_seen old) (laid_seen new) → AboveStays a (Up old) → IsAside mine a → (n.group ≡ None → ⊥) → n.halted ≡ None → IsFalse (laid_volumes new).down
-      → OverUp beside n a (Up old) → AboveStands beside (worked n) a (laid_volumes new)
-  stands_up beside n Nothing old new goes sound aside over running still it = absurd it
-  stands_up beside n (Origin core) old new goes sound aside over running still it =
-      frame_up n core (laid_volumes old) (laid_volumes new) mine goes sound over running (law new) still (fuse_gone n.fuse old new goes.unarmed it.fuse) aside.log aside.maps aside.vols it
-  stands_up beside n (Receiver core waiting) old new goes sound aside over running still it =
-      frame_receiver n core waiting (laid_volumes old) (laid_volumes new) mine goes sound.0 over running (law old) (law new) still (fuse_gone n.fuse old new goes.unarmed it.fuse) aside.log aside.maps aside.vols it
+  -- its volumes, as crashes leave each of their blocks by itself
+  block_law : (l : Laid R g) → Lawful (laid_blockwise l)
+  block_law l = alone_lawful (laid_volumes l) (law l)
+
+  block_goes : (old new : Laid R g) → VolumesGo mine (laid_seen old) (laid_seen new) → VolumesGo mine (laid_blockwise old) (laid_blockwise new)
+  block_goes old new goes = record { units = goes.units; size = goes.size; tells = goes.tells; reads = goes.reads; leaves = goes.leaves; falls = goes.falls; unarmed = goes.unarmed }
+
+  -- what stood over it stands, whether the site runs or is halted
+  stands_up : (beside : KeptBeside) (n : Node) (a : Above) (old new : Laid R g) → VolumesGo mine (laid_seen old) (laid_seen new) → AboveStays a (Up old) → IsAside mine a → IsOverSite beside n → IsFalse (laid_volumes new).down
+      → OverUp beside n a (Up old) → AboveStands beside (worked n) a (laid_blockwise new)
+  stands_up beside n Nothing old new goes sound aside over still it = absurd it
+  stands_up beside n (Origin core) old new goes sound aside over still it =
+      frame_up n core (laid_blockwise old) (laid_blockwise new) mine (block_goes old new goes) (sound_alone core (laid_volumes old) sound) over.0 over.1 (block_law old) (block_law new) (λ i each. each) aside.log aside.maps aside.vols still
+      (fuse_gone n.fuse old new goes.unarmed it.fuse) it
+  stands_up beside n (Receiver core waiting) old new goes sound aside over still it =
+      frame_receiver n core (laid_blockwise old) (laid_blockwise new) mine (block_goes old new goes) (sound_alone core (laid_volumes old) sound.0) over.0 over.1 (block_law old) (block_law new) (λ i each. each) aside.log aside.maps aside.vols still
+      (fuse_gone n.fuse old new goes.unarmed it.fuse) waiting it
 
   -- and a crash then leaves the site's writes
-  held_mid : (beside : KeptBeside) (n : Node) (a : Above) (old new : Laid R g) → VolumesGo mine (laid_seen old) (laid_seen new) → AboveStays a (Up old) → IsAside mine a → (n.group ≡ None → ⊥) → n.halted ≡ None
-      → OverUp beside n a (Up old) → IsHeldAt beside n (laid_volumes new)
-  held_mid beside n Nothing old new goes sound aside over running it = absurd it
-  held_mid beside n (Origin core) old new goes sound aside over running it = frame_held beside n core (laid_volumes old) (laid_volumes new) mine goes sound over running (law new) aside.log aside.maps aside.vols it
-  held_mid beside n (Receiver core waiting) old new goes sound aside over running it =
-      receiver_behind n core waiting (laid_volumes old) (laid_volumes new) mine goes sound.0 over running (law old) (law new) aside.log aside.maps aside.vols it
+  held_mid : (beside : KeptBeside) (n : Node) (a : Above) (old new : Laid R g) → VolumesGo mine (laid_seen old) (laid_seen new) → AboveStays a (Up old) → IsAside mine a → IsOverSite beside n → OverUp beside n a (Up old) → IsHeldAt beside n (laid_blockwise new)
+  held_mid beside n Nothing old new goes sound aside over it = absurd it
+  held_mid beside n (Origin core) old new goes sound aside over it =
+      frame_held n core (laid_blockwise old) (laid_blockwise new) mine (block_goes old new goes) (sound_alone core (laid_volumes old) sound) over.0 over.1 (block_law old) (block_law new) (λ i each. each) aside.log aside.maps aside.vols it
+  held_mid beside n (Receiver core waiting) old new goes sound aside over it =
+      receiver_behind n core (laid_blockwise old) (laid_blockwise new) mine (block_goes old new goes) (sound_alone core (laid_volumes old) sound.0) over.0 over.1 (block_law old) (block_law new) (λ i each. each) aside.log aside.maps aside.vols waiting it
 
-  module _ (beside : KeptBeside) (n : Node) (a : Above) (new : OverSet R g) (aside : IsAside mine a) (over : IsOverSite beside n) (running : n.halted ≡ None) where
+  module _ (beside : KeptBeside) (n : Node) (a : Above) (new : OverSet R g) (aside : IsAside mine a) (over : IsOverSite beside n) where
     kept_by : (e e' : GroupSite R g) → site_in new ≡ e' → StaysAbove a e' (above_in new) → BelowGoes mine e e' → AboveStays a e → OverUp beside n a e → StaysHere e' → KeptBy beside n new e'
     kept_by (Up old) (Up mid) at above goes sound it here = (
       over_on beside n (worked n) refl refl refl refl over,
       over_from beside (worked n) new.site
           (subst (λ (x : GroupSite R g). OverUp beside (worked n) (above_in new) x) (sym at)
-          (subst (λ (x : Above). AboveStands beside (worked n) x (laid_volumes mid)) (sym above) (stands_up beside n a old mid goes sound aside over.0 running here it))),
+          (subst (λ (x : Above). AboveStands beside (worked n) x (laid_blockwise mid)) (sym above) (stands_up beside n a old mid goes sound aside over here it))),
     )
     kept_by (Up old) (Down idle) at above goes sound it here =
         subst (λ (x : OverSite R g). CrashedAt beside n (Over (record { site = x; cut = new.cut }))) (sym (fell_site new.site idle at))
-        (let held : IsHeldAt beside n (laid_volumes goes.mid) = held_mid beside n a old goes.mid goes.goes sound aside over.0 running it in
-        over_fell n goes.mid idle (Member (wide goes.mid.core).good (laid_disks goes.mid)) over held goes.stopped (laws idle.rack) (racks idle.rack) goes.mid.stands.group.stands.kept
-        (fell_settles goes.mid n idle goes.stopped (over_there n (laid_volumes goes.mid) over.0 held.lies) goes.lacking) new.cut)
+        (let held : IsHeldAt beside n (laid_blockwise goes.mid) = held_mid beside n a old goes.mid goes.goes sound aside over it in
+        over_fell n goes.mid idle (Member (wide goes.mid.core).good (laid_disks goes.mid)) over held goes.stopped (laws idle.rack) (racks idle.rack) goes.mid.stands.group.stands.kept (law goes.mid)
+        (fell_settles goes.mid n idle goes.stopped (over_there n (laid_blockwise goes.mid) over.0 held.lies) goes.lacking) new.cut)
     kept_by (Up old) (Deported idle) at above goes sound it here = absurd here
     kept_by (Up old) (Marked rack) at above goes sound it here = absurd here
     kept_by (Up old) Gone at above goes sound it here = absurd here
@@ -132,10 +144,10 @@ module _ {R : Type 0} {g : Ghosts R} (laws : (s : Shade R) → Lawful (shade_mea
   -- so each such call leaves it
   pub keeps_below : (old new : OverSet R g) (a : Above) (e e' : GroupSite R g) → a ≡ above_in old → e ≡ site_in old → site_in new ≡ e' → StaysAbove a e' (above_in new) → BelowGoes mine e e' → AboveStays a e → IsAside mine a → KeepsOver old new
   keeps_below old new a e e' above_is site_is at above goes sound aside = record {
-    each = λ beside n stands state running here.
+    each = λ beside n stands state here.
         let was : OverUp beside n (above_in old) (site_in old) = over_to beside n old.site state stands.1 in
         let it : OverUp beside n a e = subst (λ (x : GroupSite R g). OverUp beside n a x) (sym site_is) (subst (λ (x : Above). OverUp beside n x (site_in old)) (sym above_is) was) in
-        subst (λ (x : GroupSite R g). KeptBy beside n new x) (sym at) (kept_by beside n a new aside stands.0 running e e' at above goes sound it (subst (λ (x : GroupSite R g). StaysHere x) at here));
+        subst (λ (x : GroupSite R g). KeptBy beside n new x) (sym at) (kept_by beside n a new aside stands.0 e e' at above goes sound it (subst (λ (x : GroupSite R g). StaysHere x) at here));
     above = λ n role. role_kept n a e' new.site at above (subst (λ (x : Above). RoleBy n x) (sym above_is) role);
   }
 

@@ -6,8 +6,8 @@ use Rattle.vx_config.specs.declared.config.Config.{Config}
 use Rattle.vx_disk.specs.Shelf.{Image, Meaning}
 use Rattle.vx_disk.specs.declared.shelf.Shelf.{Ghosts}
 use Rattle.vx_events.specs.RvgNotes.{inside_of}
-use Rattle.vx_ground.specs.Lifted.{laid_volumes}
 use Rattle.vx_grouped.specs.declared.idle.Idle.{Idle}
+use Rattle.vx_diskset.specs.LaidBlocks.{laid_blockwise}
 use Rattle.vx_history.specs.Groups.{GroupNode}
 use Rattle.vx_history.specs.World.{Fuse, Node, NoFuse}
 use Rattle.vx_kept.specs.Groups.{group_meaning}
@@ -150,8 +150,8 @@ module _ (beside : KeptBeside) (n : Node) (group : Option GroupNode) (fuse : Fus
 
   module _ {R : Type 0} {g : Ghosts R} (lit : (x : Meaning) → FuseOn n.fuse x → FuseOn fuse x) (unlit : n.fuse ≡ NoFuse → fuse ≡ NoFuse) where
     stands_as : (s : OverSite R g) → OverStands beside n s → OverStands beside k s
-    stands_as (OriginSite f) it = up_as f.core (laid_volumes f.laid) (lit (laid_volumes f.laid) it.fuse) it
-    stands_as (ReceiverSite f) it = receiver_as f.core f.waiting (laid_volumes f.laid) (lit (laid_volumes f.laid) it.fuse) it
+    stands_as (OriginSite f) it = up_as f.core (laid_blockwise f.laid) (lit (laid_blockwise f.laid) it.fuse) it
+    stands_as (ReceiverSite f) it = receiver_as f.core f.waiting (laid_blockwise f.laid) (lit (laid_blockwise f.laid) it.fuse) it
     stands_as (GroupAway idle) it = idle_as idle it
     stands_as (GroupFell idle) it = (
       it.0,

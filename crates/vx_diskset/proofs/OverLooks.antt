@@ -71,7 +71,7 @@ module _ {R : Type 0} {g : Ghosts R} where
   up_kept beside n k note s Gone up it = absurd it
 
   module _ (racks : (s : Shade R) → IsRack (shade_meaning g.meaning s)) (laws : (s : Shade R) → Lawful (shade_meaning g.meaning s)) (beside : KeptBeside) (n : Node) (note : GroupNode) (cut : Option CutWrite) (o : OverSet R g) (site mid : GroupSite R g) (above : Above) (at : site ≡ site_in o)
-      (over : above ≡ above_in o) (sound : AboveStays above site) (goes : SiteGoes Nowhere site mid) (stands : SiteStands beside n (Over o)) (state : n.state ≡ IsUp) (running : n.halted ≡ None) (noted : SiteNoted n note (Over o)) where
+      (over : above ≡ above_in o) (sound : AboveStays above site) (goes : SiteGoes Nowhere site mid) (stands : SiteStands beside n (Over o)) (state : n.state ≡ IsUp) (noted : SiteNoted n note (Over o)) where
     pub up_old : UpNoted (below_rvg n) note site
     up_old = subst (λ (e : GroupSite R g). UpNoted (below_rvg n) note e) (sym at) (noted_up beside n note o.site stands.1 state noted.0)
 
@@ -86,7 +86,7 @@ module _ {R : Type 0} {g : Ghosts R} where
       stood : SiteStands beside (worked n) (Over s)
       stood =
           up_kept beside n (below_rvg (worked n)) note s (site_in s) up_new
-          (keeps.each beside n stands state running (up_here (below_rvg (worked n)) note (site_in s) up_new))
+          (keeps.each beside n stands state (up_here (below_rvg (worked n)) note (site_in s) up_new))
 
       noted_new : s.cut ≡ o.cut → SiteNoted (worked n) note (Over s)
       noted_new same = (

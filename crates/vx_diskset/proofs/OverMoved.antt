@@ -1,11 +1,9 @@
 -- The note of a group that an import brought, behind calls on the volumes of its replicated volume group.
-use Rattle.std.proofs.Common.{◌≡◌, ◌∙◌, inl, ℕ, Bool, ap, refl, sym}
+use Rattle.std.proofs.Common.{◌≡◌, ◌∙◌, inl, inr, ⊎_elim, ℕ, Bool, ap, refl, sym}
 use Rattle.std.specs.Prelude.{None, Option, Some}
 use Rattle.vx_config.specs.declared.config.Config.{Config}
-use Rattle.vx_disk.specs.Moves.{Anything, Moves}
 use Rattle.vx_disk.specs.Racks.{IsRack}
 use Rattle.vx_disk.specs.declared.shelf.Shelf.{Ghosts}
-use Rattle.vx_disk.proofs.Moving.{wider}
 use Rattle.vx_events.specs.GroupViews.{config_of}
 use Rattle.vx_events.specs.RvgFits.{config_rvg, rvg_noted}
 use Rattle.vx_ground.specs.Accounts.{GroundSince, ground_state}
@@ -27,8 +25,8 @@ use Rattle.vx_diskset.specs.Aboves.{InsideOf}
 use Rattle.vx_diskset.specs.Layouts.{config_units, units_or}
 use Rattle.vx_diskset.specs.Noted.{NotesWorked, TidyNote, below_rvg}
 use Rattle.vx_diskset.specs.OverRises.{came_with}
-use Rattle.vx_diskset.specs.Shelves.{OfRvg}
-use Rattle.vx_diskset.specs.Works.{LogBlocks, OnlyLog}
+use Rattle.vx_diskset.specs.Shelves.{ChangesOnly, OfRvg}
+use Rattle.vx_diskset.specs.Works.{OnlyLog}
 use Rattle.vx_diskset.proofs.GroundNotes.{note_ground}
 use Rattle.vx_diskset.proofs.MadeOver.{group_as}
 use Rattle.vx_diskset.proofs.OverNoted.{note_read, units_same}
@@ -56,8 +54,8 @@ module _ {R : Type 0} {g : Ghosts R} where
   module _ (racks : (s : Shade R) → IsRack (shade_meaning g.meaning s)) (n : Node) (middle : GroupNode) (fuse : Fuse) (u : Units) (laid new : Laid R g) (inside : InsideOf u middle) (named : rvg_noted middle ≡ Some u)
       (up : GroupUp (below_rvg (came_with fuse middle n)) middle (laid_below laid).tells laid.core (laid_disks laid)) (ground : GroundSince (ground_state laid.core) (laid_disks laid) (ground_state new.core) (laid_disks new)) (since : CalledSince (laid_disks laid) (laid_disks new))
       (less : TellsLess (laid_below laid) (laid_below new)) (only : OnlyLog u (laid_volumes laid) (laid_volumes new)) where
-    moves : Moves (OfRvg u) Anything (laid_volumes laid) (laid_volumes new)
-    moves = wider (LogBlocks u) (OfRvg u) Anything Anything (laid_volumes laid) (laid_volumes new) only (λ v b log. inl log) (λ i aside any. any)
+    moves : ChangesOnly (OfRvg u) (laid_volumes laid) (laid_volumes new)
+    moves = record { units = only.units; size = only.size; tells = only.tells; leaves = λ v b x left. ⊎_elim (λ was. inl was) (λ log. inr (inl log)) (only.leaves v b x left) }
 
     pub moved : NotesWorked (came_with fuse middle n) middle (Up laid) (Up new)
     moved = over_notes (came_with fuse middle n) middle u laid new racks up ground since less moves inside

@@ -1,6 +1,5 @@
 -- How the note of a group moves in calls on the replicated volume group over it.
 use Rattle.std.proofs.Common.{◌≡◌, ◌∙◌, inl, inr, ℕ, ◌<◌, Bool, true, false, List, refl, sym, arith}
-use Rattle.vx_disk.specs.Moves.{Anything, Moves}
 use Rattle.vx_disk.specs.Racks.{IsRack}
 use Rattle.vx_disk.specs.declared.shelf.Shelf.{Ghosts}
 use Rattle.vx_untold.specs.Shades.{shade_meaning}
@@ -26,14 +25,14 @@ use Rattle.vx_grouped.proofs.SettleLemmas.{fell_fused}
 use Rattle.vx_grouped.proofs.SpellLemmas.{spells_like}
 use Rattle.vx_diskset.specs.Aboves.{InsideOf}
 use Rattle.vx_diskset.specs.Noted.{NotesWorked, below_rvg}
-use Rattle.vx_diskset.specs.Shelves.{OfRvg}
+use Rattle.vx_diskset.specs.Shelves.{ChangesOnly, OfRvg}
 use Rattle.vx_diskset.proofs.GroundNotes.{ground_agrees, ground_cut, ground_tidy, ground_up, note_ground, note_works}
 
 -- ---- the group of a site, behind calls on the replicated volume group over it
 
 module _ {R : Type 0} {g : Ghosts R} (n : Node) (note : GroupNode) (units : Units) (old new : Laid R g) (racks : (s : Shade R) → IsRack (shade_meaning g.meaning s)) (up : GroupUp (below_rvg n) note (laid_below old).tells old.core (laid_disks old))
     (ground : GroundSince (ground_state old.core) (laid_disks old) (ground_state new.core) (laid_disks new)) (since : CalledSince (laid_disks old) (laid_disks new)) (less : TellsLess (laid_below old) (laid_below new))
-    (moves : Moves (OfRvg units) Anything (laid_volumes old) (laid_volumes new)) (inside : InsideOf units note) where
+    (moves : ChangesOnly (OfRvg units) (laid_volumes old) (laid_volumes new)) (inside : InsideOf units note) where
   spells : HasSpelling (at_serial 0 new.core.inner.config)
   spells = spells_like old.core.inner.config new.core.inner.config ground.parts ground.frames ground.blocks up.spells
 

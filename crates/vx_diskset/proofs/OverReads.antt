@@ -5,6 +5,7 @@ use Rattle.std.specs.Prelude.{OnOk, Result}
 use Rattle.vx_model.specs.Content.{blocks_in}
 use Rattle.vx_model.specs.declared.no.No.{No}
 use Rattle.vx_history.specs.World.{Node}
+use Rattle.vx_blockwise.specs.Blocks.{blockwise}
 use Rattle.vx_disk.specs.Causes.{OnDisks}
 use Rattle.vx_disk.specs.Disks.{Untouched}
 use Rattle.vx_disk.specs.Shelf.{Goes, Lawful, Meaning, Nothing}
@@ -21,7 +22,8 @@ use Rattle.vx_diskset.specs.Stands.{IsUpAt}
 use Rattle.vx_diskset.specs.Works.{DoesRead}
 use Rattle.vx_diskset.proofs.MakeGroup.{fuse_untouched}
 use Rattle.vx_diskset.proofs.ReadGroup.{read_as}
-use Rattle.vx_diskset.proofs.RvgMoves.{read_moves}
+use Rattle.vx_diskset.proofs.BlockLemmas.{alone_up}
+use Rattle.vx_diskset.proofs.BlockWorks.{read_alone, read_changes}
 
 module _ (c c' : Core) (volume start count : ℕ) (bytes : List ℕ) (m new : Meaning) (result : Result (Unit {0}) No) (lawful : Lawful m) (after : Lawful new) (sound : IsSound c m) (same : c' ≡ c) (sound' : IsSound c' new)
     (answers : ReadIs (read_refusal c (m.size (unit_of c.units.vols volume)) start (blocks_in bytes)) m new result) (gives : OnOk result ((h : Holding) → Stands c h m → IsTrue m.tells → ShowsContent h.content volume start (blocks_in bytes) bytes))
@@ -31,13 +33,17 @@ module _ (c c' : Core) (volume start count : ℕ) (bytes : List ℕ) (m new : Me
       subst (λ (k : Core). ReadAs beside n volume start (blocks_in bytes) bytes k m new result) (sym same)
       (read_as n c m new volume start (blocks_in bytes) bytes up can lawful after sound.log_unit goes down (fuse_untouched n.fuse m new disks goes.unarmed up.fuse) result answers gives)
 
+  -- as crashes leave each block by itself
+  read_blocks : (beside : KeptBeside) (n : Node) → IsUpAt beside n c (blockwise m) → CanRead n volume start (blocks_in bytes) → ReadAs beside n volume start (blocks_in bytes) bytes c' (blockwise m) (blockwise new) result
+  read_blocks beside n up can = read_alone m new goes beside n volume start (blocks_in bytes) bytes c' result sound' up.left (read_of beside n (alone_up n c m lawful sound up) can)
+
   pub does_read : (room : List ℕ) → length room ≡ 8192 → take count room ≡ bytes → DoesRead c volume start count m c' room new result
   does_read room size front = record {
-    keeps = record { sound = sound'; units = ap (λ (k : Core). k.units) same; moves = read_moves c m new goes };
+    keeps = record { sound = sound'; units = ap (λ (k : Core). k.units) same; moves = read_changes c m new goes };
     same = same;
     long = size;
     read = λ beside n up.
-        subst (λ (b : List ℕ). CanRead n volume start (blocks_in b) → ReadAs beside n volume start (blocks_in b) b c' m new result) (sym front) (read_of beside n up);
+        subst (λ (b : List ℕ). CanRead n volume start (blocks_in b) → ReadAs beside n volume start (blocks_in b) b c' (blockwise m) (blockwise new) result) (sym front) (read_blocks beside n up);
     down = down;
   }
 

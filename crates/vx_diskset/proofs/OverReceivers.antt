@@ -9,7 +9,7 @@ use Rattle.vx_model.specs.declared.call.Update.{Update}
 use Rattle.vx_model.specs.declared.no.No.{No}
 use Rattle.vx_model.specs.declared.no.No.TheVariants.{Device}
 use Rattle.vx_secondary.specs.Receivers.{writes_of_updates}
-use Rattle.vx_ground.specs.Lifted.{laid_volumes}
+use Rattle.vx_diskset.specs.LaidBlocks.{laid_blockwise}
 use Rattle.vx_grouped.specs.GroupSites.{laid_disks, site_disks}
 use Rattle.vx_diskset.specs.Aboves.{below_site}
 use Rattle.vx_diskset.specs.DiskSets.{ReadAt}
@@ -30,15 +30,15 @@ module _ {R : Type 0} {g : Ghosts R} (beside : KeptBeside) (n : Node) (old : Ove
   abbrev new : OverSet R g
   new = record { site = ReceiverSite f'; cut = cut }
 
-  here : IsReceiverAt beside n f.core f.waiting (laid_volumes f.laid)
+  here : IsReceiverAt beside n f.core f.waiting (laid_blockwise f.laid)
   here = subst (λ (s : OverSite R g). OverStands beside n s) is stands.1
 
   over : IsOverSite beside n
   over = stands.0
 
   -- as a site with its durable writes
-  pub over_durable : Lawful (laid_volumes f.laid) → IsUpAt beside (durable_of n) f.core (laid_volumes f.laid)
-  over_durable lawful = receiver_up n f.core f.waiting (laid_volumes f.laid) here running lawful f.sound.log_unit
+  pub over_durable : Lawful (laid_blockwise f.laid) → IsUpAt beside (durable_of n) f.core (laid_blockwise f.laid)
+  over_durable lawful = receiver_up n f.core f.waiting (laid_blockwise f.laid) here running lawful f.sound.log_unit
 
   rose_over : (disk : ℕ) → Rose ((laid_disks f.laid).disk_faults disk) ((laid_disks f'.laid).disk_faults disk) → Rose ((site_disks (below_site old.site)).disk_faults disk) ((laid_disks f'.laid).disk_faults disk)
   rose_over disk rose = subst (λ (s : OverSite R g). Rose ((site_disks (below_site s)).disk_faults disk) ((laid_disks f'.laid).disk_faults disk)) (sym is) rose
@@ -49,19 +49,19 @@ module _ {R : Type 0} {g : Ghosts R} (beside : KeptBeside) (n : Node) (old : Ove
   long : n.safe ≤ length n.log
   long = omega (arith, here.least, here.most)
 
-  receives : (halted : Option ℕ) (fuse : Fuse) → IsUpAt beside (record (durable_of n) { halted = halted; fuse = fuse }) f'.core (laid_volumes f'.laid) → IsReceiverAt beside (record n { halted = halted; fuse = fuse }) f'.core f'.waiting (laid_volumes f'.laid)
-  receives halted fuse up = as_receiver n f'.waiting halted fuse f'.core (laid_volumes f'.laid) (here.sure running) here.role long waits_new up
+  receives : (halted : Option ℕ) (fuse : Fuse) → IsUpAt beside (record (durable_of n) { halted = halted; fuse = fuse }) f'.core (laid_blockwise f'.laid) → IsReceiverAt beside (record n { halted = halted; fuse = fuse }) f'.core f'.waiting (laid_blockwise f'.laid)
+  receives halted fuse up = as_receiver n f'.waiting halted fuse f'.core (laid_blockwise f'.laid) (here.sure running) here.role long waits_new up
 
-  pub over_read : (volume start count : ℕ) (bytes : List ℕ) (r : Result (Unit {0}) No) → ReadAs beside (durable_of n) volume start count bytes f'.core (laid_volumes f.laid) (laid_volumes f'.laid) r → ReadAt beside n volume start count bytes (Over old) (Over new) r
+  pub over_read : (volume start count : ℕ) (bytes : List ℕ) (r : Result (Unit {0}) No) → ReadAs beside (durable_of n) volume start count bytes f'.core (laid_blockwise f.laid) (laid_blockwise f'.laid) r → ReadAt beside n volume start count bytes (Over old) (Over new) r
   over_read volume start count bytes (Ok done) l = (l.0, (over, receives n.halted n.fuse l.1))
   over_read volume start count bytes (Err (Device disk)) l = ((over, receives n.halted n.fuse l.0), rose_over disk l.1)
   over_read volume start count bytes (Err other) l = l
 
 module _ {R : Type 0} {g : Ghosts R} (beside : KeptBeside) (n : Node) (old : OverSet R g) (f f' : FoundedReceiver R g) (cut : Option CutWrite) (is : old.site ≡ ReceiverSite f) (stands : SiteStands beside n (Over old)) where
-  pub receiver_in : IsReceiverAt beside n f.core f.waiting (laid_volumes f.laid)
+  pub receiver_in : IsReceiverAt beside n f.core f.waiting (laid_blockwise f.laid)
   receiver_in = subst (λ (s : OverSite R g). OverStands beside n s) is stands.1
 
-  pub over_shown : (volume start count : ℕ) (bytes : List ℕ) (r : Result (Unit {0}) No) → ShownAs beside n volume start count bytes f'.core f'.waiting (laid_volumes f.laid) (laid_volumes f'.laid) r
+  pub over_shown : (volume start count : ℕ) (bytes : List ℕ) (r : Result (Unit {0}) No) → ShownAs beside n volume start count bytes f'.core f'.waiting (laid_blockwise f.laid) (laid_blockwise f'.laid) r
       → ShowedAt beside n volume start count bytes (Over old) (Over (record { site = ReceiverSite f'; cut = cut })) r
   over_shown volume start count bytes (Ok done) l = (l.0, (stands.0, l.1))
   over_shown volume start count bytes (Err (Device disk)) l =

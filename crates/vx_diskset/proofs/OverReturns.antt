@@ -1,5 +1,5 @@
 -- A replicated volume group over a group of disks comes up with it, where contents are told.
-use Rattle.std.proofs.Common.{◌≡◌, ◌∙◌, ◌<◌, IsTrue}
+use Rattle.std.proofs.Common.{◌≡◌, ◌∙◌, ◌<◌, IsTrue, refl}
 use Rattle.std.specs.Prelude.{None, Some}
 use Rattle.vx_disk.specs.Shelf.{Lawful}
 use Rattle.vx_disk.specs.declared.shelf.Shelf.{Ghosts}
@@ -25,6 +25,7 @@ use Rattle.vx_diskset.specs.Stands.{IsOverSite, IsUpAt, SiteStands}
 use Rattle.vx_diskset.specs.Works.{OnlyLog}
 use Rattle.vx_diskset.specs.declared.disk_set.DiskSet.TheVariants.{Over}
 use Rattle.vx_diskset.specs.declared.over_set.OverSet.{OverSet}
+use Rattle.vx_diskset.proofs.BlockLemmas.{up_alone}
 use Rattle.vx_diskset.proofs.OverHas.{HasVolumes}
 use Rattle.vx_diskset.proofs.OverUp.{over_came, over_session, set_came}
 
@@ -54,4 +55,5 @@ module _ {R : Type 0} {g : Ghosts R} (laws : (s : Shade R) → Lawful (shade_mea
       (started.starts.since.tells ∙ told)
 
   pub came_again : SiteStands beside (came_with fuse note n) (Over s)
-  came_again = (over_again beside n note fuse has.sure over, set_came beside (came_with fuse note n) s started.laid started.core started.site started.above came_up)
+  came_again = (over_again beside n note fuse has.sure over, set_came beside (came_with fuse note n) s started.laid started.core started.site started.above
+      (up_alone (came_with fuse note n) started.core (laid_volumes started.laid) refl here does.1 came_up))

@@ -8,7 +8,7 @@ use Rattle.vx_history.specs.World.{Fuse as FuseOf, Node}
 use Rattle.vx_config.specs.declared.config.Config.{Config}
 use Rattle.vx_disk.specs.Shelf.{Meaning}
 use Rattle.vx_disk.specs.declared.shelf.Shelf.{Ghosts}
-use Rattle.vx_ground.specs.Lifted.{laid_volumes}
+use Rattle.vx_diskset.specs.LaidBlocks.{laid_blockwise}
 use Rattle.vx_diskset.specs.Holds.{KeptBeside}
 use Rattle.vx_diskset.specs.Stands.{AwayLeft, FellOver, OverStands, RestsOver, idle_ready}
 use Rattle.vx_diskset.specs.declared.over_set.OverSite.{OverSite}
@@ -46,16 +46,16 @@ module _ (beside : KeptBeside) (n : Node) (fuse : FuseOf) (failing : ℕ → Boo
 module _ {R : Type 0} {g : Ghosts R} where
   -- some writes and flushes may have been made
   pub over_worked : (beside : KeptBeside) (n : Node) (s : OverSite R g) → OverStands beside n s → OverStands beside (worked n) s
-  over_worked beside n (OriginSite f) it = up_worked n f.core (laid_volumes f.laid) it
-  over_worked beside n (ReceiverSite f) it = receiver_burned n f.core f.waiting (laid_volumes f.laid) it
+  over_worked beside n (OriginSite f) it = up_worked n f.core (laid_blockwise f.laid) it
+  over_worked beside n (ReceiverSite f) it = receiver_burned n f.core f.waiting (laid_blockwise f.laid) it
   over_worked beside n (GroupAway idle) it = (it.0, away_like beside n (burned n.fuse) n.failing (idle_ready idle) it.1)
   over_worked beside n (GroupFell idle) it = (it.0, ap (λ (f : FuseOf). burned f) it.1, fell_like beside n (burned n.fuse) n.failing (idle_ready idle) it.2, it.3)
   over_worked beside n NoGroup it = it
 
   -- other disks are made to fail
   pub over_failing : (beside : KeptBeside) (n : Node) (failing : ℕ → Bool) (s : OverSite R g) → OverStands beside n s → OverStands beside (record n { failing = failing }) s
-  over_failing beside n failing (OriginSite f) it = up_failing beside n failing f.core (laid_volumes f.laid) it
-  over_failing beside n failing (ReceiverSite f) it = receiver_failing beside n failing f.core f.waiting (laid_volumes f.laid) it
+  over_failing beside n failing (OriginSite f) it = up_failing beside n failing f.core (laid_blockwise f.laid) it
+  over_failing beside n failing (ReceiverSite f) it = receiver_failing beside n failing f.core f.waiting (laid_blockwise f.laid) it
   over_failing beside n failing (GroupAway idle) it = (it.0, away_like beside n n.fuse failing (idle_ready idle) it.1)
   over_failing beside n failing (GroupFell idle) it = (it.0, it.1, fell_like beside n n.fuse failing (idle_ready idle) it.2, it.3)
   over_failing beside n failing NoGroup it = it

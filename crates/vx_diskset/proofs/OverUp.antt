@@ -14,7 +14,7 @@ use Rattle.vx_rvg.specs.Stands.{Stands}
 use Rattle.vx_rvg.specs.Views.{Core, IsSound, last_of}
 use Rattle.vx_rvg.proofs.ContentFacts.{stands_last}
 use Rattle.vx_srl.specs.Views.{most_number}
-use Rattle.vx_ground.specs.Lifted.{laid_volumes}
+use Rattle.vx_diskset.specs.LaidBlocks.{laid_blockwise}
 use Rattle.vx_grouped.specs.declared.group_site.GroupSite.{GroupSite}
 use Rattle.vx_grouped.specs.declared.group_site.GroupSite.TheVariants.{Up}
 use Rattle.vx_grouped.specs.declared.laid.Laid.{Laid}
@@ -115,7 +115,7 @@ module _ (beside : KeptBeside) (n : Node) (note : GroupNode) (fuse : Fuse) (v ne
       next_below n.session has.1 (found_below_most core.units core.log.ring core.log.header.state core.log.header.incarnation core.log.header.stamp i.0 n.log n.base (stands_with core n.log n.base new i.0 sound.log_unit after stood i.1))
 
 module _ {R : Type 0} {g : Ghosts R} where
-  pub set_came : (beside : KeptBeside) (n : Node) (s : OverSet R g) (laid : Laid R g) (core : Core) → site_in s ≡ Up laid → above_in s ≡ Origin core → IsUpAt beside n core (laid_volumes laid) → OverStands beside n s.site
+  pub set_came : (beside : KeptBeside) (n : Node) (s : OverSet R g) (laid : Laid R g) (core : Core) → site_in s ≡ Up laid → above_in s ≡ Origin core → IsUpAt beside n core (laid_blockwise laid) → OverStands beside n s.site
   set_came beside n s laid core site above up =
       over_from beside n s.site
       (subst (λ (a : Above). OverUp beside n a (site_in s)) (sym above) (subst (λ (e : GroupSite R g). OverUp beside n (Origin core) e) (sym site) up))

@@ -2,8 +2,8 @@
 use Rattle.std.proofs.Common.{◌≡◌, inl, inr, ℕ, subst}
 use Rattle.vx_model.specs.declared.units.Units.{Units}
 use Rattle.vx_disk.specs.Moves.{Anything, Moves, Run, Says}
-use Rattle.vx_disk.specs.Shelf.{Goes, Meaning, Nothing}
-use Rattle.vx_disk.proofs.Moving.{goes_on, of_goes, still, wider}
+use Rattle.vx_disk.specs.Shelf.{Meaning}
+use Rattle.vx_disk.proofs.Moving.{goes_on, still, wider}
 use Rattle.vx_rvg.specs.Views.{Core, Waits}
 use Rattle.vx_diskset.specs.Shelves.{MovesOn, OfRvg}
 
@@ -15,12 +15,9 @@ log_moves c base count P old new moves = wider (Run c.units.srl base count) (OfR
 pub waits_moves : (c : Core) (m : Meaning) (P : Says) (old new : Meaning) → Moves (Waits c m) P old new → MovesOn c old new
 waits_moves c m P old new moves = wider (Waits c m) (OfRvg c.units) P Anything old new moves (λ u b w. inr (w.kept.head.vol, (w.exists, w.there))) (λ i beside is. tt)
 
--- no call, and a read
+-- no call
 pub no_moves : (c : Core) (m : Meaning) → MovesOn c m m
 no_moves c m = still (OfRvg c.units) Anything m
-
-pub read_moves : (c : Core) (old new : Meaning) → Goes Nothing old new → MovesOn c old new
-read_moves c old new goes = of_goes (OfRvg c.units) Anything Nothing old new goes (λ u b v none. absurd none) (λ i each. tt)
 
 -- two calls
 pub then_moves : (c d : Core) (old mid new : Meaning) → d.units ≡ c.units → MovesOn c old mid → MovesOn d mid new → MovesOn c old new

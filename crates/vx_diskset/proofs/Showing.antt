@@ -11,6 +11,7 @@ use Rattle.vx_rvg.specs.Holdings.{Holding}
 use Rattle.vx_rvg.specs.Stands.{Stands}
 use Rattle.vx_rvg.specs.declared.group.Rvg.{Rvg}
 use Rattle.vx_history.specs.World.{Node}
+use Rattle.vx_blockwise.specs.Blocks.{blockwise}
 use Rattle.vx_disk.specs.Causes.{OnDisks}
 use Rattle.vx_disk.specs.Disks.{Untouched}
 use Rattle.vx_disk.specs.Shelf.{Goes, Lawful, Meaning, Nothing}
@@ -33,7 +34,8 @@ use Rattle.vx_secondary.specs.declared.secondary.Secondary.{Secondary}
 use Rattle.vx_diskset.proofs.RawSets.{receiver_there, up_there}
 use Rattle.vx_diskset.specs.Works.{DoesShow, ShownAs}
 use Rattle.vx_diskset.proofs.OverReads.{room_front}
-use Rattle.vx_diskset.proofs.RvgMoves.{read_moves}
+use Rattle.vx_diskset.proofs.BlockLemmas.{alone_receiver}
+use Rattle.vx_diskset.proofs.BlockWorks.{read_changes, shown_alone}
 use Rattle.vx_diskset.proofs.Receiving.{as_receiver, durable_of, receiver_up}
 
 module _ {beside : KeptBeside} (n : Node) (c c' : Core) (us us' : List Update) (m new : Meaning) (volume start count : ℕ) (bytes : List ℕ) (r : IsReceiverAt beside n c us m) (can : CanRead n volume start count) (lawful : Lawful m) (after : Lawful new)
@@ -125,13 +127,17 @@ module _ (c c' : Core) (us us' : List Update) (volume start count : ℕ) (bytes 
   shown_of : (beside : KeptBeside) (n : Node) → IsReceiverAt beside n c us m → CanRead n volume start (blocks_in bytes) → ShownAs beside n volume start (blocks_in bytes) bytes c' us' m new result
   shown_of beside n r can = shown_as n c c' us us' m new volume start (blocks_in bytes) bytes r can lawful after sound.log_unit same waiting goes down disks result answers_front gives_front
 
+  -- as crashes leave each block by itself
+  shown_blocks : (beside : KeptBeside) (n : Node) → IsReceiverAt beside n c us (blockwise m) → CanRead n volume start (blocks_in bytes) → ShownAs beside n volume start (blocks_in bytes) bytes c' us' (blockwise m) (blockwise new) result
+  shown_blocks beside n r can = shown_alone m new goes beside n volume start (blocks_in bytes) bytes c' us' result sound' r.left (shown_of beside n (alone_receiver n c us m lawful sound r) can)
+
   pub shows_room : DoesShow c us volume start count m c' us' room new result
   shows_room = record {
-    keeps = record { sound = sound'; units = ap (λ (k : Core). k.units) same; moves = read_moves c m new goes };
+    keeps = record { sound = sound'; units = ap (λ (k : Core). k.units) same; moves = read_changes c m new goes };
     same = same;
     waiting = waiting;
     long = size;
-    shown = λ beside n r. subst (λ (b : List ℕ). CanRead n volume start (blocks_in b) → ShownAs beside n volume start (blocks_in b) b c' us' m new result) (sym front) (shown_of beside n r);
+    shown = λ beside n r. subst (λ (b : List ℕ). CanRead n volume start (blocks_in b) → ShownAs beside n volume start (blocks_in b) b c' us' (blockwise m) (blockwise new) result) (sym front) (shown_blocks beside n r);
     down = down;
   }
 

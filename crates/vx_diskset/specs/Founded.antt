@@ -19,7 +19,7 @@ use Rattle.vx_model.specs.declared.site.SiteState.TheVariants.{Down as IsDown}
 use Rattle.vx_rvg.specs.Views.{Core}
 use Rattle.vx_watched.specs.Since.{CalledSince}
 use Rattle.vx_watched.specs.Traces.{TellsLess}
-use Rattle.vx_diskset.specs.Shelves.{MovesOn}
+use Rattle.vx_diskset.specs.Shelves.{ChangesOn}
 use Rattle.vx_logimport.specs.declared.rested.Rested.{Rested}
 use Rattle.vx_group.specs.Settles.{LacksCommit}
 
@@ -32,10 +32,10 @@ abbrev pub FusesFor : (calls pick : ℕ) → Disks → Disks → Type 0
 FusesFor calls pick o n = SameBlocks o n × (n.fuse ≡ Some (calls, pick))
 
 module _ {R : Type 0} {g : Ghosts R} where
-  -- What a call on it makes of the group below and of its disks: no block of another volume changed.
+  -- What a call on it makes of the group below and of its disks: no block of another volume has a value that it might not have.
   pub record FoundedWorks (c : Core) (old : Laid R g) (c' : Core) (new : Laid R g) : Type 0 where
     pub units : c'.units ≡ c.units
-    pub moves : MovesOn c (laid_volumes old) (laid_volumes new)
+    pub moves : ChangesOn c (laid_volumes old) (laid_volumes new)
     pub ground : GroundSince (ground_state old.core) (laid_disks old) (ground_state new.core) (laid_disks new)
     pub since : CalledSince (laid_disks old) (laid_disks new)
     pub told : TellsLess (laid_below old) (laid_below new)

@@ -11,6 +11,7 @@ pub mod GroupFinds
 pub mod GroupSets
 pub mod Holds
 pub mod Keeps
+pub mod LaidBlocks
 pub mod Lasts
 pub mod Layouts
 pub mod Makings

@@ -55,7 +55,7 @@ module _ {R : Type 0} {g : Ghosts R} where
   KeptBy beside n new (Down idle) = CrashedAt beside n (Over new)
   KeptBy beside n new other = ⊥
 
-  -- So each call leaves it at a site that is up and runs, where the group is then as it is said. No updates come to wait behind it.
+  -- So each call leaves it at a site that is up, whether it runs or is halted, where the group is then as it is said. No updates come to wait behind it.
   pub record KeepsOver (old new : OverSet R g) : Type 0 where
-    pub each : (beside : KeptBeside) (n : Node) → SiteStands beside n (Over old) → n.state ≡ IsUp → n.halted ≡ None → StaysHere (site_in new) → KeptBy beside n new (site_in new)
+    pub each : (beside : KeptBeside) (n : Node) → SiteStands beside n (Over old) → n.state ≡ IsUp → StaysHere (site_in new) → KeptBy beside n new (site_in new)
     pub above : (n : Node) → RoleBy n (above_in old) → RoleBy n (above_in new)

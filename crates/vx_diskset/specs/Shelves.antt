@@ -1,5 +1,5 @@
 -- What calls on a replicated volume group make of the shelf below it, whatever shelf that is.
-use Rattle.std.specs.Prelude.{◌≡◌, ℕ, ◌+◌, ◌<◌, ◌≤◌, true, List, IsSome, IsTrue, Option, None, Result, Ok, Err}
+use Rattle.std.specs.Prelude.{◌≡◌, ◌⊎◌, ℕ, ◌+◌, ◌<◌, ◌≤◌, true, List, IsSome, IsTrue, Option, None, Result, Ok, Err}
 use Rattle.vx_disk.specs.Causes.{OnDisks}
 use Rattle.vx_disk.specs.Counts.{Rose}
 use Rattle.vx_disk.specs.Disks.{Disks, Untouched}
@@ -43,6 +43,17 @@ OfRvg units u b = IsGroupDisk units u
 -- Whatever is answered, no other block changed.
 abbrev pub MovesOn : Core → Meaning → Meaning → Type 0
 MovesOn c old new = Moves (OfRvg c.units) Anything old new
+
+-- no block has a value that it might not have, but these
+pub record ChangesOnly (mine : Blocks) (old new : Meaning) : Type 0 where
+  pub units : new.units ≡ old.units
+  pub size : (u : ℕ) → new.size u ≡ old.size u
+  pub tells : new.tells ≡ old.tells
+  pub leaves : (u b : ℕ) (v : List ℕ) → new.leaves u b v → old.leaves u b v ⊎ mine u b
+
+-- but those of a group
+abbrev pub ChangesOn : Core → Meaning → Meaning → Type 0
+ChangesOn c old new = ChangesOnly (OfRvg c.units) old new
 
 -- no block, no fuse and no disk that is made to fail changed
 pub record StillOn (old new : Meaning) : Type 0 where

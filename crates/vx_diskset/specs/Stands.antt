@@ -23,6 +23,7 @@ use Rattle.vx_diskset.specs.declared.group_set.GroupSet.{GroupSet}
 use Rattle.vx_diskset.specs.Fuses.{FuseOn, IsFirstLog}
 use Rattle.vx_diskset.specs.Holds.{HasSite, KeptSite, MayBe, site_alone, state_with}
 use Rattle.vx_diskset.specs.Holds.{most_header}
+use Rattle.vx_diskset.specs.LaidBlocks.{laid_blockwise}
 use Rattle.vx_diskset.specs.Lasts.{FoundWith, LeftWith, StandsHolding}
 use Rattle.vx_diskset.specs.Layouts.{IsLaidBy, LiesOn, LiesRaw, raw_units, units_of}
 use Rattle.vx_model.specs.declared.site.SiteState.TheVariants.{Deported as IsAway}
@@ -43,7 +44,6 @@ use Rattle.vx_grouped.specs.declared.idle.Idle.{Idle}
 use Rattle.vx_untold.specs.Shades.{shade_meaning}
 use Rattle.vx_events.specs.RvgFits.{rvg_noted}
 use Rattle.vx_events.specs.RvgNotes.{inside_of}
-use Rattle.vx_ground.specs.Lifted.{laid_volumes}
 use Rattle.vx_diskset.specs.Aboves.{above_in, site_in}
 use Rattle.vx_diskset.specs.declared.above.Above.{Above}
 use Rattle.vx_diskset.specs.declared.above.Above.TheVariants.{Nothing, Origin, Receiver}
@@ -274,10 +274,10 @@ module _ {R : Type 0} {g : Ghosts R} where
   abbrev pub FellSettles : Node → Idle R g → Type 0
   FellSettles n idle = (r : Rested) → idle.rested ≡ Some r → RvgSettles (units_of n) (idle_ready idle)
 
-  -- The disks of a site whose group has a replicated volume group. What the site notes of its group is said apart.
+  -- The disks of a site whose group has a replicated volume group, whose volumes crashes leave block by block. What the site notes of its group is said apart.
   abbrev pub OverStands : KeptBeside → Node → OverSite R g → Type 0
-  OverStands beside n (OriginSite founded) = AboveStands beside n (Origin founded.core) (laid_volumes founded.laid)
-  OverStands beside n (ReceiverSite founded) = AboveStands beside n (Receiver founded.core founded.waiting) (laid_volumes founded.laid)
+  OverStands beside n (OriginSite founded) = AboveStands beside n (Origin founded.core) (laid_blockwise founded.laid)
+  OverStands beside n (ReceiverSite founded) = AboveStands beside n (Receiver founded.core founded.waiting) (laid_blockwise founded.laid)
   OverStands beside n (GroupAway idle) = (n.state ≡ IsAway) × RestsOver (λ c. AwayLeft c beside n (idle_ready idle)) beside n (idle_ready idle)
   OverStands beside n (GroupFell idle) = (n.state ≡ IsDown) × (n.fuse ≡ NoFuse) × RestsOver (λ c. FellOver c beside n (idle_ready idle)) beside n (idle_ready idle) × FellSettles n idle
   OverStands beside n NoGroup = ⊥
@@ -313,8 +313,8 @@ module _ {R : Type 0} {g : Ghosts R} where
     pub kept : (n : Node) → RoleIs n old → RoleIs n new
 
   abbrev pub CutOver : KeptBeside → Node → OverSite R g → Type 0
-  CutOver beside n (OriginSite founded) = IsHeldAt beside n (laid_volumes founded.laid)
-  CutOver beside n (ReceiverSite founded) = IsHeldAt beside n (laid_volumes founded.laid)
+  CutOver beside n (OriginSite founded) = IsHeldAt beside n (laid_blockwise founded.laid)
+  CutOver beside n (ReceiverSite founded) = IsHeldAt beside n (laid_blockwise founded.laid)
   CutOver beside n other = ⊥
 
   -- a group whose shelf is down: a crash leaves the site's writes on its disks

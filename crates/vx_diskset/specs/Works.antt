@@ -1,5 +1,7 @@
--- What each call on a replicated volume group makes of it and of the shelf below, whatever shelf that is.
+-- What each call on a replicated volume group makes of it and of the shelf below, whatever shelf that is. Of its site it is said as crashes leave each block of the shelf
+-- by itself.
 use Rattle.std.specs.Prelude.{◌≡◌, ℕ, ◌+◌, ◌%◌, ◌<◌, ◌≤◌, List, length, take, Contains, None, Result, Ok, Err, IfErr, IfOk, OnOk, IsFalse, IsTrue}
+use Rattle.vx_blockwise.specs.Blocks.{blockwise}
 use Rattle.vx_disk.specs.Causes.{DeviceCause, refusal_of}
 use Rattle.vx_disk.specs.Moves.{Anything, Blocks, Moves, Run}
 use Rattle.vx_disk.specs.Shelf.{Goes, Meaning}
@@ -30,14 +32,14 @@ use Rattle.vx_diskset.specs.DiskSets.{CanLog, CanRead}
 use Rattle.vx_diskset.specs.Holds.{KeptBeside}
 use Rattle.vx_diskset.specs.Needs.{HasRoom}
 use Rattle.vx_diskset.specs.Rooms.{AppliedAs, IsMore, TakesOne, logged_count}
-use Rattle.vx_diskset.specs.Shelves.{LoggedAs, MovesOn, ReadAs}
+use Rattle.vx_diskset.specs.Shelves.{ChangesOn, LoggedAs, ReadAs}
 use Rattle.vx_diskset.specs.Stands.{IsReceiverAt, IsUpAt}
 
--- The group is sound still, on the same units; no block changed but its own.
+-- The group is sound still, on the same units; no other block has a value that it might not have.
 pub record KeepsSound (c c' : Core) (old new : Meaning) : Type 0 where
   pub sound : IsSound c' new
   pub units : c'.units ≡ c.units
-  pub moves : MovesOn c old new
+  pub moves : ChangesOn c old new
 
 -- ---- a write
 
@@ -50,8 +52,8 @@ pub record AsksWrite (c : Core) (volume : ℕ) (bytes : List ℕ) (m : Meaning) 
 
 pub record DoesWrite (c : Core) (volume start : ℕ) (bytes : List ℕ) (hold : ℕ) (m : Meaning) (c' : Core) (m' : Meaning) (r : Result ℕ No) : Type 0 where
   pub keeps : KeepsSound c c' m m'
-  pub wrote : (beside : KeptBeside) (n : Node) → IsUpAt beside n c m → CanLog n volume start (blocks_in bytes) → HasRoom beside.links n hold (blocks_in bytes)
-      → LoggedAs beside n (record { volume = volume; start = start; bytes = bytes }) m c' m' r
+  pub wrote : (beside : KeptBeside) (n : Node) → IsUpAt beside n c (blockwise m) → CanLog n volume start (blocks_in bytes) → HasRoom beside.links n hold (blocks_in bytes)
+      → LoggedAs beside n (record { volume = volume; start = start; bytes = bytes }) (blockwise m) c' (blockwise m') r
   pub takes : TakesOne c c' r
   pub more : IsMore (logged_count r) c c'
   pub off : IsFalse m.down → OffIf r m'.down
@@ -69,7 +71,8 @@ pub record DoesRead (c : Core) (volume start : ℕ) (count : ℕ) (m : Meaning) 
   pub keeps : KeepsSound c c' m m'
   pub same : c' ≡ c
   pub long : length room ≡ MOST_CALL_BYTES
-  pub read : (beside : KeptBeside) (n : Node) → IsUpAt beside n c m → CanRead n volume start (blocks_in (take count room)) → ReadAs beside n volume start (blocks_in (take count room)) (take count room) c' m m' r
+  pub read : (beside : KeptBeside) (n : Node) → IsUpAt beside n c (blockwise m) → CanRead n volume start (blocks_in (take count room))
+      → ReadAs beside n volume start (blocks_in (take count room)) (take count room) c' (blockwise m) (blockwise m') r
   pub down : m'.down ≡ m.down
 
 -- what a receiver shows: the content after all writes that were received
@@ -87,14 +90,15 @@ pub record DoesShow (c : Core) (us : List Update) (volume start count : ℕ) (m 
   pub same : c' ≡ c
   pub waiting : us' ≡ us
   pub long : length room ≡ MOST_CALL_BYTES
-  pub shown : (beside : KeptBeside) (n : Node) → IsReceiverAt beside n c us m → CanRead n volume start (blocks_in (take count room)) → ShownAs beside n volume start (blocks_in (take count room)) (take count room) c' us' m m' r
+  pub shown : (beside : KeptBeside) (n : Node) → IsReceiverAt beside n c us (blockwise m) → CanRead n volume start (blocks_in (take count room))
+      → ShownAs beside n volume start (blocks_in (take count room)) (take count room) c' us' (blockwise m) (blockwise m') r
   pub down : m'.down ≡ m.down
 
 -- ---- an apply
 
 pub record DoesApply (c : Core) (to : ℕ) (m : Meaning) (c' : Core) (m' : Meaning) (r : Result ℕ No) : Type 0 where
   pub keeps : KeepsSound c c' m m'
-  pub applied : (beside : KeptBeside) (n : Node) → IsUpAt beside n c m → n.halted ≡ None → AppliedAs beside n to c' m m' r
+  pub applied : (beside : KeptBeside) (n : Node) → IsUpAt beside n c (blockwise m) → n.halted ≡ None → AppliedAs beside n to c' (blockwise m) (blockwise m') r
   pub reached : IfOk r (λ number. c'.applied ≡ number)
   pub off : OffIf r m'.down
 

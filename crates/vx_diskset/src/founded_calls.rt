@@ -4,6 +4,7 @@ ghost use Rattle.vx_history.specs.World.{Node};
 ghost use Rattle.vx_model.specs.Content.{blocks_in};
 ghost use Rattle.vx_model.specs.declared.limits.TheConstants.{BLOCK, MOST_CALL_BYTES};
 ghost use Rattle.vx_ground.specs.Lifted.{laid_volumes};
+ghost use Rattle.vx_diskset.specs.LaidBlocks.{laid_blockwise};
 ghost use Rattle.vx_diskset.specs.Burning.{OffIf};
 ghost use Rattle.vx_diskset.specs.DiskSets.{CanLog, CanRead};
 ghost use Rattle.vx_diskset.specs.Founded.{FoundedWorks};
@@ -33,7 +34,7 @@ impl<R: Rack> Founded<R> {
         requires few { length bytes.now ≤ MOST_CALL_BYTES }
         requires whole { length bytes.now % BLOCK ≡ 0 }
         requires volume { volume < length self.core.units.vols }
-        ensures wrote { (beside : KeptBeside) (n : Node) → IsUpAt beside n self.core (laid_volumes self.laid) → CanLog n volume start (blocks_in bytes.now) → HasRoom beside.links n hold (blocks_in bytes.now) → LoggedAs beside n (record { volume = volume; start = start; bytes = bytes.now }) (laid_volumes self.laid) result.0.core (laid_volumes result.0.laid) result.1 }
+        ensures wrote { (beside : KeptBeside) (n : Node) → IsUpAt beside n self.core (laid_blockwise self.laid) → CanLog n volume start (blocks_in bytes.now) → HasRoom beside.links n hold (blocks_in bytes.now) → LoggedAs beside n (record { volume = volume; start = start; bytes = bytes.now }) (laid_blockwise self.laid) result.0.core (laid_blockwise result.0.laid) result.1 }
         ensures off { IsFalse (laid_volumes self.laid).down → OffIf result.1 (laid_volumes result.0.laid).down }
         ensures works { FoundedWorks self.core self.laid result.0.core result.0.laid }
     {
@@ -52,7 +53,7 @@ impl<R: Rack> Founded<R> {
 
     /// Brings logged writes into their volumes.
     pub(crate) fn apply(self, to: u64) -> (Founded<R>, Result<u64, No>)
-        ensures applied { (beside : KeptBeside) (n : Node) → IsUpAt beside n self.core (laid_volumes self.laid) → n.halted ≡ None → AppliedAs beside n to result.0.core (laid_volumes self.laid) (laid_volumes result.0.laid) result.1 }
+        ensures applied { (beside : KeptBeside) (n : Node) → IsUpAt beside n self.core (laid_blockwise self.laid) → n.halted ≡ None → AppliedAs beside n to result.0.core (laid_blockwise self.laid) (laid_blockwise result.0.laid) result.1 }
         ensures reached { IfOk result.1 (λ number. result.0.core.applied ≡ number) }
         ensures off { OffIf result.1 (laid_volumes result.0.laid).down }
         ensures works { FoundedWorks self.core self.laid result.0.core result.0.laid }
@@ -74,7 +75,7 @@ impl<R: Rack> Founded<R> {
         requires few { length into.old ≤ MOST_CALL_BYTES }
         requires whole { length into.old % BLOCK ≡ 0 }
         requires volume { volume < length self.core.units.vols }
-        ensures read { (beside : KeptBeside) (n : Node) → IsUpAt beside n self.core (laid_volumes self.laid) → CanRead n volume start (blocks_in into.old) → ReadAs beside n volume start (blocks_in into.old) into.new result.0.core (laid_volumes self.laid) (laid_volumes result.0.laid) result.1 }
+        ensures read { (beside : KeptBeside) (n : Node) → IsUpAt beside n self.core (laid_blockwise self.laid) → CanRead n volume start (blocks_in into.old) → ReadAs beside n volume start (blocks_in into.old) into.new result.0.core (laid_blockwise self.laid) (laid_blockwise result.0.laid) result.1 }
         ensures down { (laid_volumes result.0.laid).down ≡ (laid_volumes self.laid).down }
         ensures works { FoundedWorks self.core self.laid result.0.core result.0.laid }
     {
@@ -105,7 +106,7 @@ impl<R: Rack> FoundedReceiver<R> {
         requires few { length into.old ≤ MOST_CALL_BYTES }
         requires whole { length into.old % BLOCK ≡ 0 }
         requires volume { volume < length self.core.units.vols }
-        ensures read { (beside : KeptBeside) (n : Node) → IsUpAt beside n self.core (laid_volumes self.laid) → CanRead n volume start (blocks_in into.old) → ReadAs beside n volume start (blocks_in into.old) into.new result.0.core (laid_volumes self.laid) (laid_volumes result.0.laid) result.1 }
+        ensures read { (beside : KeptBeside) (n : Node) → IsUpAt beside n self.core (laid_blockwise self.laid) → CanRead n volume start (blocks_in into.old) → ReadAs beside n volume start (blocks_in into.old) into.new result.0.core (laid_blockwise self.laid) (laid_blockwise result.0.laid) result.1 }
         ensures waiting { result.0.waiting ≡ self.waiting }
         ensures down { (laid_volumes result.0.laid).down ≡ (laid_volumes self.laid).down }
         ensures works { FoundedWorks self.core self.laid result.0.core result.0.laid }
@@ -135,7 +136,7 @@ impl<R: Rack> FoundedReceiver<R> {
         requires few { length into.old ≤ MOST_CALL_BYTES }
         requires whole { length into.old % BLOCK ≡ 0 }
         requires volume { volume < length self.core.units.vols }
-        ensures shows { (beside : KeptBeside) (n : Node) → IsReceiverAt beside n self.core self.waiting (laid_volumes self.laid) → CanRead n volume start (blocks_in into.old) → ShownAs beside n volume start (blocks_in into.old) into.new result.0.core result.0.waiting (laid_volumes self.laid) (laid_volumes result.0.laid) result.1 }
+        ensures shows { (beside : KeptBeside) (n : Node) → IsReceiverAt beside n self.core self.waiting (laid_blockwise self.laid) → CanRead n volume start (blocks_in into.old) → ShownAs beside n volume start (blocks_in into.old) into.new result.0.core result.0.waiting (laid_blockwise self.laid) (laid_blockwise result.0.laid) result.1 }
         ensures down { (laid_volumes result.0.laid).down ≡ (laid_volumes self.laid).down }
         ensures works { FoundedWorks self.core self.laid result.0.core result.0.laid }
     {

@@ -1,4 +1,4 @@
-// What is done to a replicated volume group over the volumes of a disk group.
+// What is done to a replicated volume group over the volumes of a disk group. What writes learns what becomes of each mix of blocks that a crash may leave.
 ghost use Rattle.std.specs.Prelude.{◌≡◌, ◌*◌, ◌<◌, ◌≤◌, ℕ, Contains};
 ghost use Rattle.vx_disk.specs.Maps.{maps_of};
 ghost use Rattle.vx_diskset.specs.Works.{AsksRead, AsksShow, AsksWrite, DoesApply, DoesMake, DoesRead, DoesRewrite, DoesShow, DoesStart, DoesWrite};
@@ -9,6 +9,7 @@ ghost use Rattle.vx_srlfmt.specs.Headers.{CanSpellState};
 
 use crate::writing::{apply_group, write_group};
 use std::alloc::Global;
+use vx_blockwise::Blockwise;
 use vx_disk::{Shelf, ShelfError};
 use vx_ground::{Work, write_over};
 use vx_model::limits::MOST_CALL_BYTES;
@@ -37,10 +38,10 @@ impl<'a> Work for Writes<'a> {
     ghost does = { λ w m n r. DoesWrite w.core w.volume w.start w.bytes.now w.hold m r.0 n r.1 };
 
     fn run<S: Shelf>(self, shelf: S) -> (S, (RvgCore, Result<u64, No>)) {
-        let mut rvg = Rvg::together(shelf, self.core);
+        let mut rvg = Rvg::together(Blockwise::over(shelf), self.core);
         let answer = write_group(&mut rvg, self.volume, self.start, self.bytes, self.hold);
-        let (shelf, core) = rvg.apart();
-        (shelf, (core, answer))
+        let (mixed, core) = rvg.apart();
+        (mixed.into_shelf(), (core, answer))
     }
 }
 
@@ -112,10 +113,10 @@ impl Work for Applies {
     ghost does = { λ w m n r. DoesApply w.core w.to m r.0 n r.1 };
 
     fn run<S: Shelf>(self, shelf: S) -> (S, (RvgCore, Result<u64, No>)) {
-        let mut rvg = Rvg::together(shelf, self.core);
+        let mut rvg = Rvg::together(Blockwise::over(shelf), self.core);
         let answer = apply_group(&mut rvg, self.to);
-        let (shelf, core) = rvg.apart();
-        (shelf, (core, answer))
+        let (mixed, core) = rvg.apart();
+        (mixed.into_shelf(), (core, answer))
     }
 }
 

@@ -8,7 +8,7 @@ use Rattle.vx_disk.specs.declared.shelf.Shelf.{Ghosts}
 use Rattle.vx_config.specs.declared.config.Config.{Config}
 use Rattle.vx_history.specs.Groups.{GroupNode}
 use Rattle.vx_history.specs.World.{Node}
-use Rattle.vx_ground.specs.Lifted.{laid_volumes}
+use Rattle.vx_diskset.specs.LaidBlocks.{laid_blockwise}
 use Rattle.vx_rvg.specs.Views.{Core}
 use Rattle.vx_grouped.specs.GroupNotes.{NotesConfig}
 use Rattle.vx_grouped.specs.GroupSites.{site_config, site_disks}
@@ -34,8 +34,8 @@ down_never k down up = let e : IsDown ≡ IsUp = sym down ∙ up in cc
 module _ {R : Type 0} {g : Ghosts R} where
   -- what the volumes of a site with a replicated volume group hold
   abbrev pub over_volumes : OverSite R g → Meaning
-  over_volumes (OriginSite f) = laid_volumes f.laid
-  over_volumes (ReceiverSite f) = laid_volumes f.laid
+  over_volumes (OriginSite f) = laid_blockwise f.laid
+  over_volumes (ReceiverSite f) = laid_blockwise f.laid
   over_volumes (OverAway idle) = no_shelf
   over_volumes (OverFell idle) = no_shelf
   over_volumes NoOver = no_shelf

@@ -69,7 +69,7 @@ use Rattle.vx_yard.proofs.OverGroup.{noted_none, none_rvg}
 use Rattle.vx_yard.proofs.RawSites.{raw_site, raw_told, ungrouped_over, ungrouped_site}
 use Rattle.vx_yard.proofs.SiteEvents.{first_choice}
 use Rattle.vx_diskset.proofs.Laying.{laid_in}
-use Rattle.vx_ground.specs.Lifted.{laid_volumes}
+use Rattle.vx_diskset.specs.LaidBlocks.{laid_blockwise}
 use Rattle.vx_order.specs.declared.facts.VolumeKind.TheVariants.{Data}
 use Rattle.vx_events.proofs.DataPlaces.{DataPlaced, data_placed}
 use Rattle.vx_events.proofs.Refused.{FoundAt, found_at}
@@ -138,8 +138,8 @@ record Whole (n : Node) : Type 0 where
 
 module _ {R : Type 0} {g : Ghosts R} where
   over_whole : (beside : KeptBeside) (n : Node) (s : OverSite R g) → OverStands beside n s → Whole n
-  over_whole beside n (OriginSite f) h = let laid = laid_in n (laid_volumes f.laid) h.lies in record { named = laid.named }
-  over_whole beside n (ReceiverSite f) h = let laid = laid_in n (laid_volumes f.laid) h.lies in record { named = laid.named }
+  over_whole beside n (OriginSite f) h = let laid = laid_in n (laid_blockwise f.laid) h.lies in record { named = laid.named }
+  over_whole beside n (ReceiverSite f) h = let laid = laid_in n (laid_blockwise f.laid) h.lies in record { named = laid.named }
   over_whole beside n (OverAway idle) h = record { named = h.1.lies.named }
   over_whole beside n (OverFell idle) h = record { named = h.2.lies.named }
   over_whole beside n NoOver h = absurd h

@@ -41,7 +41,7 @@ use Rattle.vx_yard.proofs.FailsStay.{fails_then, told_disks, works_by, written_b
 use Rattle.vx_yard.proofs.FuseStays.{fused_on, left_passed, left_spent, may_on}
 use Rattle.vx_site_lines.proofs.Apart.{never_up}
 use Rattle.vx_diskset.proofs.Laying.{laid_in}
-use Rattle.vx_ground.specs.Lifted.{laid_volumes}
+use Rattle.vx_diskset.specs.LaidBlocks.{laid_blockwise}
 
 -- ---- the links of the site
 
@@ -79,8 +79,8 @@ module _ {R : Type 0} {g : Ghosts R} where
   over_log beside n NoOver h runs origin = absurd h
 
   over_ring : (beside : KeptBeside) (n : Node) (s : OverSite R g) → OverStands beside n s → n.ring ≤ 2 ^ 32
-  over_ring beside n (OriginSite f) h = omega (arith, (laid_in n (laid_volumes f.laid) h.lies).ring_is)
-  over_ring beside n (ReceiverSite f) h = omega (arith, (laid_in n (laid_volumes f.laid) h.lies).ring_is)
+  over_ring beside n (OriginSite f) h = omega (arith, (laid_in n (laid_blockwise f.laid) h.lies).ring_is)
+  over_ring beside n (ReceiverSite f) h = omega (arith, (laid_in n (laid_blockwise f.laid) h.lies).ring_is)
   over_ring beside n (OverAway idle) h = omega (arith, h.1.lies.ring_is)
   over_ring beside n (OverFell idle) h = omega (arith, h.2.lies.ring_is)
   over_ring beside n NoOver h = absurd h

@@ -24,7 +24,7 @@ use Rattle.vx_diskset.specs.declared.disk_set.DiskSet.{DiskSet}
 use Rattle.vx_diskset.specs.declared.disk_set.DiskSet.TheVariants.{Bare, Spoiled, Up, Receives, Down, OfGroup, Over, Gone}
 use Rattle.vx_diskset.specs.declared.over_set.OverSite.{OverSite}
 use Rattle.vx_diskset.specs.declared.over_set.OverSite.TheVariants.{Origin as OriginSite, Receiver as ReceiverSite, Deported as OverAway, Down as OverFell, Gone as NoOver}
-use Rattle.vx_ground.specs.Lifted.{laid_volumes}
+use Rattle.vx_diskset.specs.LaidBlocks.{laid_blockwise}
 use Rattle.vx_events.proofs.Places.{position_within, some_same}
 use Rattle.vx_events.proofs.Values.{length-values_from}
 use Rattle.vx_events.specs.Facts.{place_of, volume_fact}
@@ -144,8 +144,8 @@ module _ {R : Type 0} {g : Ghosts R} where
   many_sites d y stands = ap (λ (fs : List SiteFacts). length fs) stands.facts ∙ length-values_from (λ i. fact_over d.world i) 0 d.world.sites
 
   over_few : (beside : KeptBeside) (n : Node) (s : OverSite R g) → OverStands beside n s → length n.volumes ≤ MOST_DATA_VOLUMES
-  over_few beside n (OriginSite f) h = (laid_in n (laid_volumes f.laid) h.lies).few
-  over_few beside n (ReceiverSite f) h = (laid_in n (laid_volumes f.laid) h.lies).few
+  over_few beside n (OriginSite f) h = (laid_in n (laid_blockwise f.laid) h.lies).few
+  over_few beside n (ReceiverSite f) h = (laid_in n (laid_blockwise f.laid) h.lies).few
   over_few beside n (OverAway idle) h = h.1.lies.few
   over_few beside n (OverFell idle) h = h.2.lies.few
   over_few beside n NoOver h = absurd h

@@ -18,7 +18,7 @@ use Rattle.vx_diskset.specs.Holds.{KeptBeside, KeptSite}
 use Rattle.vx_diskset.specs.Layouts.{LiesOn}
 use Rattle.vx_diskset.specs.Stands.{IsGroupSet, OverStands, SiteStands, bare_with}
 use Rattle.vx_diskset.proofs.Laying.{laid_in}
-use Rattle.vx_ground.specs.Lifted.{laid_volumes}
+use Rattle.vx_diskset.specs.LaidBlocks.{laid_blockwise}
 use Rattle.vx_diskset.specs.declared.disk_set.DiskSet.{DiskSet}
 use Rattle.vx_diskset.specs.declared.disk_set.DiskSet.TheVariants.{Bare, Spoiled, Up, Receives, Down, OfGroup, Over, Gone}
 use Rattle.vx_diskset.specs.declared.over_set.OverSet.{OverSet}
@@ -132,8 +132,8 @@ module _ {R : Type 0} {g : Ghosts R} where
 
   -- one with a replicated volume group over its group has a volume of that
   over_many : (beside : KeptBeside) (n : Node) (s : OverSite R g) → OverStands beside n s → 1 ≤ length n.volumes
-  over_many beside n (OriginSite f) it = laid_many n (laid_volumes f.laid) it.lies
-  over_many beside n (ReceiverSite f) it = laid_many n (laid_volumes f.laid) it.lies
+  over_many beside n (OriginSite f) it = laid_many n (laid_blockwise f.laid) it.lies
+  over_many beside n (ReceiverSite f) it = laid_many n (laid_blockwise f.laid) it.lies
   over_many beside n (OverAway idle) it = it.1.lies.some
   over_many beside n (OverFell idle) it = it.2.lies.some
   over_many beside n NoOver it = absurd it

@@ -3,6 +3,7 @@ use Rattle.std.proofs.Common.{◌<◌, length, subst, sym}
 use Rattle.vx_rvg.specs.Views.{Core}
 use Rattle.vx_diskset.specs.Works.{DoesRead}
 use Rattle.vx_ground.specs.Lifted.{laid_volumes}
+use Rattle.vx_diskset.specs.LaidBlocks.{laid_blockwise}
 use Rattle.vx_diskset.proofs.FoundedWork.{founded_works}
 use Rattle.vx_diskset.proofs.OverReads.{read_front}
 use Rattle.vx_diskset.proofs.OverWorks.{carried_core}
@@ -26,7 +27,7 @@ returns-clause-read g c = λ beside n up can.
     carried_core (λ x l y k. DoesRead x c.args.volume c.args.start (length c.args.into.now) (laid_volumes l) y c.work_over-laid.result.1.1 (laid_volumes k) c.work_over-laid.result.1.2)
     c.args.self.core c.apart-laid.result.1 c.together.result.core c.work_over-laid.result.1.0 c.args.self.laid c.apart-laid.result.0 c.together.result.laid c.work_over-laid.result.0
     c.apart-laid.ensures.core c.apart-laid.ensures.laid c.together.ensures.core c.together.ensures.laid c.work_over-laid.ensures.does in
-    read_front beside n c.together.result.core c.args.volume c.args.start (length c.args.into.now) c.work_over-laid.result.1.1 c.copy_from_slice.new.self (laid_volumes c.args.self.laid) (laid_volumes c.together.result.laid) c.work_over-laid.result.1.2
+    read_front beside n c.together.result.core c.args.volume c.args.start (length c.args.into.now) c.work_over-laid.result.1.1 c.copy_from_slice.new.self (laid_blockwise c.args.self.laid) (laid_blockwise c.together.result.laid) c.work_over-laid.result.1.2
     does.long c.requires.few c.copy_from_slice.ensures.after (does.read beside n up) can
 
 pub returns-clause-works : goal.returns-clause-works

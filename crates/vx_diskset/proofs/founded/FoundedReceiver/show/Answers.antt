@@ -5,6 +5,7 @@ use Rattle.vx_rvg.specs.Views.{Core}
 use Rattle.vx_secondary.specs.Receivers.{Wait}
 use Rattle.vx_diskset.specs.Works.{DoesShow}
 use Rattle.vx_ground.specs.Lifted.{laid_volumes}
+use Rattle.vx_diskset.specs.LaidBlocks.{laid_blockwise}
 use Rattle.vx_diskset.proofs.FoundedWork.{founded_works}
 use Rattle.vx_diskset.proofs.Receiving.{wait_core}
 use Rattle.vx_diskset.proofs.Showing.{show_front}
@@ -38,7 +39,7 @@ returns-clause-shows g c = λ beside n at can.
     (carried_core (λ x l y k. DoesShow x c.apart-laid.result.2 c.args.volume c.args.start (length c.args.into.now) (laid_volumes l) y c.work_over-laid.result.1.1 c.work_over-laid.result.1.2 (laid_volumes k) c.work_over-laid.result.1.3)
     c.args.self.core c.apart-laid.result.1 c.together.result.core c.work_over-laid.result.1.0 c.args.self.laid c.apart-laid.result.0 c.together.result.laid c.work_over-laid.result.0
     c.apart-laid.ensures.core c.apart-laid.ensures.laid c.together.ensures.core c.together.ensures.laid c.work_over-laid.ensures.does)) in
-    show_front beside n c.together.result.core c.together.result.waiting c.args.volume c.args.start (length c.args.into.now) c.work_over-laid.result.1.2 c.copy_from_slice.new.self (laid_volumes c.args.self.laid) (laid_volumes c.together.result.laid) c.work_over-laid.result.1.3
+    show_front beside n c.together.result.core c.together.result.waiting c.args.volume c.args.start (length c.args.into.now) c.work_over-laid.result.1.2 c.copy_from_slice.new.self (laid_blockwise c.args.self.laid) (laid_blockwise c.together.result.laid) c.work_over-laid.result.1.3
     does.long c.requires.few c.copy_from_slice.ensures.after (does.shown beside n at) can
 
 pub returns-clause-works : goal.returns-clause-works

@@ -111,7 +111,7 @@ pub returns-in-Origin-clause-crashed : goal.returns-in-Origin-clause-crashed
 returns-in-Origin-clause-crashed g c = λ beside n stands up.
     let lawful = (g.met.R.Shelf g.world.𝓛 g.world.𝓜 g.world.𝓡 ((λ s x. x), (λ x. x), (λ x. x), λ x. x)).lawful in
     let is_rack = (g.met.R.Rack g.world.𝓛 g.world.𝓜 g.world.𝓡 ((λ s x. x), (λ x. x), (λ x. x), λ x. x)).rack in
-    origin_crashed n c.args.self c.fell_idle-idle.result (shade_lawful g.R.Shelf.meaning lawful c.fell_idle-idle.result.rack) (shade_rack g.R.Shelf.meaning is_rack c.fell_idle-idle.result.rack) c.in-Origin.founded c.in-Origin.is
+    origin_crashed n c.args.self c.fell_idle-idle.result (shade_lawful g.R.Shelf.meaning lawful) (shade_rack g.R.Shelf.meaning is_rack c.fell_idle-idle.result.rack) c.in-Origin.founded c.in-Origin.is
     (subst (λ l. Stopped (laid_disks l) (idle_disks c.fell_idle-idle.result)) c.apart-laid.ensures.laid c.fell_idle-idle.ensures.stopped)
     (subst (λ l. (r : Rested) → c.fell_idle-idle.result.rested ≡ Some r → LacksCommit l.core.inner → ⊥) c.apart-laid.ensures.laid c.fell_idle-idle.ensures.lacking) stands
 
@@ -119,7 +119,7 @@ pub returns-in-Origin-clause-held : goal.returns-in-Origin-clause-held
 returns-in-Origin-clause-held g c = λ beside n cut.
     let lawful = (g.met.R.Shelf g.world.𝓛 g.world.𝓜 g.world.𝓡 ((λ s x. x), (λ x. x), (λ x. x), λ x. x)).lawful in
     let is_rack = (g.met.R.Rack g.world.𝓛 g.world.𝓜 g.world.𝓡 ((λ s x. x), (λ x. x), (λ x. x), λ x. x)).rack in
-    origin_held n c.args.self c.fell_idle-idle.result (shade_lawful g.R.Shelf.meaning lawful c.fell_idle-idle.result.rack) (shade_rack g.R.Shelf.meaning is_rack c.fell_idle-idle.result.rack) c.in-Origin.founded c.in-Origin.is
+    origin_held n c.args.self c.fell_idle-idle.result (shade_lawful g.R.Shelf.meaning lawful) (shade_rack g.R.Shelf.meaning is_rack c.fell_idle-idle.result.rack) c.in-Origin.founded c.in-Origin.is
     (subst (λ l. Stopped (laid_disks l) (idle_disks c.fell_idle-idle.result)) c.apart-laid.ensures.laid c.fell_idle-idle.ensures.stopped)
     (subst (λ l. (r : Rested) → c.fell_idle-idle.result.rested ≡ Some r → LacksCommit l.core.inner → ⊥) c.apart-laid.ensures.laid c.fell_idle-idle.ensures.lacking) cut
 
@@ -127,7 +127,7 @@ pub returns-in-Receiver-clause-crashed : goal.returns-in-Receiver-clause-crashed
 returns-in-Receiver-clause-crashed g c = λ beside n stands up.
     let lawful = (g.met.R.Shelf g.world.𝓛 g.world.𝓜 g.world.𝓡 ((λ s x. x), (λ x. x), (λ x. x), λ x. x)).lawful in
     let is_rack = (g.met.R.Rack g.world.𝓛 g.world.𝓜 g.world.𝓡 ((λ s x. x), (λ x. x), (λ x. x), λ x. x)).rack in
-    receiver_crashed n c.args.self c.fell_idle-idle-in-Receiver.result (shade_lawful g.R.Shelf.meaning lawful c.fell_idle-idle-in-Receiver.result.rack) (shade_rack g.R.Shelf.meaning is_rack c.fell_idle-idle-in-Receiver.result.rack) c.in-Receiver.founded c.in-Receiver.is
+    receiver_crashed n c.args.self c.fell_idle-idle-in-Receiver.result (shade_lawful g.R.Shelf.meaning lawful) (shade_rack g.R.Shelf.meaning is_rack c.fell_idle-idle-in-Receiver.result.rack) c.in-Receiver.founded c.in-Receiver.is
     (subst (λ l. Stopped (laid_disks l) (idle_disks c.fell_idle-idle-in-Receiver.result)) c.apart-laid-in-Receiver.ensures.laid c.fell_idle-idle-in-Receiver.ensures.stopped)
     (subst (λ l. (r : Rested) → c.fell_idle-idle-in-Receiver.result.rested ≡ Some r → LacksCommit l.core.inner → ⊥) c.apart-laid-in-Receiver.ensures.laid c.fell_idle-idle-in-Receiver.ensures.lacking) stands
 
@@ -135,7 +135,7 @@ pub returns-in-Receiver-clause-held : goal.returns-in-Receiver-clause-held
 returns-in-Receiver-clause-held g c = λ beside n cut.
     let lawful = (g.met.R.Shelf g.world.𝓛 g.world.𝓜 g.world.𝓡 ((λ s x. x), (λ x. x), (λ x. x), λ x. x)).lawful in
     let is_rack = (g.met.R.Rack g.world.𝓛 g.world.𝓜 g.world.𝓡 ((λ s x. x), (λ x. x), (λ x. x), λ x. x)).rack in
-    receiver_cut n c.args.self c.fell_idle-idle-in-Receiver.result (shade_lawful g.R.Shelf.meaning lawful c.fell_idle-idle-in-Receiver.result.rack) (shade_rack g.R.Shelf.meaning is_rack c.fell_idle-idle-in-Receiver.result.rack) c.in-Receiver.founded c.in-Receiver.is
+    receiver_cut n c.args.self c.fell_idle-idle-in-Receiver.result (shade_lawful g.R.Shelf.meaning lawful) (shade_rack g.R.Shelf.meaning is_rack c.fell_idle-idle-in-Receiver.result.rack) c.in-Receiver.founded c.in-Receiver.is
     (subst (λ l. Stopped (laid_disks l) (idle_disks c.fell_idle-idle-in-Receiver.result)) c.apart-laid-in-Receiver.ensures.laid c.fell_idle-idle-in-Receiver.ensures.stopped)
     (subst (λ l. (r : Rested) → c.fell_idle-idle-in-Receiver.result.rested ≡ Some r → LacksCommit l.core.inner → ⊥) c.apart-laid-in-Receiver.ensures.laid c.fell_idle-idle-in-Receiver.ensures.lacking) cut
 

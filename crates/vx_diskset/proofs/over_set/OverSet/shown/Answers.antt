@@ -9,7 +9,7 @@ use Rattle.std.proofs.Common.{◌∙◌, ap, arith, subst, sym, refl}
 use Rattle.vx_grouped.specs.GroupSites.{site_disks}
 use Rattle.vx_diskset.specs.Aboves.{below_site}
 use Rattle.vx_diskset.specs.Stands.{OverStands}
-use Rattle.vx_ground.specs.Lifted.{laid_volumes}
+use Rattle.vx_diskset.specs.LaidBlocks.{laid_blockwise}
 use Rattle.vx_diskset.proofs.MakeGroup.{up_volumes}
 use Rattle.vx_diskset.proofs.Receiving.{receiver_volumes}
 use Rattle.vx_diskset.proofs.OverIdle.{rest_called, off_never}
@@ -60,12 +60,12 @@ returns-else-volume-volumes-2-clause-down g c = sym (ap (λ s. (site_disks (belo
 
 pub returns-else-volume-volumes-clause-shows : goal.returns-else-volume-volumes-clause-shows
 returns-else-volume-volumes-clause-shows g c = λ beside n stands can.
-    let count = up_volumes n c.in-Origin.founded.core (laid_volumes c.in-Origin.founded.laid) (over_up beside n c.args.self c.in-Origin.founded c.in-Origin.founded c.args.self.cut c.in-Origin.is stands) in
+    let count = up_volumes n c.in-Origin.founded.core (laid_blockwise c.in-Origin.founded.laid) (over_up beside n c.args.self c.in-Origin.founded c.in-Origin.founded c.args.self.cut c.in-Origin.is stands) in
     absurd (let there = can.volume_exists in let past = c.if-volume-volumes.false in let all = c.volumes.ensures in omega (arith, count, there, past, all))
 
 pub returns-else-volume-volumes-2-clause-shows : goal.returns-else-volume-volumes-2-clause-shows
 returns-else-volume-volumes-2-clause-shows g c = λ beside n stands can.
-    let count = receiver_volumes n c.in-Receiver.founded.core c.in-Receiver.founded.waiting (laid_volumes c.in-Receiver.founded.laid) (subst (λ s. OverStands beside n s) c.in-Receiver.is stands.1) in
+    let count = receiver_volumes n c.in-Receiver.founded.core c.in-Receiver.founded.waiting (laid_blockwise c.in-Receiver.founded.laid) (subst (λ s. OverStands beside n s) c.in-Receiver.is stands.1) in
     absurd (let there = can.volume_exists in let past = c.if-volume-volumes-2.false in let all = c.volumes-in-Receiver.ensures in omega (arith, count, there, past, all))
 
 pub returns-in_default-clause-shows : goal.returns-in_default-clause-shows

@@ -7,7 +7,7 @@ use Rattle.std.proofs.Common.{subst, arith}
 use Rattle.std.specs.Prelude.{IsFalse}
 use Rattle.vx_grouped.specs.GroupSites.{site_disks}
 use Rattle.vx_diskset.specs.Aboves.{below_site}
-use Rattle.vx_ground.specs.Lifted.{laid_volumes}
+use Rattle.vx_diskset.specs.LaidBlocks.{laid_blockwise}
 use Rattle.vx_diskset.proofs.MakeGroup.{up_volumes}
 use Rattle.vx_diskset.proofs.OverIdle.{rest_called, logs_never}
 use Rattle.vx_diskset.proofs.over_set.OverSet.written.Goals as goal
@@ -35,7 +35,7 @@ returns-else-volume-volumes-clause-off g c = λ up. subst (λ s. IsFalse (site_d
 
 pub returns-else-volume-volumes-clause-wrote : goal.returns-else-volume-volumes-clause-wrote
 returns-else-volume-volumes-clause-wrote g c = λ beside n stands origin can has.
-    let count = up_volumes n c.in-Origin.founded.core (laid_volumes c.in-Origin.founded.laid) (over_up beside n c.args.self c.in-Origin.founded c.in-Origin.founded c.args.self.cut c.in-Origin.is stands) in
+    let count = up_volumes n c.in-Origin.founded.core (laid_blockwise c.in-Origin.founded.laid) (over_up beside n c.args.self c.in-Origin.founded c.in-Origin.founded c.args.self.cut c.in-Origin.is stands) in
     absurd (let there = can.volume_exists in let past = c.if-volume-volumes.false in let all = c.volumes.ensures in omega (arith, count, there, past, all))
 
 pub returns-in_default-clause-wrote : goal.returns-in_default-clause-wrote
