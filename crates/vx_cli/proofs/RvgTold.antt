@@ -17,7 +17,7 @@ use Rattle.vx_events.specs.RvgBack.{FindsLost, FindsNoRvg, FindsPlain, FindsRvg,
 use Rattle.vx_events.specs.OpenLines.{is_open}
 use Rattle.vx_events.specs.RvgMakes.{MakesRvg, RvgCut, RvgDone, RvgFails, RvgLacks}
 use Rattle.vx_events.specs.RvgNotes.{NotesLacking, NotesNarrowed, NotesNoRvg, NotesRvg}
-use Rattle.vx_events.specs.RvgOver.{BelowEnds, EndsOver, OverRvg, kind_named, missed_world}
+use Rattle.vx_events.specs.RvgOver.{AsGroup, BelowEnds, CutBelow, EndsBelow, EndsOver, OverRvg, kind_named, missed_world}
 use Rattle.vx_events.specs.RvgParts.{RvgShort, ShortFull, ShortGroup, ShortLog, ShortMade, short_place}
 use Rattle.vx_events.specs.RvgSteps.{AsBefore, FoundOne, FullBy, WorksAbove, WorksBeside, WorksFull, is_for_rvg, rvg_place}
 use Rattle.vx_events.specs.StepsOver.{group_place, is_for_group}
@@ -109,11 +109,15 @@ module _ {T U : Type 0} (f : U → T) where
     left = x.left;
   }
 
+  under_told : (d : Doubted) (line : ScriptLine) (s : ℕ) (fails : Fails) (said : Said) (new : Doubted) → EndsBelow T d line s fails said new → EndsBelow U d line s fails said new
+  under_told d line s fails said new (AsGroup x) = AsGroup (group_told f d line s fails said new x)
+  under_told d line s fails said new (CutBelow kept next of fused cuts says left) = CutBelow kept next of fused cuts says left
+
   below_told : (d : Doubted) (line : ScriptLine) (s : ℕ) (fails : Fails) (said : Said) (new : Doubted) → BelowEnds T d line s fails said new → BelowEnds U d line s fails said new
   below_told d line s fails said new x = record {
     missed = x.missed;
     middle = x.middle;
-    ends = group_told f (missed_world x.missed d s) line s fails said x.middle x.ends;
+    ends = under_told (missed_world x.missed d s) line s fails said x.middle x.ends;
     loosens = x.loosens;
     why = x.why;
     left = x.left;

@@ -55,5 +55,8 @@ module _ {R : Type 0} {g : Ghosts R} (laws : (s : Shade R) → Lawful (shade_mea
       (started.starts.since.tells ∙ told)
 
   pub came_again : SiteStands beside (came_with fuse note n) (Over s)
-  came_again = (over_again beside n note fuse has.sure over, set_came beside (came_with fuse note n) s started.laid started.core started.site started.above
-      (up_alone (came_with fuse note n) started.core (laid_volumes started.laid) refl here does.1 came_up))
+  came_again = (
+    over_again beside n note fuse has.sure over,
+    set_came beside (came_with fuse note n) s started.laid started.core started.site started.above
+        (up_alone (came_with fuse note n) started.core (laid_volumes started.laid) refl here does.1 came_up),
+  )

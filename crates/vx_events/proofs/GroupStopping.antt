@@ -77,7 +77,7 @@ cut_tells : (s : ℕ) (line : ScriptLine) → all_fails (cut_events s line) ≡ 
 cut_tells s (GroupImport site) = refl
 cut_tells s other = refl
 
-stop_by : (d new : Doubted) (s : ℕ) (line : ScriptLine) (next : GroupNode) (events : List Event) → all_fails events ≡ []
+pub stop_by : (d new : Doubted) (s : ℕ) (line : ScriptLine) (next : GroupNode) (events : List Event) → all_fails events ≡ []
     → IsLeftOver s line next (run_as false d events) new → GroupStops d new
 stop_by d new s line next events tells left = record {
   events = events;

@@ -47,7 +47,7 @@ left_note s line next last new left =
     ap (λ (w : World). (w.nodes s).group) left.world ∙ group_stays s line (noting last.world s next)
     ∙ ap (λ (n : Node). n.group) (at_place last.world.nodes s (record (last.world.nodes s) { group = Some next }))
 
-stays_known : (s : ℕ) (line : ScriptLine) (next : GroupNode) (last new : Doubted) → IsLeftOver s line next last new → next.dark ≡ false → (note_at (new.world.nodes s)).dark ≡ false
+pub stays_known : (s : ℕ) (line : ScriptLine) (next : GroupNode) (last new : Doubted) → IsLeftOver s line next last new → next.dark ≡ false → (note_at (new.world.nodes s)).dark ≡ false
 stays_known s line next last new left known = ap (λ (o : Option GroupNode). (unwrap_or o no_note).dark) (left_note s line next last new left) ∙ known
 
 -- ---- what becomes of a note

@@ -1,7 +1,7 @@
--- What is left of a line that is not open: it links no site with a replicated volume group over its group of disks. Where there is no such site no line is open.
+-- Where there is no site with a replicated volume group over its group of disks no line is open.
 -- A volume at such a site that is no other volume of the group is a data volume.
-use Rattle.std.proofs.Common.{◌≡◌, ◌∙◌, ℕ, Bool, true, false, List, refl, ap, sym}
-use Rattle.std.specs.Prelude.{◌&&◌, ◌||◌, Option, Some, None, is_some, not}
+use Rattle.std.proofs.Common.{◌≡◌, ◌∙◌, ℕ, Bool, true, false, List, refl, ap}
+use Rattle.std.specs.Prelude.{◌&&◌, ◌||◌, not}
 use Rattle.vx_history.specs.World.{Node, World}
 use Rattle.vx_order.specs.Calls.{is_data}
 use Rattle.vx_order.specs.declared.facts.VolumeKind.{VolumeKind}
@@ -9,34 +9,10 @@ use Rattle.vx_order.specs.declared.facts.VolumeKind.TheVariants.{Data, Map, Plai
 use Rattle.vx_script.specs.declared.line.ScriptLine.{ScriptLine}
 use Rattle.vx_script.specs.declared.line.ScriptLine.TheVariants.{Apply, Crash, Disk, Fuse, GroupDeport, GroupImport, Link, PlexAttach, PlexDetach, Put, Read, Recover, Show, Status, Volume, Write}
 use Rattle.vx_events.specs.Facts.{site_number}
-use Rattle.vx_events.specs.OpenLines.{HasNoOpen, is_halted_over, is_open}
-use Rattle.vx_events.specs.RvgLinks.{links_rvg}
+use Rattle.vx_events.specs.OpenLines.{HasNoOpen}
 use Rattle.vx_events.specs.RvgOver.{is_plain_kind, kind_named}
 use Rattle.vx_events.specs.RvgSteps.{HasNoRvgs, is_for_rvg}
 use Rattle.vx_events.specs.RvgViews.{is_over_rvg}
-
-halted_off : (n : Node) → is_over_rvg n ≡ false → is_halted_over n ≡ false
-halted_off n off = ap (λ (b : Bool). b && is_some n.halted) off
-
-none_halted : (o : Option ℕ) → is_some o ≡ false → o ≡ None
-none_halted None off = refl
-none_halted (Some disk) off = absurd (let clash : true ≡ false = off in cc)
-
--- such a site that is not halted runs
-pub closed_runs : (n : Node) → is_over_rvg n ≡ true → is_halted_over n ≡ false → n.halted ≡ None
-closed_runs n over closed = none_halted n.halted (sym (ap (λ (b : Bool). b && is_some n.halted) over) ∙ closed)
-
-pub open_links : (w : World) (line : ScriptLine) → is_open w line ≡ false → links_rvg w line ≡ false
-open_links w (Volume site volume blocks mirrors layout log map policy) closed = refl
-open_links w (PlexDetach site volume plex) closed = refl
-open_links w (PlexAttach site volume plex) closed = refl
-open_links w other closed = closed
-
-pub open_beside : (w : World) (line : ScriptLine) → is_for_rvg w line ≡ false → links_rvg w line ≡ false → is_open w line ≡ false
-open_beside w (Volume site volume blocks mirrors layout log map policy) off links = halted_off (w.nodes (site_number w site)) off
-open_beside w (PlexDetach site volume plex) off links = halted_off (w.nodes (site_number w site)) off
-open_beside w (PlexAttach site volume plex) off links = halted_off (w.nodes (site_number w site)) off
-open_beside w other off links = links
 
 data_by : (over : Bool) (kind : VolumeKind) → over ≡ true → (over && not (is_data kind)) ≡ false → kind ≡ Data
 data_by true Data is closed = refl
@@ -65,9 +41,9 @@ module _ (w : World) (none : HasNoRvgs w) where
   either_none : (a b : Bool) → a ≡ false → b ≡ false → (a || b) ≡ false
   either_none a b e f = ap (λ (x : Bool). x || b) e ∙ f
 
-  links_none : (line : ScriptLine) → links_rvg w line ≡ false
-  links_none (Link p s sync prot) = either_none (is_over_rvg (w.nodes (site_number w p))) (is_over_rvg (w.nodes (site_number w s))) (none (site_number w p)) (none (site_number w s))
-  links_none other = refl
+  pub open_none : HasNoOpen w
+  open_none (Link p s sync prot) = either_none (is_over_rvg (w.nodes (site_number w p))) (is_over_rvg (w.nodes (site_number w s))) (none (site_number w p)) (none (site_number w s))
+  open_none other = refl
 
   pub for_none : (line : ScriptLine) → is_for_rvg w line ≡ false
   for_none (GroupDeport site) = none (site_number w site)
@@ -86,9 +62,3 @@ module _ (w : World) (none : HasNoRvgs w) where
   for_none (Apply site to) = none (site_number w site)
   for_none (Status site) = none (site_number w site)
   for_none other = refl
-
-  pub open_none : HasNoOpen w
-  open_none (Volume site volume blocks mirrors layout log map policy) = halted_off (w.nodes (site_number w site)) (none (site_number w site))
-  open_none (PlexDetach site volume plex) = halted_off (w.nodes (site_number w site)) (none (site_number w site))
-  open_none (PlexAttach site volume plex) = halted_off (w.nodes (site_number w site)) (none (site_number w site))
-  open_none other = links_none other

@@ -13,7 +13,7 @@ use Rattle.vx_history.specs.declared.event.Event.{Event}
 use Rattle.vx_history.specs.declared.event.Event.TheVariants.{Crash as CrashAt, Fall as FallAt, Recover as RecoverAt}
 use Rattle.vx_script.specs.declared.line.ScriptLine.{ScriptLine}
 use Rattle.vx_script.specs.declared.line.ScriptLine.TheVariants.{Apply, Crash, Disk as DiskLine, Fuse as FuseLine, GroupDeport, GroupImport, PlexAttach, PlexDetach, Put, Raw, Read, Recover, Show, Site, Status, Volume, Write}
-use Rattle.vx_events.proofs.GroupStopping.{group_stops, noted_like}
+use Rattle.vx_events.proofs.GroupStopping.{group_stops, noted_like, stop_by}
 use Rattle.vx_events.proofs.KnownLaws.{finds_none}
 use Rattle.vx_events.proofs.Noting.{as_like, disks_like, like_disks, like_noted, like_self, like_then, like_site}
 use Rattle.vx_events.proofs.RvgMissed.{loosened_like, missed_like}
@@ -26,13 +26,13 @@ use Rattle.vx_events.specs.Doubts.{run_as, with_disks}
 use Rattle.vx_events.specs.Ends.{place_of}
 use Rattle.vx_events.specs.Facts.{site_number}
 use Rattle.vx_events.specs.Fails.{Fails}
-use Rattle.vx_events.specs.GroupEnds.{KnowsNothing}
+use Rattle.vx_events.specs.GroupEnds.{GroupStops, KnowsNothing}
 use Rattle.vx_events.specs.GroupLines.{group_noted, noting}
 use Rattle.vx_events.specs.GroupNotes.{IsKnown, note_at}
 use Rattle.vx_events.specs.Lists.{Choice, events_of, recovery_of, crash_count}
 use Rattle.vx_events.specs.RvgBack.{FindsLost, FindsNoRvg, FindsPlain, FindsRvg, GroupHeld, GroupUnfound, IsLeftBack, IsLeftBut, KeptLost, LogFails, LogLacks, RvgBack, RvgFinds, RvgUp, SessionLeft, fall_first, fuse_left}
 use Rattle.vx_events.specs.RvgMakes.{RvgStops}
-use Rattle.vx_events.specs.RvgOver.{BelowEnds, EndsOver, OpensFor, OverRvg, kind_named, missed_world, noting_over, fuse_behind}
+use Rattle.vx_events.specs.RvgOver.{AsGroup, BelowEnds, CutBelow, EndsBelow, EndsOver, OpensFor, OverRvg, kind_named, missed_world, noting_over, fuse_behind}
 use Rattle.vx_events.specs.RvgParts.{RvgShort, ShortGroup, ShortLog, ShortMade}
 use Rattle.vx_events.specs.declared.said.Said.{Said}
 use Rattle.vx_events.specs.RvgTakes.{RvgTaken, TakeFails, TakeLacks, TakeCut, TakeOff, TakeUnfound, TakeHeld, RvgTakes}
@@ -105,6 +105,12 @@ done_by : (d : Doubted) (s : ℕ) (line : ScriptLine) (taken : Bool) (next : Gro
     → all_fails events ≡ ending → IsLeftBack s line taken next d (run_as taken d events) new → RvgStops d new
 done_by d s line taken next events ending new tells left = but_by false d s line taken next events ending new tells left
 
+-- ---- a line on the group alone
+
+under_stops : (told : Type 0) (d : Doubted) (line : ScriptLine) (s : ℕ) (fails : Fails) (said : Said) (new : Doubted) → EndsBelow told d line s fails said new → GroupStops d new
+under_stops told d line s fails said new (AsGroup ends) = group_stops told d line s fails said new ends
+under_stops told d line s fails said new (CutBelow kept next are fused cuts says left) = stop_by d new s line next (CrashAt s kept ∷ []) refl left
+
 -- ---- recoveries
 
 -- nothing came up, and a site that was up crashed
@@ -151,7 +157,7 @@ module _ (told : Type 0) (d : Doubted) (line : ScriptLine) (s : ℕ) (fails : Fa
   pub below_stops : BelowEnds told d line s fails said new → RvgStops d new
   below_stops below =
       let before : Doubted = missed_world below.missed d s in
-      let stops = group_stops told before line s fails said below.middle below.ends in
+      let stops = under_stops told before line s fails said below.middle below.ends in
       record {
         before = before;
         like = missed_like below.missed d s;

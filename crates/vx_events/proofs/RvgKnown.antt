@@ -14,7 +14,7 @@ use Rattle.vx_script.specs.declared.line.ScriptLine.TheVariants.{Apply, GroupDep
 use Rattle.vx_order.specs.Calls.{is_data}
 use Rattle.vx_events.proofs.ReadsLeave.{read_by, read_note}
 use Rattle.vx_events.proofs.WritesBelow.{write_by}
-use Rattle.vx_events.proofs.KnownLaws.{back_known, finds_none, group_known, group_stays, no_rise, same_note}
+use Rattle.vx_events.proofs.KnownLaws.{back_known, cuts_known, finds_none, group_known, group_stays, no_rise, same_note, stays_known}
 use Rattle.vx_events.proofs.RvgMissed.{loosened_note, missed_dark, missed_note}
 use Rattle.vx_events.specs.Doubts.{with_disks}
 use Rattle.vx_events.specs.Fails.{Fails}
@@ -25,7 +25,7 @@ use Rattle.vx_events.specs.Known.{MayDarken}
 use Rattle.vx_events.specs.RvgBack.{FindsLost, FindsNoRvg, FindsPlain, FindsRvg, GroupHeld, GroupUnfound, IsLeftBack, KeptLost, LogFails, LogLacks, RvgBack, RvgFinds, RvgUp, fuse_left}
 use Rattle.vx_events.specs.RvgMakes.{IsLeftRvg, MakesRvg, RvgCut, RvgDone, RvgFails, RvgLacks, units_at}
 use Rattle.vx_events.specs.RvgNotes.{NotesNarrowed}
-use Rattle.vx_events.specs.RvgOver.{BelowEnds, EndsOver, NotesLine, OverRvg, kind_named, missed_world, noting_over, fuse_behind}
+use Rattle.vx_events.specs.RvgOver.{AsGroup, BelowEnds, CutBelow, EndsBelow, EndsOver, NotesLine, OverRvg, kind_named, missed_world, noting_over, fuse_behind}
 use Rattle.vx_events.specs.RvgWorks.{FuseRanOut, NotesWork, WorksAs}
 use Rattle.vx_events.specs.declared.said.Said.{Said}
 use Rattle.vx_events.specs.RvgTakes.{RvgTaken, TakeFails, TakeLacks, TakeCut, TakeOff, TakeUnfound, TakeHeld, RvgTakes}
@@ -93,6 +93,13 @@ making_known told d line s fails said new (RvgCut site srl maps volumes next is 
 
 -- ---- recoveries and imports
 
+-- a line on the group alone
+under_known : (told : Type 0) → told → (d : Doubted) (line : ScriptLine) (s : ℕ) (fails : Fails) (said : Said) (new : Doubted) → EndsBelow told d line s fails said new
+    → (note_at (d.world.nodes s)).dark ≡ false → (MayDarken (note_at (d.world.nodes s)) line said → ⊥) → (note_at (new.world.nodes s)).dark ≡ false
+under_known told tells d line s fails said new (AsGroup ends) known free = group_known told tells d line s fails said new ends known free
+under_known told tells d line s fails said new (CutBelow kept next are fused cuts says left) known free =
+    stays_known s line next _ new left (cuts_known s (note_at (d.world.nodes s)) line fails next known (no_rise (note_at (d.world.nodes s)) line said _ says free) cuts)
+
 module _ (told : Type 0) (tells : told) (d : Doubted) (s : ℕ) (known : (note_at (d.world.nodes s)).dark ≡ false) (fails : Fails) (said : Said) (new : Doubted) where
   abbrev here : GroupNode
   here = note_at (d.world.nodes s)
@@ -156,7 +163,7 @@ module _ (told : Type 0) (tells : told) (d : Doubted) (s : ℕ) (known : (note_a
   below_known : (line : ScriptLine) → (MayDarken here line said → ⊥) → BelowEnds told d line s fails said new → (note_at (new.world.nodes s)).dark ≡ false
   below_known line free below =
       ap (λ (k : GroupNode). k.dark) (loosened_note below.loosens s below.middle new below.left)
-      ∙ group_known told tells (missed_world below.missed d s) line s fails said below.middle below.ends (missed_dark below.missed d s known)
+      ∙ under_known told tells (missed_world below.missed d s) line s fails said below.middle below.ends (missed_dark below.missed d s known)
       (λ may. free (subst (λ (k : GroupNode). MayDarken k line said) (missed_note below.missed d s) may))
 
   pub over_known : (line : ScriptLine) → (MayDarken here line said → ⊥) → OverRvg told d line s fails said new → (note_at (new.world.nodes s)).dark ≡ false

@@ -24,7 +24,7 @@ use Rattle.vx_events.specs.RvgBack.{GroupHeld, GroupUnfound, KeptLost, LogFails,
 use Rattle.vx_order.specs.Calls.{is_data}
 use Rattle.vx_events.proofs.ReadsLeave.{read_by, read_note}
 use Rattle.vx_events.proofs.WritesBelow.{write_by}
-use Rattle.vx_events.specs.RvgOver.{BelowEnds, EndsOver, NotesLine, OverRvg, SaysOver, kind_named, missed_world, note_loosened}
+use Rattle.vx_events.specs.RvgOver.{AsGroup, BelowEnds, CutBelow, EndsBelow, EndsOver, NotesLine, OverRvg, SaysOver, kind_named, missed_world, note_loosened}
 use Rattle.vx_events.specs.RvgWorks.{FuseRanOut, NoneFailed, NoteAgrees, NotesWork}
 use Rattle.vx_events.specs.declared.said.Said.{Said}
 use Rattle.vx_events.proofs.RvgKnown.{noted_over_here}
@@ -81,6 +81,10 @@ module _ (told : Type 0) (d : Doubted) (line : ScriptLine) (s : ℕ) (fails : Fa
   group_agrees (GroupNotFound why next are brings not leaves says left) = absurd (rests brings)
   group_agrees (FindsGroup next are brings unknown dark says left) = absurd (rests brings)
   group_agrees (FindsNoGroup next why are brings unknown device refused says left) = absurd (rests brings)
+
+  under_agrees : EndsBelow told d line s fails said new → NoteAgrees (note_at (new.world.nodes s))
+  under_agrees (AsGroup ends) = group_agrees ends
+  under_agrees (CutBelow kept next are fused cuts says left) = absurd (dry (fused, says))
 
 tight_still : (loosens : Bool) (note : GroupNode) → (loosens ≡ true → ⊥) → NoteAgrees note → NoteAgrees (note_loosened loosens note)
 tight_still true note never a = absurd (never refl)
@@ -149,7 +153,7 @@ module _ (told : Type 0) (tells : told) (d : Doubted) (s : ℕ) (fails : Fails) 
   below_agrees line rests does below =
       agrees_at (new.world.nodes s) (note_loosened below.loosens (note_at (below.middle.world.nodes s))) (loosened_group below.loosens s below.middle new below.left)
       (tight_still below.loosens (note_at (below.middle.world.nodes s)) (λ loosens. below.why loosens none dry)
-      (group_agrees told (missed_world below.missed d s) line s fails said below.middle none (λ off. dry (subst (λ (n : Node). FuseRanOut n said) (missed_node below.missed d s) off)) rests
+      (under_agrees told (missed_world below.missed d s) line s fails said below.middle none (λ off. dry (subst (λ (n : Node). FuseRanOut n said) (missed_node below.missed d s) off)) rests
       (λ note next done. does ((missed_world below.missed d s).world.nodes s) note next done) (missed_agrees below.missed d s a) below.ends))
 
   pub over_agrees : (line : ScriptLine) → OverRvg told d line s fails said new → NoteAgrees (note_at (new.world.nodes s))

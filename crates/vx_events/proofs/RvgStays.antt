@@ -31,7 +31,7 @@ use Rattle.vx_events.specs.GroupNotes.{IsKnown, NotesBack, NotesCut, NotesDoubt,
 use Rattle.vx_events.specs.GroupViews.{config_of}
 use Rattle.vx_events.specs.RvgBack.{FindsLost, FindsNoRvg, FindsPlain, FindsRvg, GroupHeld, GroupUnfound, IsLeftBack, IsLeftBut, KeptLost, LogFails, LogLacks, RvgBack, RvgFinds, RvgUp}
 use Rattle.vx_events.specs.RvgFits.{KeepsRvg, KeptConfig, NoteKeepsRvg, config_rvg, rvg_noted}
-use Rattle.vx_events.specs.RvgOver.{BelowEnds, NotesLine, OverRvg, EndsOver, kind_named, missed_world}
+use Rattle.vx_events.specs.RvgOver.{AsGroup, BelowEnds, CutBelow, EndsBelow, NotesLine, OverRvg, EndsOver, kind_named, missed_world}
 use Rattle.vx_events.specs.RvgViews.{is_over_rvg}
 use Rattle.vx_events.specs.RvgWorks.{NotesWork, FuseRanOut, WorksCut}
 use Rattle.vx_events.specs.declared.said.Said.{Said}
@@ -109,6 +109,10 @@ module _ (told : Type 0) (d : Doubted) (line : ScriptLine) (s : ℕ) (fails : Fa
   group_keeps (FindsGroup next are brings unknown dark says left) = absurd (rests brings)
   group_keeps (FindsNoGroup next why are brings unknown device refused says left) = absurd (rests brings)
 
+  under_keeps : EndsBelow told d line s fails said new → NoteKeepsRvg (note_at (d.world.nodes s)) (note_at (new.world.nodes s))
+  under_keeps (AsGroup ends) = group_keeps ends
+  under_keeps (CutBelow kept next are fused cut says left) = by_note (new.world.nodes s) noted next (left_note s line next _ new left) (cuts noted next cut)
+
 -- so it is behind what else the line notes
 module _ (told : Type 0) (d : Doubted) (line : ScriptLine) (s : ℕ) (fails : Fails) (said : Said) (new : Doubted) (rests : BringsUp line → ⊥)
     (does : (n : Node) (note next : GroupNode) → GroupDoes told s n note line fails said next → NoteKeepsRvg note next) (spoils : (note next : GroupNode) → GroupSpoils s note line fails next → NoteKeepsRvg note next)
@@ -117,7 +121,7 @@ module _ (told : Type 0) (d : Doubted) (line : ScriptLine) (s : ℕ) (fails : Fa
   below_keeps below =
       missed_keeps below.missed d s (note_at (new.world.nodes s))
       (then_same (note_at ((missed_world below.missed d s).world.nodes s)) (note_at (below.middle.world.nodes s)) (note_at (new.world.nodes s))
-      (group_keeps told (missed_world below.missed d s) line s fails said below.middle rests (does ((missed_world below.missed d s).world.nodes s)) spoils cuts below.ends)
+      (under_keeps told (missed_world below.missed d s) line s fails said below.middle rests (does ((missed_world below.missed d s).world.nodes s)) spoils cuts below.ends)
       (ap (λ (g : GroupNode). g.config) (loosened_note below.loosens s below.middle new below.left)))
 
 -- a deport

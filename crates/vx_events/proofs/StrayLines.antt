@@ -30,7 +30,7 @@ use Rattle.vx_events.specs.GroupNotes.{IsKnown, note_at}
 use Rattle.vx_order.specs.Calls.{is_data}
 use Rattle.vx_events.proofs.ReadsLeave.{read_by}
 use Rattle.vx_events.proofs.WritesBelow.{write_by}
-use Rattle.vx_events.specs.RvgOver.{BelowEnds, EndsOver, OverRvg, kind_named, missed_world}
+use Rattle.vx_events.specs.RvgOver.{AsGroup, BelowEnds, CutBelow, EndsBelow, EndsOver, OverRvg, kind_named, missed_world}
 use Rattle.vx_events.specs.RvgParts.{RvgShort, ShortFull, ShortGroup, ShortLog, ShortMade, short_place}
 use Rattle.vx_events.specs.RvgSteps.{AsBefore, FoundOne, FullBy, StepFull, WorksAbove, WorksBeside, WorksFull, is_for_rvg, rvg_place}
 use Rattle.vx_events.specs.StepsOver.{WorksOver, group_place, is_for_group, refused_over}
@@ -149,8 +149,12 @@ ends_over_strays told d line s fails said new h =
     h.left.strayed ∙ site_strays (IsKnown told (note_at (d.world.nodes s))) d line (site_of d.world line) h.ending h.inner h.middle h.ends
 
 -- one on the group alone
+under_strays : (told : Type 0) (d : Doubted) (line : ScriptLine) (s : ℕ) (fails : Fails) (said : Said) (new : Doubted) → EndsBelow told d line s fails said new → StraysAs d new
+under_strays told d line s fails said new (AsGroup ends) = group_strays told d line s fails said new ends
+under_strays told d line s fails said new (CutBelow kept next are fused cuts says left) = left.strayed ∙ run_strays false d (CrashAt s kept ∷ [])
+
 below_strays : (told : Type 0) (d : Doubted) (line : ScriptLine) (s : ℕ) (fails : Fails) (said : Said) (new : Doubted) → BelowEnds told d line s fails said new → StraysAs d new
-below_strays told d line s fails said new h = h.left.strayed ∙ group_strays told (missed_world h.missed d s) line s fails said h.middle h.ends
+below_strays told d line s fails said new h = h.left.strayed ∙ under_strays told (missed_world h.missed d s) line s fails said h.middle h.ends
 
 -- ---- any line
 

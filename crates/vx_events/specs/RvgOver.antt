@@ -1,13 +1,14 @@
 -- How a line that is not open ends at a site over a group of disks with a replicated volume group: as at a raw set, but that disks may fail which a mirror
 -- bears, and that the site notes what the line made of its group. One that reads a volume of the group which is no data volume reads that alone; and a deport ends as
 -- that of a group without a replicated volume group.
-use Rattle.std.specs.Prelude.{◌≡◌, ◌⊎◌, ℕ, ◌<◌, ◌||◌, Bool, true, false, List, ◌++◌, Option, Some, None, slice_get, unwrap_or, Contains}
-use Rattle.vx_model.specs.declared.no.No.TheVariants.{Device}
+use Rattle.std.specs.Prelude.{◌≡◌, ◌⊎◌, ℕ, ◌<◌, ◌||◌, Bool, true, false, List, [], ◌∷◌, ◌++◌, Option, Some, None, slice_get, unwrap_or, Contains}
+use Rattle.vx_model.specs.declared.no.No.TheVariants.{Device, Down as IsOff}
 use Rattle.vx_history.specs.Doubts.{Doubted}
 use Rattle.vx_history.specs.Groups.{GroupNode, MissedNote}
 use Rattle.vx_history.specs.Missing.{with_maps}
-use Rattle.vx_history.specs.Stops.{IsOpen}
+use Rattle.vx_history.specs.Stops.{IsFused, IsOpen}
 use Rattle.vx_history.specs.Steps.{burned, worked_on}
+use Rattle.vx_history.specs.declared.event.Event.TheVariants.{Crash as CrashAt}
 use Rattle.vx_history.specs.World.{Fuse, FuseLit, FuseSet, NoFuse, Node, World, with_node}
 use Rattle.vx_order.specs.Calls.{is_data}
 use Rattle.vx_order.specs.declared.facts.VolumeFacts.{VolumeFacts}
@@ -15,11 +16,11 @@ use Rattle.vx_order.specs.declared.facts.VolumeKind.{VolumeKind}
 use Rattle.vx_order.specs.declared.facts.VolumeKind.TheVariants.{Data, Srl, Map, Plain}
 use Rattle.vx_script.specs.declared.line.ScriptLine.{ScriptLine}
 use Rattle.vx_script.specs.declared.line.ScriptLine.TheVariants.{Apply, Disk, Fuse as FuseLine, GroupDeport, PlexAttach, PlexDetach, Put, Read, Recover, Show, Status, Volume, Write, GroupImport}
-use Rattle.vx_events.specs.Doubts.{IsAs}
+use Rattle.vx_events.specs.Doubts.{IsAs, run_as}
 use Rattle.vx_events.specs.Ends.{Ends, place_of as site_of}
 use Rattle.vx_events.specs.Facts.{place_of, site_number}
 use Rattle.vx_events.specs.Fails.{Fails}
-use Rattle.vx_events.specs.GroupEnds.{AreOf, GroupEnds, VolumeOut}
+use Rattle.vx_events.specs.GroupEnds.{AreOf, GroupCuts, GroupEnds, IsLeftOver, VolumeOut}
 use Rattle.vx_events.specs.GroupLines.{noting, plain_number}
 use Rattle.vx_events.specs.GroupNotes.{IsKnown, note_at}
 use Rattle.vx_events.specs.GroupReplies.{GivesPlain}
@@ -132,12 +133,18 @@ note_loosened loosens note = record note { loose = loosens || note.loose }
 abbrev pub loosened_at : Bool → World → ℕ → World
 loosened_at loosens v s = noting v s (note_loosened loosens (note_at (v.nodes s)))
 
--- It ends as one at a group without a replicated volume group. What plexes missed as it begins, and the serial, are not noted where calls of a replicated volume group
+-- It ends as one at a group without a replicated volume group; or its fuse ran out, and the crash kept so many writes of the site, which may be halted.
+pub data EndsBelow (told : Type 0) (d : Doubted) (line : ScriptLine) (s : ℕ) (fails : Fails) (said : Said) (new : Doubted) : Type 0 where
+  AsGroup : GroupEnds told d line s fails said new → EndsBelow told d line s fails said new
+  CutBelow : (kept : ℕ) (next : GroupNode) → AreOf s fails → IsFused (d.world.nodes s).fuse → GroupCuts s (note_at (d.world.nodes s)) line fails next → said ≡ Refused IsOff
+      → IsLeftOver s line next (run_as false d (CrashAt s kept ∷ [])) new → EndsBelow told d line s fails said new
+
+-- What plexes missed as it begins, and the serial, are not noted where calls of a replicated volume group
 -- change them: it may be anything. Where a call on a disk failed, or the fuse ran out, imports of the group may disagree behind it.
 pub record BelowEnds (told : Type 0) (d : Doubted) (line : ScriptLine) (s : ℕ) (fails : Fails) (said : Said) (new : Doubted) : Type 0 where
   pub missed : MissedNote
   pub middle : Doubted
-  pub ends : GroupEnds told (missed_world missed d s) line s fails said middle
+  pub ends : EndsBelow told (missed_world missed d s) line s fails said middle
   pub loosens : Bool
   pub why : loosens ≡ true → NoneFailed s fails → (FuseRanOut (d.world.nodes s) said → ⊥) → ⊥
   pub left : IsAs middle (loosened_at loosens middle.world s) new

@@ -146,7 +146,6 @@ module _ {R : Type 0} {g : Ghosts R} where
       call = record {
         at = start.at;
         up = start.up;
-        running = start.running;
         changed = changed;
         failing = failing;
         since = since;
@@ -158,7 +157,7 @@ module _ {R : Type 0} {g : Ghosts R} where
         done = λ k. record { world = refl; after = λ i. refl; strayed = refl };
         broke = λ k. record { world = refl; after = λ i. refl; strayed = refl };
         lacks = λ k. record { world = refl; after = λ i. refl; strayed = refl };
-        off = λ k. record { world = refl; after = λ i. refl; strayed = refl };
+        off = λ count k. record { world = refl; after = λ i. refl; strayed = refl };
       };
       maps = start.maps;
     }

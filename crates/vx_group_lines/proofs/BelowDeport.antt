@@ -1,6 +1,6 @@
 -- The line that deports the group below a replicated volume group: to that one it is a crash which keeps what is safe.
 use Rattle.std.proofs.Common.{◌≡◌, ◌∙◌, ◌⊎◌, ◌+◌, ◌≤◌, ℕ, Bool, false, [], List, length, ap, sym, subst, refl, arith, inl, inr}
-use Rattle.std.specs.Prelude.{slice_set, Result, Ok, Err}
+use Rattle.std.specs.Prelude.{None, slice_set, Result, Ok, Err}
 use Rattle.vx_model.specs.declared.errors.OutOfMemory.{OutOfMemory}
 use Rattle.vx_model.specs.declared.errors.Stop.{Stop}
 use Rattle.vx_model.specs.declared.errors.Stop.TheVariants.{No as StopsBy, OutOfMemory as MemoryStop}
@@ -36,13 +36,13 @@ use Rattle.vx_diskset.specs.declared.over_set.OverSet.{OverSet}
 use Rattle.vx_events.proofs.RvgStays.{same_config, then_same}
 use Rattle.vx_events.specs.Fails.{Fails}
 use Rattle.vx_events.specs.GroupConfigs.{ConfigLoses, ConfigRests, opened_again}
-use Rattle.vx_events.specs.GroupEnds.{AreOf, GroupCut, GroupDone, GroupFails, GroupLacks, GroupWants}
+use Rattle.vx_events.specs.GroupEnds.{AreOf, GroupDone, GroupFails, GroupLacks, GroupWants}
 use Rattle.vx_events.specs.GroupMaps.{MapsCalled, MapsLost}
 use Rattle.vx_events.specs.GroupNotes.{note_at, Reconfigures}
 use Rattle.vx_events.specs.GroupViews.{noted_table}
 use Rattle.vx_events.specs.LinkedFacts.{linked_fact}
 use Rattle.vx_events.specs.RvgFits.{rvg_noted}
-use Rattle.vx_events.specs.RvgOver.{note_loosened}
+use Rattle.vx_events.specs.RvgOver.{AsGroup, CutBelow, note_loosened}
 use Rattle.vx_events.specs.RvgViews.{over_table}
 use Rattle.vx_events.specs.declared.said.Said.{Said}
 use Rattle.vx_events.specs.declared.said.Said.TheVariants.{Done, Refused}
@@ -79,7 +79,7 @@ deport_is d s name = record {
   done = λ k. tt;
   broke = λ k. record { world = refl; after = λ i. refl; strayed = refl };
   lacks = λ k. record { world = refl; after = λ i. refl; strayed = refl };
-  off = λ k. record { world = refl; after = λ i. refl; strayed = refl };
+  off = λ count k. record { world = refl; after = λ i. refl; strayed = refl };
 }
 
 -- ---- why it was refused
@@ -153,7 +153,7 @@ module _ {R : Type 0} {g : Ghosts R} where
 -- ---- the line
 
 module _ {R : Type 0} {g : Ghosts R} (d : Doubted) (old new : Yard R g) (name : List ℕ) (s : ℕ) (before after : DiskSet R g) (p : OverSet R g) (stands : StandsFor d old) (call : BelowCalled d old new name s before after p)
-    (none : (note_at (d.world.nodes s)).maps ≡ none_noted) (asks : UpNoted (below_rvg (d.world.nodes s)) (note_at (d.world.nodes s)) (site_in call.at.set)) where
+    (running : (d.world.nodes s).halted ≡ None) (none : (note_at (d.world.nodes s)).maps ≡ none_noted) (asks : UpNoted (below_rvg (d.world.nodes s)) (note_at (d.world.nodes s)) (site_in call.at.set)) where
   abbrev n : Node
   n = d.world.nodes s
 
@@ -200,7 +200,7 @@ module _ {R : Type 0} {g : Ghosts R} (d : Doubted) (old new : Yard R g) (name : 
       let shows : noted_table next ≡ noted_table note = cleans_table s many fails o e note next named goes.was goes.now goes.noted goes.noted_now goes.change in
       let seen_table : over_table (with_note k n) k ≡ over_table n note = table_like n (with_note k n) note k refl rvg shows in
       let follows : Follows d (world_gone d s k) old new
-      = below_gone d old new name s before after p stands call k (away_with_maps none_noted (deported_with next (below_rvg n)) next (site_in p) went)
+      = below_gone d old new name s before after p stands call running k (away_with_maps none_noted (deported_with next (below_rvg n)) next (site_in p) went)
       (record {
         keeps = then_same note next k (seen_keeps note next goes.was goes.now goes.noted goes.noted_now shows rvg) refl;
         tidy = tight_then note next call.at.noted.3.tidy on.1;
@@ -212,14 +212,14 @@ module _ {R : Type 0} {g : Ghosts R} (d : Doubted) (old new : Yard R g) (name : 
         next = world_gone d s k;
         middle = world_gone d s k;
         fails = fails;
-        ends = GroupDone k (are many) (
+        ends = AsGroup (GroupDone k (are many) (
           with_goes (Reconfigures (λ c x. ConfigRests s fails (opened_again c) (opened_again x)) NoteSettles) (MapsCalled s fails) note next goes.was goes.now none_noted goes.noted goes.noted_now
               (reconfigures s many fails o e note next named (λ c x. ConfigRests s fails (opened_again c) (opened_again x)) (λ a b. NoteSettles a b) goes.was goes.now goes.noted goes.noted_now
               (cleans_to s many fails o e note next named goes.was goes.now (omega arith) goes.change (omega arith)) on.1)
               (none_called s fails (at_serial 0 goes.was) (at_serial 0 goes.now) note.maps none),
           refl,
         )
-            (record { world = refl; after = λ i. refl; strayed = refl });
+            (record { world = refl; after = λ i. refl; strayed = refl }));
         loosens = false;
         why = λ on never off. never_on refl on;
         left = record { world = sym (loosened_world false (happened d (DeportAt s) false).world s k); after = λ i. refl; strayed = refl };
@@ -279,11 +279,11 @@ module _ {R : Type 0} {g : Ghosts R} (d : Doubted) (old new : Yard R g) (name : 
           off_loosened d (GroupDeport name) old new name s before after p stands call b.loosens k b.tidy (then_same note next k (seen_keeps note next goes.was goes.now goes.noted goes.noted_now shows rvg) refl) b.keeps.same.cut
               b.keeps.same.inside shows rvg (Refused IsOff) fails (down_with_maps none_noted (crashed (with_note left (below_rvg n)) 0) left (site_in p) b.noted) (λ units named. it.named units _ (crashed (with_note left (below_rvg n)) 0) left b.noted)
               (r.facts ∙ ap (λ (fs : List SiteFacts). slice_set fs s (below_facts IsOff f)) half.facts) (lets_on old mid new s half r.same r.assemblies)
-              (GroupCut k (are many) b.fused
+              (λ count. CutBelow count k (are many) b.fused
               (with_goes (Reconfigures (λ c x. ConfigLoses s fails c x) (NoteUnsettles false)) MapsLost note next goes.was goes.now none_noted goes.noted goes.noted_now
               (reconfigures s many fails o e note next named (λ c x. ConfigLoses s fails c x) (λ a b. NoteUnsettles false a b) goes.was goes.now goes.noted goes.noted_now
               (moves_to s many fails o e note next named none_again goes.was goes.now (omega arith) goes.change) b.keeps)
-              (none_lost (at_serial 0 goes.was) (at_serial 0 goes.now) note.maps)) refl ((deport_is d s name).off k))
+              (none_lost (at_serial 0 goes.was) (at_serial 0 goes.now) note.maps)) refl ((deport_is d s name).off count k))
               (λ on never off. off (b.fused, refl)) (rose many),
         )
 

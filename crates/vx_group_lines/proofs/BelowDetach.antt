@@ -141,7 +141,6 @@ module _ {R : Type 0} {g : Ghosts R} where
       call = record {
         at = start.at;
         up = start.up;
-        running = start.running;
         changed = changed;
         failing = failing;
         since = since;
@@ -153,7 +152,7 @@ module _ {R : Type 0} {g : Ghosts R} where
         done = λ k. record { world = refl; after = λ i. refl; strayed = refl };
         broke = λ k. record { world = refl; after = λ i. refl; strayed = refl };
         lacks = λ k. record { world = refl; after = λ i. refl; strayed = refl };
-        off = λ k. record { world = refl; after = λ i. refl; strayed = refl };
+        off = λ count k. record { world = refl; after = λ i. refl; strayed = refl };
       };
       maps = start.maps;
     }

@@ -1,5 +1,5 @@
 -- What lines lead to that called the group, below a replicated volume group, of a site that is up and runs: done, or refused.
-use Rattle.std.proofs.Common.{◌≡◌, ◌∙◌, ◌⊎◌, ◌≤◌, ◌+◌, ◌++◌, ℕ, Bool, true, false, List, [], length, map, ap, sym, subst, refl, arith, inl, inr}
+use Rattle.std.proofs.Common.{◌≡◌, ◌∙◌, ◌⊎◌, ◌≤◌, ◌+◌, ◌++◌, ℕ, Bool, true, false, List, [], ◌∷◌, length, map, ap, sym, subst, refl, arith, inl, inr}
 use Rattle.std.proofs.lemmas.Option.{slice_get-map}
 use Rattle.std.specs.Prelude.{◌&&◌, ◌||◌, eqb, not, if◌then◌else◌, Option, Some, None, option_map, slice_get, slice_set, Result, Ok, Err}
 use Rattle.vx_model.specs.declared.errors.OutOfMemory.{OutOfMemory}
@@ -43,14 +43,14 @@ use Rattle.vx_events.proofs.RvgMissed.{missed_node}
 use Rattle.vx_events.proofs.RvgStays.{same_config, then_same}
 use Rattle.vx_events.specs.Doubts.{IsAs, run_as}
 use Rattle.vx_events.specs.Fails.{Fails}
-use Rattle.vx_events.specs.GroupEnds.{AreOf, GroupCut, GroupCuts, GroupDoes, GroupDone, GroupEnds, GroupFails, GroupLacks, GroupSpoils, GroupWants, IsLeftOver}
-use Rattle.vx_events.specs.GroupLines.{cut_events, group_events, noting, refused_events}
+use Rattle.vx_events.specs.GroupEnds.{AreOf, GroupCuts, GroupDoes, GroupDone, GroupEnds, GroupFails, GroupLacks, GroupSpoils, GroupWants, IsLeftOver}
+use Rattle.vx_events.specs.GroupLines.{group_events, noting, refused_events}
 use Rattle.vx_events.specs.GroupMaps.{MapsLost}
 use Rattle.vx_events.specs.GroupNotes.{note_at}
 use Rattle.vx_events.specs.GroupViews.{noted_table, plain_fact, volumes_of}
 use Rattle.vx_events.specs.LinkedFacts.{linked_fact}
 use Rattle.vx_events.specs.RvgFits.{KeptVolume, NoteKeepsRvg, config_rvg, entries_noted, rvg_noted}
-use Rattle.vx_events.specs.RvgOver.{BelowEnds, OverRvg, loosened_at, missed_world, note_loosened}
+use Rattle.vx_events.specs.RvgOver.{AsGroup, BelowEnds, CutBelow, EndsBelow, OverRvg, loosened_at, missed_world, note_loosened}
 use Rattle.vx_events.specs.RvgSteps.{rvg_place}
 use Rattle.vx_events.specs.RvgViews.{over_table}
 use Rattle.vx_events.specs.RvgWorks.{FuseRanOut, NoneFailed}
@@ -74,10 +74,10 @@ use Rattle.vx_above.proofs.OverSeen.{seen_like}
 use Rattle.vx_above.proofs.OverSites.{note_is, over_again}
 use Rattle.vx_above.proofs.SiteCalls.{calls, names_below, rose_below}
 use Rattle.vx_above.proofs.Tables.{table_like}
-use Rattle.vx_group_lines.proofs.BelowOff.{below_fell}
+use Rattle.vx_group_lines.proofs.BelowOff.{FollowsOff, below_fell, world_kept}
 use Rattle.vx_group_lines.proofs.BelowUp.{BelowCalled, NotesBelow, below_follows}
 use Rattle.vx_group_lines.proofs.GroupDone.{Turns, burned_noted}
-use Rattle.vx_group_lines.proofs.GroupEnding.{IsQuiet, LeftDone, Means, Midway, SameTable, lets_on, load_on, world_off, world_up}
+use Rattle.vx_group_lines.proofs.GroupEnding.{IsQuiet, LeftDone, Means, Midway, SameTable, lets_on, load_on, world_up}
 use Rattle.vx_group_lines.proofs.GroupLeads.{Follows}
 use Rattle.vx_group_lines.proofs.MapGoing.{Goes, MapsOn, goes_up}
 use Rattle.vx_group_lines.proofs.MapLines.{logs_bound}
@@ -179,7 +179,7 @@ pub record IsBelowLine (d : Doubted) (s : ℕ) (line : ScriptLine) : Type 0 wher
   pub done : (k : GroupNode) → LeftDone d s line k
   pub broke : (k : GroupNode) → IsLeftOver s line k (run_as false d (refused_events (d.world.nodes s) s line)) (world_up d s k)
   pub lacks : (k : GroupNode) → IsLeftOver s line k d (world_up d s k)
-  pub off : (k : GroupNode) → IsLeftOver s line k (run_as false d (cut_events s line)) (world_off d s k)
+  pub off : (count : ℕ) (k : GroupNode) → IsLeftOver s line k (run_as false d (CrashAt s count ∷ [])) (world_kept d s count k)
 
 module _ {R : Type 0} {g : Ghosts R} where
   -- what the line leads a yard to, by the regions that are noted as missed as it begins
@@ -187,7 +187,7 @@ module _ {R : Type 0} {g : Ghosts R} where
     pub next : Doubted
     pub middle : Doubted
     pub fails : Fails
-    pub ends : GroupEnds (IsTold new) d line s fails said middle
+    pub ends : EndsBelow (IsTold new) d line s fails said middle
     pub loosens : Bool
     pub why : loosens ≡ true → NoneFailed s fails → (FuseRanOut (d.world.nodes s) said → ⊥) → ⊥
     pub left : IsAs middle (loosened_at loosens middle.world s) next
@@ -335,7 +335,7 @@ module _ {R : Type 0} {g : Ghosts R} where
             next = world_up d s (note_tidied k);
             middle = world_up d s k;
             fails = fails;
-            ends = ends;
+            ends = AsGroup ends;
             loosens = loosens_of k;
             why = why;
             left = tidied_as d s k;
@@ -346,20 +346,20 @@ module _ {R : Type 0} {g : Ghosts R} where
 
       -- its fuse ran out
       off_below : (said : Said) (fails : Fails) → DownNoted (crashed (with_note (note_tidied k) (below_rvg (d.world.nodes s))) 0) (note_tidied k) (site_in p) → ((units : Units) → rvg_noted k ≡ Some units → RestsNamed units (length (entries_noted k)) (site_in p))
-          → new.facts.items ≡ slice_set old.facts.items s (down_fact (linked_fact d.world s)) → LetsGo old new s → GroupEnds (IsTold new) d line s fails said (world_off d s k)
+          → new.facts.items ≡ slice_set old.facts.items s (down_fact (linked_fact d.world s)) → LetsGo old new s → ((count : ℕ) → EndsBelow (IsTold new) d line s fails said (world_kept d s count k))
           → (loosens_of k ≡ true → NoneFailed s fails → (FuseRanOut (d.world.nodes s) said → ⊥) → ⊥) → RoseAll fails (count_of old) (count_of new) → LeadsBelow d line s said old new
       off_below said fails noted rests facts lets ends why rises =
-          let follows : Follows d (world_off d s (note_tidied k)) old new = below_fell d old new name s before after p stands it.call tidied noted notes rests over facts lets in
+          let fell : FollowsOff d s (note_tidied k) old new = below_fell d old new name s before after p stands it.call tidied noted notes rests over facts lets in
           record {
-            next = world_off d s (note_tidied k);
-            middle = world_off d s k;
+            next = world_kept d s fell.count (note_tidied k);
+            middle = world_kept d s fell.count k;
             fails = fails;
-            ends = ends;
+            ends = ends fell.count;
             loosens = loosens_of k;
             why = why;
-            left = tidied_as (happened d (CrashAt s 0) false) s k;
-            stands = follows.stands;
-            carries = follows.carries;
+            left = tidied_as (happened d (CrashAt s fell.count) false) s k;
+            stands = fell.follows.stands;
+            carries = fell.follows.carries;
             rose = rises;
           }
 
@@ -429,8 +429,8 @@ module _ {R : Type 0} {g : Ghosts R} where
             off_below k (then_same note next k (seen_keeps note next b.goes.was b.goes.now b.goes.noted b.goes.noted_now shows rvg) refl) b.keeps.same.cut b.keeps.same.inside shows rvg (Refused IsOff) (calls s old new many)
                 (down_with_maps no_maps (crashed (with_note (note_tidied next) (below_rvg n)) 0) (note_tidied next) (site_in p) b.noted) b.rests
                 (r.facts ∙ ap (λ (fs : List SiteFacts). slice_set fs s (below_facts IsOff f)) half.facts) (lets_on old mid new s half r.same r.assemblies)
-                (GroupCut k (are many) b.fused
-                (cuts.ends many (calls s old new many) o e next b.goes.was b.goes.now named b.goes.noted b.goes.noted_now (omega arith) (omega arith) b.goes.change b.keeps no_maps (record { none = λ v. refl })) refl (it.is_line.off k))
+                (λ count. CutBelow count k (are many) b.fused
+                (cuts.ends many (calls s old new many) o e next b.goes.was b.goes.now named b.goes.noted b.goes.noted_now (omega arith) (omega arith) b.goes.change b.keeps no_maps (record { none = λ v. refl })) refl (it.is_line.off count k))
                 (λ on none never. never (b.fused, refl)) (rose many),
           )
 
@@ -449,7 +449,7 @@ module _ {R : Type 0} {g : Ghosts R} where
               next = world_up d s note;
               middle = world_up d s note;
               fails = [];
-              ends = GroupLacks why (wants w.lacks) refl refl (it.is_line.lacks note);
+              ends = AsGroup (GroupLacks why (wants w.lacks) refl refl (it.is_line.lacks note));
               loosens = false;
               why = λ on none never. never_on refl on;
               left = record { world = sym (loosened_world false d.world s note); after = λ i. refl; strayed = refl };

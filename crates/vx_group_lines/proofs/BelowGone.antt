@@ -123,7 +123,7 @@ module _ {R : Type 0} {g : Ghosts R} where
   gone_role n c k NoGroup away = absurd away
 
   module _ (d : Doubted) (old new : Yard R g) (name : List ℕ) (s : ℕ) (before after : DiskSet R g) (p : OverSet R g) (stands : StandsFor d old) (call : BelowCalled d old new name s before after p)
-      (k : GroupNode) (noted : AwayNoted (deported_with k (below_rvg (d.world.nodes s))) k (site_in p)) (notes : NotesBelow (note_at (d.world.nodes s)) k)
+      (running : (d.world.nodes s).halted ≡ None) (k : GroupNode) (noted : AwayNoted (deported_with k (below_rvg (d.world.nodes s))) k (site_in p)) (notes : NotesBelow (note_at (d.world.nodes s)) k)
       (rests : (units : Units) → rvg_noted k ≡ Some units → RestsNamed units (length (entries_noted k)) (site_in p))
       (away : (beside : KeptBeside) (n : Node) (idle : Idle R g) → SiteStands beside n (Over call.at.set) → n.state ≡ IsUp → n.halted ≡ None → site_in p ≡ SiteAway idle → SiteStands beside (given_up n) (Over p))
       (table : over_table (with_note k (d.world.nodes s)) k ≡ over_table (d.world.nodes s) (note_at (d.world.nodes s))) where
@@ -157,7 +157,7 @@ module _ {R : Type 0} {g : Ghosts R} where
 
     -- as the disks have it
     gave_up : SiteStands (beside_of d s) (given_up n) (Over p)
-    gave_up = let there = away_idle c k (site_in p) noted in away (beside_of d s) n there.0 call.at.stands call.up call.running there.1
+    gave_up = let there = away_idle c k (site_in p) noted in away (beside_of d s) n there.0 call.at.stands call.up running there.1
 
     most : n.safe ≤ length n.log
     most =
@@ -173,7 +173,7 @@ module _ {R : Type 0} {g : Ghosts R} where
     -- ---- the deport, and then the note
 
     dropped : EffectAt s d h (deported_site n.fuse (crashed n (kept_of n 0))) (λ j. lost_touch (d.world.links s j)) (d.world.headers s) (d.after s) d.world.packets None
-    dropped = deport_effect d s false (stands.links.rows s) call.at.seat.below call.up call.running
+    dropped = deport_effect d s false (stands.links.rows s) call.at.seat.below call.up running
 
     effect : EffectAt s h last (with_note k (h.world.nodes s)) (h.world.links s) (h.world.headers s) (h.after s) h.world.packets (h.world.gathering s)
     effect = worked_effect s h begun first (h.world.links s) (h.world.headers s) (h.after s) h.world.packets (h.world.gathering s) (note_effect h s first)
@@ -193,7 +193,7 @@ module _ {R : Type 0} {g : Ghosts R} where
     links_now j = effect.is.links j ∙ dropped.is.links j
 
     sure : d.after s ≡ None
-    sure = no_after d.world s (d.after s) (running_sure (beside_of d s) n (Over o) call.at.stands call.up call.running)
+    sure = no_after d.world s (d.after s) (running_sure (beside_of d s) n (Over o) call.at.stands call.up running)
 
     sure_now : last.after s ≡ None
     sure_now = effect.is.after ∙ dropped.is.after ∙ sure

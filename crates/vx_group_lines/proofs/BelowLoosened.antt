@@ -23,7 +23,7 @@ use Rattle.vx_events.specs.GroupNotes.{note_at}
 use Rattle.vx_events.specs.GroupViews.{noted_table}
 use Rattle.vx_events.specs.LinkedFacts.{linked_fact}
 use Rattle.vx_events.specs.RvgFits.{NoteKeepsRvg, entries_noted, rvg_noted}
-use Rattle.vx_events.specs.RvgOver.{loosened_at, note_loosened}
+use Rattle.vx_events.specs.RvgOver.{AsGroup, EndsBelow, loosened_at, note_loosened}
 use Rattle.vx_events.specs.RvgViews.{over_table}
 use Rattle.vx_events.specs.RvgWorks.{FuseRanOut, NoneFailed}
 use Rattle.vx_events.specs.declared.said.Said.{Said}
@@ -37,9 +37,9 @@ use Rattle.vx_above.proofs.OverSeen.{seen_like}
 use Rattle.vx_above.proofs.OverSites.{over_again}
 use Rattle.vx_above.proofs.Tables.{table_like}
 use Rattle.vx_group_lines.proofs.BelowDone.{LeadsBelow, loosened_world}
-use Rattle.vx_group_lines.proofs.BelowOff.{below_fell}
+use Rattle.vx_group_lines.proofs.BelowOff.{FollowsOff, below_fell, world_kept}
 use Rattle.vx_group_lines.proofs.BelowUp.{BelowCalled, NotesBelow, below_follows}
-use Rattle.vx_group_lines.proofs.GroupEnding.{world_off, world_up}
+use Rattle.vx_group_lines.proofs.GroupEnding.{world_up}
 use Rattle.vx_group_lines.proofs.GroupLeads.{Follows}
 
 pub loosened_as : (loosens : Bool) (d : Doubted) (s : ℕ) (k : GroupNode) → IsAs (world_up d s k) (loosened_at loosens (world_up d s k).world s) (world_up d s (note_loosened loosens k))
@@ -76,7 +76,7 @@ module _ {R : Type 0} {g : Ghosts R} (d : Doubted) (line : ScriptLine) (old new 
         next = world_up d s left;
         middle = world_up d s k;
         fails = fails;
-        ends = ends;
+        ends = AsGroup ends;
         loosens = loosens;
         why = why;
         left = loosened_as loosens d s k;
@@ -88,18 +88,18 @@ module _ {R : Type 0} {g : Ghosts R} (d : Doubted) (line : ScriptLine) (old new 
   -- its fuse ran out
   pub off_loosened : (said : Said) (fails : Fails) → DownNoted (crashed (with_note (note_loosened loosens k) (below_rvg (d.world.nodes s))) 0) (note_loosened loosens k) (site_in p)
       → ((units : Units) → rvg_noted k ≡ Some units → RestsNamed units (length (entries_noted k)) (site_in p)) → new.facts.items ≡ slice_set old.facts.items s (down_fact (linked_fact d.world s)) → LetsGo old new s
-      → GroupEnds (IsTold new) d line s fails said (world_off d s k) → (loosens ≡ true → NoneFailed s fails → (FuseRanOut (d.world.nodes s) said → ⊥) → ⊥) → RoseAll fails (count_of old) (count_of new) → LeadsBelow d line s said old new
+      → ((count : ℕ) → EndsBelow (IsTold new) d line s fails said (world_kept d s count k)) → (loosens ≡ true → NoneFailed s fails → (FuseRanOut (d.world.nodes s) said → ⊥) → ⊥) → RoseAll fails (count_of old) (count_of new) → LeadsBelow d line s said old new
   off_loosened said fails noted rests facts lets ends why rises =
-      let follows : Follows d (world_off d s left) old new = below_fell d old new name s before after p stands call left noted notes rests over facts lets in
+      let fell : FollowsOff d s left old new = below_fell d old new name s before after p stands call left noted notes rests over facts lets in
       record {
-        next = world_off d s left;
-        middle = world_off d s k;
+        next = world_kept d s fell.count left;
+        middle = world_kept d s fell.count k;
         fails = fails;
-        ends = ends;
+        ends = ends fell.count;
         loosens = loosens;
         why = why;
-        left = loosened_as loosens (happened d (CrashAt s 0) false) s k;
-        stands = follows.stands;
-        carries = follows.carries;
+        left = loosened_as loosens (happened d (CrashAt s fell.count) false) s k;
+        stands = fell.follows.stands;
+        carries = fell.follows.carries;
         rose = rises;
       }

@@ -34,13 +34,11 @@ use Rattle.vx_diskset.specs.Noted.{below_rvg}
 use Rattle.vx_diskset.specs.OverPlains.{OnOver}
 use Rattle.vx_diskset.specs.OverVolumes.{VolsBelow}
 use Rattle.vx_diskset.specs.declared.disk_set.DiskSet.{DiskSet}
-use Rattle.vx_events.proofs.Opens.{closed_runs}
 use Rattle.vx_events.proofs.Places.{some_same}
-use Rattle.vx_events.specs.Facts.{seat_of, site_number}
+use Rattle.vx_events.specs.Facts.{seat_of}
 use Rattle.vx_events.specs.GroupLines.{shape_of}
 use Rattle.vx_events.specs.GroupNotes.{note_at}
 use Rattle.vx_events.specs.LinkedFacts.{linked_fact}
-use Rattle.vx_events.specs.OpenLines.{is_open}
 use Rattle.vx_events.specs.RvgOver.{missed_world}
 use Rattle.vx_events.specs.RvgSteps.{over_rvg_at}
 use Rattle.vx_events.specs.RvgViews.{kinds_by, table_at}
@@ -69,13 +67,13 @@ use Rattle.vx_group_lines.proofs.VolumePlaces.{count_shown, unnamed_shown}
 use Rattle.vx_group_lines.specs.Noting.{HasConfig, KeepsRest, reply_noted}
 
 module _ {R : Type 0} {g : Ghosts R} (d : Doubted) (old mid : Yard R g) (name volume : List ℕ) (blocks mirrors : ℕ) (layout : Layout) (log : VolumeLog) (map_of : VolumeMap) (policy : ReadPolicy) (want : Shape) (is_want : want ≡ shape_of blocks mirrors layout log map_of policy)
-    (s : ℕ) (before after : DiskSet R g) (stands : StandsFor d old) (seat : seat_of old.facts.items name ≡ Some s) (over : over_rvg_at d.world name ≡ true) (closed : is_open d.world (Volume name volume blocks mirrors layout log map_of policy) ≡ false)
+    (s : ℕ) (before after : DiskSet R g) (stands : StandsFor d old) (seat : seat_of old.facts.items name ≡ Some s) (over : over_rvg_at d.world name ≡ true)
     (free : IsFree old (Volume name volume blocks mirrors layout log map_of policy)) (changed : Changed old mid s before after) (failing : SameFailing before after) (since : CalledOn before after) (half : Midway old mid) where
   may : VolumeMay old.facts.items name volume blocks mirrors layout policy
   may = volume_may old.facts.items (in_files old) name volume blocks mirrors layout log map_of policy free
 
   start : BelowStart d old name s before
-  start = below_start d old name s before stands seat over (closed_runs (d.world.nodes (site_number d.world name)) over closed) may.may changed.there
+  start = below_start d old name s before stands seat over may.may changed.there
 
   abbrev e : Doubted
   e = missed_world start.missed d s
@@ -117,7 +115,6 @@ module _ {R : Type 0} {g : Ghosts R} (d : Doubted) (old mid : Yard R g) (name vo
     call = record {
       at = start.at;
       up = start.up;
-      running = start.running;
       changed = changed_on new rest;
       failing = failing;
       since = since;
@@ -129,7 +126,7 @@ module _ {R : Type 0} {g : Ghosts R} (d : Doubted) (old mid : Yard R g) (name vo
       done = λ k. record { world = refl; after = λ i. refl; strayed = refl };
       broke = λ k. record { world = refl; after = λ i. refl; strayed = refl };
       lacks = λ k. record { world = refl; after = λ i. refl; strayed = refl };
-      off = λ k. record { world = refl; after = λ i. refl; strayed = refl };
+      off = λ count k. record { world = refl; after = λ i. refl; strayed = refl };
     };
     maps = start.maps;
   }

@@ -1,19 +1,15 @@
--- What calls on the group below a replicated volume group lead the yard of a site to whose fuse ran out in them: it crashed, and keeps all its writes.
-use Rattle.std.proofs.Common.{◌≡◌, ◌∙◌, ◌⊎◌, inl, inr, ℕ, ◌<◌, ◌≤◌, Bool, true, false, List, length, map, ap, sym, subst, refl, arith}
+-- What calls on the group below a replicated volume group lead the yard of a site to whose fuse ran out in them: it crashed, and kept some of its writes.
+use Rattle.std.proofs.Common.{◌≡◌, ◌∙◌, ◌⊎◌, inl, inr, ℕ, ◌≤◌, Bool, true, false, List, length, map, ap, sym, subst, refl, arith}
 use Rattle.std.specs.Prelude.{Some, None, if◌then◌else◌, slice_set}
 use Rattle.vx_model.specs.Content.{Write}
-use Rattle.vx_model.specs.Sites.{is_origin}
-use Rattle.vx_model.specs.declared.site.SiteState.TheVariants.{Up as IsUp, Down as IsDown}
+use Rattle.vx_model.specs.declared.site.SiteState.TheVariants.{Down as IsDown}
 use Rattle.vx_model.specs.declared.units.Units.{Units}
 use Rattle.vx_disk.specs.declared.shelf.Shelf.{Ghosts}
 use Rattle.vx_effects.proofs.Leaving.{fit_note, fit_worked}
 use Rattle.vx_effects.proofs.Rises.{note_effect}
 use Rattle.vx_effects.specs.Facts.{down_fact}
-use Rattle.vx_history.specs.Doubts.{Doubted, happened, resolved_at}
-use Rattle.vx_history.specs.Events.{crash_at, kept_of}
+use Rattle.vx_history.specs.Doubts.{Doubted, happened}
 use Rattle.vx_history.specs.Groups.{GroupNode}
-use Rattle.vx_history.specs.Refusals.{Outcome}
-use Rattle.vx_history.specs.Step.{done, headers_counted}
 use Rattle.vx_history.specs.Steps.{burned, crashed}
 use Rattle.vx_history.specs.World.{Fuse, Node, NoFuse}
 use Rattle.vx_history.specs.declared.event.Event.TheVariants.{Crash as CrashAt}
@@ -32,15 +28,12 @@ use Rattle.vx_diskset.specs.Holds.{KeptBeside, KeptSite, beside_of, itself, sure
 use Rattle.vx_diskset.specs.Layouts.{units_of}
 use Rattle.vx_diskset.specs.Noted.{NotedOn, NotedOver, RestsNamed, SiteNoted, below_rvg}
 use Rattle.vx_diskset.specs.OverKeeps.{KeptBy, StaysHere}
-use Rattle.vx_diskset.specs.Stands.{OverStands, SiteStands}
+use Rattle.vx_diskset.specs.Stands.{SiteStands}
 use Rattle.vx_diskset.specs.declared.disk_set.DiskSet.{DiskSet}
 use Rattle.vx_diskset.specs.declared.disk_set.DiskSet.TheVariants.{Over}
 use Rattle.vx_diskset.specs.declared.over_set.OverSet.{OverSet}
-use Rattle.vx_diskset.specs.declared.over_set.OverSite.{OverSite}
-use Rattle.vx_diskset.specs.declared.over_set.OverSite.TheVariants.{Origin as OriginSite, Receiver as ReceiverSite, Deported as GroupAway, Down as GroupFell, Gone as NoGroup}
 use Rattle.vx_events.proofs.Places.{never_some, some_same}
 use Rattle.vx_events.proofs.RvgEvents.{rvg_apart}
-use Rattle.vx_events.proofs.Steps.{crash_step}
 use Rattle.vx_events.specs.Effects.{EffectAt}
 use Rattle.vx_events.specs.Facts.{volume_fact}
 use Rattle.vx_events.specs.GroupLines.{noting}
@@ -61,21 +54,15 @@ use Rattle.vx_yard.specs.declared.yard.Yard.{Yard}
 use Rattle.vx_above.proofs.OverComes.{none_still, on_still}
 use Rattle.vx_above.proofs.OverSites.{over_again}
 use Rattle.vx_group_lines.proofs.BelowUp.{BelowAs, BelowCalled, NotesBelow, NotesStill, below_as, changed_over, none_cut, notes_still, same_cut, same_rvg, same_units, there_before}
-use Rattle.vx_group_lines.proofs.GroupEnding.{world_off, world_up}
+use Rattle.vx_group_lines.proofs.GroupEnding.{world_up}
 use Rattle.vx_group_lines.proofs.GroupLeads.{Follows}
 use Rattle.vx_group_lines.proofs.RvgReturns.{named_again}
 
 -- ---- the crash
 
--- two crashes that keep as many writes are one
-pub crash_as : (d : Doubted) (s j k : ℕ) → s < d.world.sites → (d.world.nodes s).state ≡ IsUp → kept_of (d.world.nodes s) j ≡ kept_of (d.world.nodes s) k → happened d (CrashAt s j) false ≡ happened d (CrashAt s k) false
-crash_as d s j k below up same =
-    ap (λ (o : Outcome). let x : Doubted = record (resolved_at d s false) { world = (headers_counted d.world (CrashAt s 0) o).world } in x)
-    (crash_step d.world s j below up ∙ ap (λ (x : ℕ). done (crash_at d.world s x)) same ∙ sym (crash_step d.world s k below up))
-
--- a site all of whose writes are durable keeps them
-all_kept : (n : Node) (count : ℕ) → length n.log ≤ n.safe → n.safe ≤ count → count ≤ length n.log → kept_of n count ≡ kept_of n 0
-all_kept n count durable least most = omega (arith, durable, least, most)
+-- the world behind one that kept so many writes, with this note
+abbrev pub world_kept : Doubted → ℕ → ℕ → GroupNode → Doubted
+world_kept d s count k = world_up (happened d (CrashAt s count) false) s k
 
 -- so many writes are kept of those of the site
 pub record FellSo {R : Type 0} {g : Ghosts R} (beside : KeptBeside) (n : Node) (p : OverSet R g) : Type 0 where
@@ -97,13 +84,10 @@ fell_like n k m state disks blocks group fuse = record {
 }
 
 module _ {R : Type 0} {g : Ghosts R} where
-  -- writes arise at the site, and while it runs all are durable
-  running_durable : (beside : KeptBeside) (n : Node) (s : OverSite R g) → n.state ≡ IsUp → n.halted ≡ None → is_origin n.role ≡ true → OverStands beside n s → length n.log ≤ n.safe
-  running_durable beside n (OriginSite f) up running origin it = it.durable running
-  running_durable beside n (ReceiverSite f) up running origin it = absurd (let clash : true ≡ false = sym origin ∙ it.role in cc)
-  running_durable beside n (GroupAway idle) up running origin it = absurd (let clash = sym it.0 ∙ up in cc)
-  running_durable beside n (GroupFell idle) up running origin it = absurd (down_up (sym it.0 ∙ up))
-  running_durable beside n NoGroup up running origin it = absurd it
+  -- the yard stands for such a crash, and carries it
+  pub record FollowsOff (d : Doubted) (s : ℕ) (k : GroupNode) (old new : Yard R g) : Type 0 where
+    pub count : ℕ
+    pub follows : Follows d (world_kept d s count k) old new
 
   -- the disks crashed
   off_kept : (beside : KeptBeside) (n m : Node) (note : GroupNode) (p : OverSet R g) (e : GroupSite R g) → DownNoted m note e → (StaysHere e → KeptBy beside n p e) → CrashedAt beside n (Over p)
@@ -146,10 +130,7 @@ module _ {R : Type 0} {g : Ghosts R} where
     fell : FellSo (beside_of d s) (d.world.nodes s) p
     fell =
         fell_so (beside_of d s) n p call.at.stands.0.1
-        (off_kept (beside_of d s) n (crashed (with_note k (below_rvg n)) 0) k p (site_in p) noted (call.kept.each (beside_of d s) n call.at.stands call.up call.running))
-
-    kept_all : kept_of n fell.count ≡ kept_of n 0
-    kept_all = all_kept n fell.count (running_durable (beside_of d s) n call.at.set.site call.up call.running call.at.stands.0.5 call.at.stands.1) fell.least fell.most
+        (off_kept (beside_of d s) n (crashed (with_note k (below_rvg n)) 0) k p (site_in p) noted (call.kept.each (beside_of d s) n call.at.stands call.up))
 
     abbrev e : Doubted
     e = crash_of d s fell.count false
@@ -248,9 +229,8 @@ module _ {R : Type 0} {g : Ghosts R} where
           (λ is_up. down_up (sym (ap (λ (x : Node). x.state) node_now) ∙ is_up)) (told_by old new s before (Over p) (changed_over d old new name s before after p stands call)) carries;
     }
 
-    -- the yard stands for the crash that a line of the group tells of, and carries it
-    pub fell_by : new.facts.items ≡ slice_set old.facts.items s (down_fact (fact_from (d.world.nodes s) (d.world.links s) d.world.sites)) → LetsGo old new s → Follows d (world_off d s k) old new
-    fell_by facts lets = subst (λ (x : Doubted). Follows d (world_up x s k) old new) (crash_as d s fell.count 0 call.at.seat.below call.up kept_all) (fell_follows facts lets)
+    pub fell_by : new.facts.items ≡ slice_set old.facts.items s (down_fact (fact_from (d.world.nodes s) (d.world.links s) d.world.sites)) → LetsGo old new s → FollowsOff d s k old new
+    fell_by facts lets = record { count = fell.count; follows = fell_follows facts lets }
 
   -- where no write is cut
   module _ (d : Doubted) (old new : Yard R g) (name : List ℕ) (s : ℕ) (before after : DiskSet R g) (p : OverSet R g) (stands : StandsFor d old) (call : BelowCalled d old new name s before after p)
@@ -259,7 +239,7 @@ module _ {R : Type 0} {g : Ghosts R} where
     clear : k.cut ≡ None
     clear = notes.cut ∙ none_cut d old new name s before after p stands call
 
-    pub below_fell : new.facts.items ≡ slice_set old.facts.items s (down_fact (fact_from (d.world.nodes s) (d.world.links s) d.world.sites)) → LetsGo old new s → Follows d (world_off d s k) old new
+    pub below_fell : new.facts.items ≡ slice_set old.facts.items s (down_fact (fact_from (d.world.nodes s) (d.world.links s) d.world.sites)) → LetsGo old new s → FollowsOff d s k old new
     below_fell =
         fell_by d old new name s before after p stands (below_as d old new name s before after p call) k noted (notes_still (note_at (d.world.nodes s)) k notes) (same_cut d old new name s before after p stands call k notes.cut)
         (λ x is. absurd (never_some (sym clear ∙ is))) rests table

@@ -144,7 +144,7 @@ module _ {R : Type 0} {g : Ghosts R} where
     -- the group is up, and what stood over it stands
     module _ (p : OverSet R g) (to : after ≡ Over p) (kept : KeepsOver o p) (cut : p.cut ≡ o.cut) (noted : UpNoted (worked (below_rvg (d.world.nodes s))) (note_at (d.world.nodes s)) (site_in p)) where
       stood : SiteStands (beside_of d s) (worked n) (Over p)
-      stood = kept_up (beside_of d s) n (worked (below_rvg n)) note p (site_in p) noted (kept.each (beside_of d s) n call.at.stands call.up call.running)
+      stood = kept_up (beside_of d s) n (worked (below_rvg n)) note p (site_in p) noted (kept.each (beside_of d s) n call.at.stands call.up)
 
       fails : FailsAs (worked n) (Over p)
       fails = subst (λ (x : DiskSet R g). FailsAs (worked n) x) to (fails_then n (worked n) before after refl failing (stands.failing s before call.at.seat.below changed.there))

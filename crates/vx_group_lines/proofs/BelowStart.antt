@@ -1,6 +1,6 @@
 -- Where a line on the group below a replicated volume group begins: what plexes of it missed is what is in memory.
 use Rattle.std.proofs.Common.{◌≡◌, ◌∙◌, ℕ, true, List, ap, sym, subst, refl}
-use Rattle.std.specs.Prelude.{Some, None, slice_get, Result, Ok}
+use Rattle.std.specs.Prelude.{Some, slice_get, Result, Ok}
 use Rattle.vx_disk.specs.declared.shelf.Shelf.{Ghosts}
 use Rattle.vx_history.specs.Doubts.{Doubted}
 use Rattle.vx_history.specs.Groups.{GroupNode, MissedNote}
@@ -73,18 +73,16 @@ module _ {R : Type 0} {g : Ghosts R} where
     pub at : BelowAt (missed_world missed d s) y name s e
     pub maps : StandMaps (note_at ((missed_world missed d s).world.nodes s)) (site_in at.set)
     pub up : ((missed_world missed d s).world.nodes s).state ≡ IsUp
-    pub running : ((missed_world missed d s).world.nodes s).halted ≡ None
     pub asks : UpNoted (below_rvg ((missed_world missed d s).world.nodes s)) (note_at ((missed_world missed d s).world.nodes s)) (site_in at.set)
 
-  -- the tests found the site of this name up, with a replicated volume group that runs
-  pub below_start : (d : Doubted) (y : Yard R g) (name : List ℕ) (s : ℕ) (e : DiskSet R g) → StandsFor d y → seat_of y.facts.items name ≡ Some s → over_rvg_at d.world name ≡ true → (d.world.nodes (site_number d.world name)).halted ≡ None
+  -- the tests found the site of this name up, with a replicated volume group
+  pub below_start : (d : Doubted) (y : Yard R g) (name : List ℕ) (s : ℕ) (e : DiskSet R g) → StandsFor d y → seat_of y.facts.items name ≡ Some s → over_rvg_at d.world name ≡ true
       → UpMay y.facts.items name → slice_get y.disk_sets.items s ≡ Some e → BelowStart d y name s e
-  below_start d y name s e stands seat over runs may there =
+  below_start d y name s e stands seat over may there =
       let n : Node = d.world.nodes s in
       let note : GroupNode = note_at (d.world.nodes s) in
       let first : BelowAt d y name s e = below_at d y name s e stands seat over there in
       let up : n.state ≡ IsUp = sym (ap (λ (f : SiteFacts). f.state) (fact_named d y name s first.seat seat may.site)) ∙ may.up in
-      let running : n.halted ≡ None = subst (λ (i : ℕ). (d.world.nodes i).halted ≡ None) first.seat.number runs in
       let memory : (w : MissedNote) × StandMaps (with_maps w note) (site_in first.set) = memory_at (below_rvg n) note (site_in first.set) (noted_up (beside_of d s) n note first.set.site first.stands.1 up first.noted.0) in
       let w : MissedNote = memory.0 in
       let e_d : Doubted = missed_world w d s in
@@ -104,7 +102,6 @@ module _ {R : Type 0} {g : Ghosts R} where
             subst (λ (k : GroupNode). StandMaps k (site_in again.set)) (sym (missed_note w d s))
             (subst (λ (x : OverSet R g). StandMaps (with_maps w note) (site_in x)) (one_set e first.set again.set first.is_set again.is_set) memory.1);
         up = is_up;
-        running = ap (λ (x : Node). x.halted) here ∙ running;
         asks = noted_up (beside_of e_d s) (e_d.world.nodes s) (note_at (e_d.world.nodes s)) again.set.site again.stands.1 is_up again.noted.0;
       }
 

@@ -99,7 +99,6 @@ module _ {R : Type 0} {g : Ghosts R} where
   pub record BelowAs (d : Doubted) (old new : Yard R g) (name : List ℕ) (s : ℕ) (before after : DiskSet R g) (p : OverSet R g) : Type 0 where
     pub at : BelowAt d old name s before
     pub up : (d.world.nodes s).state ≡ IsUp
-    pub running : (d.world.nodes s).halted ≡ None
     pub changed : Changed old new s before after
     pub failing : SameFailing before after
     pub since : CalledOn before after
@@ -110,7 +109,6 @@ module _ {R : Type 0} {g : Ghosts R} where
   pub record BelowCalled (d : Doubted) (old new : Yard R g) (name : List ℕ) (s : ℕ) (before after : DiskSet R g) (p : OverSet R g) : Type 0 where
     pub at : BelowAt d old name s before
     pub up : (d.world.nodes s).state ≡ IsUp
-    pub running : (d.world.nodes s).halted ≡ None
     pub changed : Changed old new s before after
     pub failing : SameFailing before after
     pub since : CalledOn before after
@@ -120,7 +118,7 @@ module _ {R : Type 0} {g : Ghosts R} where
 
   pub below_as : (d : Doubted) (old new : Yard R g) (name : List ℕ) (s : ℕ) (before after : DiskSet R g) (p : OverSet R g) → BelowCalled d old new name s before after p → BelowAs d old new name s before after p
   below_as d old new name s before after p it =
-      record { at = it.at; up = it.up; running = it.running; changed = it.changed; failing = it.failing; since = it.since; is = it.is; kept = it.kept }
+      record { at = it.at; up = it.up; changed = it.changed; failing = it.failing; since = it.since; is = it.is; kept = it.kept }
 
   -- the disks of a group that is up are up
   pub below_runs : (n : Node) (note : GroupNode) (e : GroupSite R g) → UpNoted n note e → IsTrue (site_disks e).down → ⊥
@@ -189,7 +187,7 @@ module _ {R : Type 0} {g : Ghosts R} where
       stood : SiteStands (beside_of d s) m (Over p)
       stood =
           over_like (beside_of d s) (worked n) m p refl (λ none. never_some (sym none)) (same_units k notes.keeps) (λ x lit. lit) (λ none. none)
-          (up_kept (beside_of d s) n (below_rvg m) k p (site_in p) noted (call.kept.each (beside_of d s) n call.at.stands call.up call.running))
+          (up_kept (beside_of d s) n (below_rvg m) k p (site_in p) noted (call.kept.each (beside_of d s) n call.at.stands call.up))
 
       fails : FailsAs m (Over p)
       fails = subst (λ (x : DiskSet R g). FailsAs m x) call.is (fails_then n m before after refl call.failing (stands.failing s before call.at.seat.below there_before))

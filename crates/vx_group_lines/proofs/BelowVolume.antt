@@ -59,6 +59,7 @@ use Rattle.vx_events.specs.GroupNotes.{NotesVolume, Reconfigures, note_at}
 use Rattle.vx_events.specs.GroupViews.{config_of, volumes_of}
 use Rattle.vx_events.specs.LinkedFacts.{link_facts, linked_fact, links_by}
 use Rattle.vx_events.specs.RvgFits.{NoteKeepsRvg, config_rvg, data_of}
+use Rattle.vx_events.specs.RvgOver.{AsGroup}
 use Rattle.vx_events.specs.RvgViews.{data_facts, data_seen, data_units, is_over_rvg, kinds_by, others_by, others_of, table_at}
 use Rattle.vx_events.specs.declared.said.Said.{Said}
 use Rattle.vx_events.specs.declared.said.Said.TheVariants.{Done}
@@ -194,7 +195,7 @@ module _ {R : Type 0} {g : Ghosts R} where
           next = world_up d s tidied;
           middle = world_up d s k;
           fails = calls s old new many;
-          ends = GroupDone k (are d (Volume name volume blocks mirrors layout log map_of policy) old new name s before after p stands it many) (adds, refl) (it.is_line.done k);
+          ends = AsGroup (GroupDone k (are d (Volume name volume blocks mirrors layout log map_of policy) old new name s before after p stands it many) (adds, refl) (it.is_line.done k));
           loosens = loosens_of k;
           why = λ on none never. never_on (settles_tight note next it.call.at.noted.3.tidy called.1) on;
           left = tidied_as d s k;

@@ -63,7 +63,7 @@ use Rattle.vx_events.specs.GroupNotes.{Reconfigures, note_at}
 use Rattle.vx_events.specs.GroupViews.{noted_table}
 use Rattle.vx_events.specs.LinkedFacts.{linked_fact}
 use Rattle.vx_events.specs.RvgFits.{NoteKeepsRvg, config_rvg, entries_noted, rvg_noted}
-use Rattle.vx_events.specs.RvgOver.{BelowEnds, EndsWrite, OverRvg, fact_kind, kind_named, missed_world, note_loosened}
+use Rattle.vx_events.specs.RvgOver.{AsGroup, BelowEnds, EndsWrite, OverRvg, fact_kind, kind_named, missed_world, note_loosened}
 use Rattle.vx_events.specs.RvgSteps.{over_rvg_at, rvg_place}
 use Rattle.vx_events.specs.RvgViews.{is_over_rvg, over_table, table_at}
 use Rattle.vx_events.specs.declared.said.Said.{Said}
@@ -91,11 +91,11 @@ use Rattle.vx_above.proofs.Tables.{table_like}
 use Rattle.vx_group_lines.proofs.BelowAt.{BelowAt, BelowCall, below_at, below_call}
 use Rattle.vx_group_lines.proofs.BelowDone.{LeadsBelow, leads_above, loosened_world, never_on, seen_keeps, tight_then}
 use Rattle.vx_group_lines.proofs.BelowMissed.{missed_carries, missed_site, missed_stands}
-use Rattle.vx_group_lines.proofs.BelowOff.{fell_by}
+use Rattle.vx_group_lines.proofs.BelowOff.{FollowsOff, fell_by, world_kept}
 use Rattle.vx_group_lines.proofs.BelowUp.{BelowAs, NotesStill, OverBehind, follows_by, overs_behind}
-use Rattle.vx_group_lines.proofs.GroupEnding.{world_off, world_up}
+use Rattle.vx_group_lines.proofs.GroupEnding.{world_up}
 use Rattle.vx_group_lines.proofs.GroupLeads.{Follows}
-use Rattle.vx_group_lines.proofs.GroupWrite.{cut_ends, done_ends, fails_ends}
+use Rattle.vx_group_lines.proofs.GroupWrite.{done_ends, fails_ends, under_ends}
 use Rattle.vx_group_lines.proofs.MapGoing.{with_goes}
 use Rattle.vx_group_lines.proofs.Plains.{rvg_goes}
 use Rattle.vx_group_lines.specs.Noting.{HasConfig, number_in}
@@ -236,14 +236,14 @@ module _ {R : Type 0} {g : Ghosts R} where
           next = world_up d s k;
           middle = world_up d s k;
           fails = fails many;
-          ends = done_ends (IsTold new) d (world_up d s k) line name volume start bytes s place (fails many) k is call.number (are many)
+          ends = AsGroup (done_ends (IsTold new) d (world_up d s k) line name volume start bytes s place (fails many) k is call.number (are many)
               (record {
                 middle = with_maps no_maps middle;
                 moves = with_goes (Reconfigures (ConfigLoses s (fails many)) NoteSettles) (MapsOfWrite s (fails many) x) note middle goes.was goes.now no_maps goes.noted goes.noted_now (moves middle goes NoteSettles settles many (omega arith) (omega arith))
                     (subst (λ w. MapsOfWrite s (fails many) x (at_was goes.was) (at_was goes.now) w no_maps) (sym call.none) (write_void s (fails many) x (at_was goes.was) (at_was goes.now)));
                 is = ap (λ w. note_write x (with_maps w middle)) (settles.same.maps ∙ call.none);
               })
-              (record { world = refl; after = λ i. refl; strayed = refl });
+              (record { world = refl; after = λ i. refl; strayed = refl }));
           loosens = false;
           why = λ on none never. never_on refl on;
           left = record { world = sym (loosened_world false d.world s k); after = λ i. refl; strayed = refl };
@@ -273,7 +273,7 @@ module _ {R : Type 0} {g : Ghosts R} where
           next = world_up d s l;
           middle = world_up d s k;
           fails = fails many;
-          ends = fails_ends (IsTold new) d (world_up d s k) line name volume start bytes s place (fails many) k is call.number (are many) disk (named.each disk (omega arith) wrote.5)
+          ends = AsGroup (fails_ends (IsTold new) d (world_up d s k) line name volume start bytes s place (fails many) k is call.number (are many) disk (named.each disk (omega arith) wrote.5)
               (record {
                 middle = with_maps no_maps middle;
                 moves = with_goes (Reconfigures (ConfigLoses s (fails many)) (NoteUnsettles false)) (MapsOfDoubt s (fails many) x) note middle goes.was goes.now no_maps goes.noted goes.noted_now
@@ -281,7 +281,7 @@ module _ {R : Type 0} {g : Ghosts R} where
                     (subst (λ w. MapsOfDoubt s (fails many) x (at_was goes.was) (at_was goes.now) w no_maps) (sym call.none) (doubt_void s (fails many) x (at_was goes.was) (at_was goes.now)));
                 is = ap (λ w. note_doubt x (with_maps w middle)) (unsettles.same.maps ∙ call.none);
               })
-              (record { world = refl; after = λ i. refl; strayed = refl });
+              (record { world = refl; after = λ i. refl; strayed = refl }));
           loosens = loosens;
           why = λ on none never. none disk (named.each disk (omega arith) wrote.5);
           left = record { world = sym (loosened_world loosens d.world s k); after = λ i. refl; strayed = refl };
@@ -304,14 +304,14 @@ module _ {R : Type 0} {g : Ghosts R} where
         let table : over_table (with_note l n) l ≡ over_table n note = table_like n (with_note l n) note l refl (rvg_same middle goes) (shows middle goes) in
         let notes : NotesStill note l = record { keeps = then_same note middle l (keeps_rvg middle goes) refl; tidy = λ tight. void (sym tight); inside = unsettles.same.inside } in
         let fits : FitsPlain l place start (length bytes) = same_size note l x (λ v low. ap (λ (c : Content). c.size v) unsettles.same.bytes) call.fits in
-        let follows : Follows d (world_off d s l) old new =
+        let fell : FollowsOff d s l old new =
         fell_by d old new name s before after p stands call.called l wrote.2 notes cut
         (λ y there. subst (λ (z : Write). FitsPlain l z.volume z.start (length z.bytes)) (some_same there) fits) (λ units named. rests units (length (entries_noted l)) (crashed (with_note l (below_rvg n)) 0) l wrote.2) table facts lets in
         record {
-          next = world_off d s l;
-          middle = world_off d s k;
+          next = world_kept d s fell.count l;
+          middle = world_kept d s fell.count k;
           fails = fails many;
-          ends = cut_ends (IsTold new) d (world_off d s k) line name volume start bytes s place (fails many) k is call.number (are many) wrote.3
+          ends = under_ends (IsTold new) d (world_kept d s fell.count k) line name volume start bytes s place (fails many) k is call.number (are many) fell.count wrote.3
               (record {
                 middle = with_maps no_maps middle;
                 moves = with_goes (Reconfigures (ConfigLoses s (fails many)) (NoteUnsettles false)) MapsLost note middle goes.was goes.now no_maps goes.noted goes.noted_now
@@ -321,9 +321,9 @@ module _ {R : Type 0} {g : Ghosts R} where
               (record { world = refl; after = λ i. refl; strayed = refl });
           loosens = true;
           why = λ on none never. never (wrote.3, refl);
-          left = record { world = sym (loosened_world true (happened d (CrashAt s 0) false).world s k); after = λ i. refl; strayed = refl };
-          stands = follows.stands;
-          carries = follows.carries;
+          left = record { world = sym (loosened_world true (happened d (CrashAt s fell.count) false).world s k); after = λ i. refl; strayed = refl };
+          stands = fell.follows.stands;
+          carries = fell.follows.carries;
           rose = rises many;
         }
 
@@ -434,7 +434,6 @@ module _ {R : Type 0} {g : Ghosts R} where
         called = record {
           at = bare_call.at;
           up = bare_call.up;
-          running = bare_call.running;
           changed = changed;
           failing = failing;
           since = since;

@@ -77,7 +77,6 @@ pub mod MapGoing
 pub mod MapComing
 pub mod Going
 pub mod OverSeen
-pub mod HaltedSeen
 pub mod Worked
 pub mod Plains
 pub mod RvgComing

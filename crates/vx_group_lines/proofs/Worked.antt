@@ -140,17 +140,17 @@ module _ {R : Type 0} {g : Ghosts R} (d : Doubted) (y : Yard R g) where
     -- ---- one that works on the group, whether one is over it or not
 
     both_works : (line : ScriptLine) (name : List ℕ) (r : Result Said OutOfMemory) → MakesNoRvg line → is_for_rvg d.world line ≡ over_rvg_at d.world name → StandsFor d y → IsYardKept y → IsFree y line → goes_to_group d.world line ≡ true → is_open d.world line ≡ false
-        → (is_for_group d.world line ≡ true → LeadsOverIs d line y new r) → (over_rvg_at d.world name ≡ true → is_open d.world line ≡ false → LeadsAboveIs d line y new r) → WorksIs d line y new r
+        → (is_for_group d.world line ≡ true → LeadsOverIs d line y new r) → (over_rvg_at d.world name ≡ true → LeadsAboveIs d line y new r) → WorksIs d line y new r
     both_works line name r none there stands kept free goes closed beside above = by (over_rvg_at d.world name) refl
       where
         by : (b : Bool) → over_rvg_at d.world name ≡ b → WorksIs d line y new r
-        by true over = works_above d line y new none closed (there ∙ over) r (above over closed)
+        by true over = works_above d line y new none closed (there ∙ over) r (above over)
         by false off =
             let group : is_for_group d.world line ≡ true = alone_goes line none stands kept free goes (there ∙ off) in
             works_over d line y new none closed (there ∙ off) r group (or_stops d line y new r (beside group))
 
     pub works_both : (words line : ScriptLine) (name : List ℕ) (r : Result Said OutOfMemory) → words ≡ line → MakesNoRvg line → is_for_rvg d.world line ≡ over_rvg_at d.world name → StandsFor d y → IsYardKept y → IsFree y words → goes_to_group d.world words ≡ true
-        → is_open d.world words ≡ false → (is_for_group d.world line ≡ true → LeadsOverIs d line y new r) → (over_rvg_at d.world name ≡ true → is_open d.world line ≡ false → LeadsAboveIs d line y new r) → WorksIs d words y new r
+        → is_open d.world words ≡ false → (is_for_group d.world line ≡ true → LeadsOverIs d line y new r) → (over_rvg_at d.world name ≡ true → LeadsAboveIs d line y new r) → WorksIs d words y new r
     works_both words line name r is none there stands kept free goes closed beside above =
         subst (λ (x : ScriptLine). WorksIs d x y new r) (sym is)
         (both_works line name r none there stands kept (subst (λ (x : ScriptLine). IsFree y x) is free) (subst (λ (x : ScriptLine). goes_to_group d.world x ≡ true) is goes)

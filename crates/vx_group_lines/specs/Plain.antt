@@ -1,5 +1,5 @@
 -- The lines that go to a disk group, and of these such as write and read blocks of a volume.
-use Rattle.std.specs.Prelude.{◌∷◌, ◌&&◌, ◌||◌, ◌≡◌, ℕ, ◌*◌, ◌<◌, ◌≤◌, Bool, true, false, List, [], length, Option, Some, None, Result, Ok, Err, is_some, not}
+use Rattle.std.specs.Prelude.{◌∷◌, ◌&&◌, ◌||◌, ◌≡◌, ℕ, ◌*◌, ◌<◌, ◌≤◌, Bool, true, false, List, [], length, Option, Some, None, Result, Ok, Err, not}
 use Rattle.vx_model.specs.declared.limits.TheConstants.{BLOCK, MOST_CALL_BLOCKS}
 use Rattle.vx_model.specs.declared.no.No.{No}
 use Rattle.vx_disk.specs.declared.shelf.Shelf.{Ghosts}
@@ -22,13 +22,7 @@ use Rattle.vx_events.specs.RvgOver.{kind_named}
 use Rattle.vx_events.specs.StepsOver.{over_group_at}
 use Rattle.vx_events.specs.RvgSteps.{over_rvg_at}
 use Rattle.vx_events.specs.Facts.{site_number}
-use Rattle.vx_order.specs.declared.facts.RvgFacts.{RvgFacts}
 use Rattle.vx_order.specs.declared.facts.VolumeFacts.{VolumeFacts}
-
--- whether a replicated volume group is halted, as the tests see it
-abbrev pub halted_shown : Option RvgFacts → Bool
-halted_shown None = false
-halted_shown (Some rvg) = is_some rvg.halted
 
 -- whether lines of this kind write or read blocks
 abbrev pub is_block_kind : ScriptLine → Bool

@@ -1,20 +1,15 @@
 // The sites with a replicated volume group over their group, as the tests of a line see them.
-ghost use Rattle.std.specs.Prelude.{◌≡◌, ◌<◌, ℕ, IsSome, Some, length, slice_get};
+ghost use Rattle.std.specs.Prelude.{◌≡◌, ◌<◌, IsSome, length};
 ghost use Rattle.vx_history.specs.Doubts.{Doubted};
-ghost use Rattle.vx_model.specs.declared.site.SiteState.TheVariants.{Up};
-ghost use Rattle.vx_order.specs.declared.facts.SiteFacts.{SiteFacts};
-ghost use Rattle.vx_events.specs.Facts.{seat_of, site_number};
-ghost use Rattle.vx_events.specs.OpenLines.{is_halted_over};
+ghost use Rattle.vx_events.specs.Facts.{seat_of};
 ghost use Rattle.vx_events.specs.RvgSteps.{over_rvg_at};
 ghost use Rattle.vx_events.specs.RvgViews.{is_over_rvg};
-ghost use Rattle.vx_group_lines.specs.Plain.{halted_shown};
 ghost use Rattle.vx_yard.specs.Standing.{StandsFor};
 ghost use Rattle.vx_yard.specs.Yards.{IsYardKept};
 
 use crate::lines::leads_with_data;
 use vx_disk::Rack;
 use vx_model::Name;
-use vx_order::RvgFacts;
 use vx_yard::Yard;
 
 // Whether the site of this number has one.
@@ -33,25 +28,4 @@ pub fn has_rvg<R: Rack>(yard: &Yard<R>, name: &Name) -> bool
 {
     let site = yard.site_of(name);
     has_rvg_in(yard, site)
-}
-
-// Whether a replicated volume group is halted, of which the tests see this.
-fn is_halted(rvg: Option<RvgFacts>) -> bool
-    ensures { result ≡ halted_shown rvg }
-{
-    match rvg {
-        Some(rvg) => rvg.halted.is_some(),
-        None => false,
-    }
-}
-
-/// Whether the site of this name, which is up, has one that is halted.
-pub fn has_halted<R: Rack>(yard: &Yard<R>, name: &Name) -> bool
-    requires kept { IsYardKept yard.now }
-    requires named { IsSome (seat_of yard.now.facts.items name.now) }
-    requires up { (s : ℕ) (f : SiteFacts) → seat_of yard.now.facts.items name.now ≡ Some s → slice_get yard.now.facts.items s ≡ Some f → f.state ≡ Up }
-    ensures { (d : Doubted) → StandsFor d yard.now → result ≡ is_halted_over (d.world.nodes (site_number d.world name.now)) }
-{
-    let site = yard.site_of(name);
-    has_rvg_in(yard, site) && is_halted(yard.facts[site].rvg)
 }

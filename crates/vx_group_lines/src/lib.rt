@@ -23,7 +23,7 @@ mod views;
 mod volume;
 mod write;
 
-pub use above::{has_halted, has_rvg};
+pub use above::has_rvg;
 pub use blocks::filled;
 pub use found::{holds_group, recover_found};
 pub use lines::{is_of_group, work_group};

@@ -1,8 +1,7 @@
 // The lines that detach and attach a plex.
-ghost use Rattle.std.specs.Prelude.{◌≡◌, IfOk, false, true};
+ghost use Rattle.std.specs.Prelude.{◌≡◌, IfOk, true};
 ghost use Rattle.vx_history.specs.Doubts.{Doubted};
 ghost use Rattle.vx_script.specs.declared.line.ScriptLine.TheVariants.{PlexDetach, PlexAttach};
-ghost use Rattle.vx_events.specs.OpenLines.{is_open};
 ghost use Rattle.vx_events.specs.RvgSteps.{over_rvg_at};
 ghost use Rattle.vx_events.specs.StepsOver.{is_for_group};
 ghost use Rattle.vx_yard.specs.AboveLines.{LeadsAboveIs};
@@ -30,7 +29,7 @@ pub fn detach_line<R: Rack>(
     requires kept { IsYardKept yard.old }
     requires free { IsFree yard.old (PlexDetach name.now volume.now plex) }
     ensures leads { (d : Doubted) → StandsFor d yard.old → is_for_group d.world (PlexDetach name.now volume.now plex) ≡ true → LeadsOverIs d (PlexDetach name.now volume.now plex) yard.old yard.new result }
-    ensures above { (d : Doubted) → StandsFor d yard.old → over_rvg_at d.world name.now ≡ true → is_open d.world (PlexDetach name.now volume.now plex) ≡ false → LeadsAboveIs d (PlexDetach name.now volume.now plex) yard.old yard.new result }
+    ensures above { (d : Doubted) → StandsFor d yard.old → over_rvg_at d.world name.now ≡ true → LeadsAboveIs d (PlexDetach name.now volume.now plex) yard.old yard.new result }
     ensures asked { (d : Doubted) → StandsFor d yard.old → is_for_group d.world (PlexDetach name.now volume.now plex) ≡ true → AsAsked d.world (PlexDetach name.now volume.now plex) yard.old yard.new }
     ensures called { (d : Doubted) → StandsFor d yard.old → is_for_group d.world (PlexDetach name.now volume.now plex) ≡ true → IfOk result (λ said. HasCalled d.world (PlexDetach name.now volume.now plex) said yard.old yard.new) }
     ensures told { IsTold yard.new → IsTold yard.old }
@@ -55,7 +54,7 @@ pub fn attach_line<R: Rack>(
     requires kept { IsYardKept yard.old }
     requires free { IsFree yard.old (PlexAttach name.now volume.now plex) }
     ensures leads { (d : Doubted) → StandsFor d yard.old → is_for_group d.world (PlexAttach name.now volume.now plex) ≡ true → LeadsOverIs d (PlexAttach name.now volume.now plex) yard.old yard.new result }
-    ensures above { (d : Doubted) → StandsFor d yard.old → over_rvg_at d.world name.now ≡ true → is_open d.world (PlexAttach name.now volume.now plex) ≡ false → LeadsAboveIs d (PlexAttach name.now volume.now plex) yard.old yard.new result }
+    ensures above { (d : Doubted) → StandsFor d yard.old → over_rvg_at d.world name.now ≡ true → LeadsAboveIs d (PlexAttach name.now volume.now plex) yard.old yard.new result }
     ensures asked { (d : Doubted) → StandsFor d yard.old → is_for_group d.world (PlexAttach name.now volume.now plex) ≡ true → AsAsked d.world (PlexAttach name.now volume.now plex) yard.old yard.new }
     ensures called { (d : Doubted) → StandsFor d yard.old → is_for_group d.world (PlexAttach name.now volume.now plex) ≡ true → IfOk result (λ said. HasCalled d.world (PlexAttach name.now volume.now plex) said yard.old yard.new) }
     ensures told { IsTold yard.new → IsTold yard.old }

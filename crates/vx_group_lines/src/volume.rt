@@ -1,5 +1,5 @@
 // The line that makes a volume of a disk group.
-ghost use Rattle.std.specs.Prelude.{◌≡◌, ◌<◌, ◌≤◌, ℕ, IfOk, IfSome, IsSome, false, true};
+ghost use Rattle.std.specs.Prelude.{◌≡◌, ◌<◌, ◌≤◌, ℕ, IfOk, IfSome, IsSome, true};
 ghost use Rattle.vx_history.specs.Doubts.{Doubted};
 ghost use Rattle.vx_events.specs.GroupLines.{layout_columns, layout_width, preferred_plex, shape_of as shape_is};
 ghost use Rattle.vx_script.specs.declared.line.Layout.{Layout as LayoutValue};
@@ -8,7 +8,6 @@ ghost use Rattle.vx_script.specs.declared.line.ScriptLine.TheVariants.{Volume};
 ghost use Rattle.vx_script.specs.declared.line.VolumeLog.{VolumeLog as LogValue};
 ghost use Rattle.vx_script.specs.declared.line.VolumeMap.{VolumeMap as MapValue};
 ghost use Rattle.vx_events.specs.Facts.{seat_of};
-ghost use Rattle.vx_events.specs.OpenLines.{is_open};
 ghost use Rattle.vx_events.specs.RvgSteps.{over_rvg_at};
 ghost use Rattle.vx_events.specs.StepsOver.{is_for_group};
 ghost use Rattle.vx_yard.specs.AboveLines.{LeadsAboveIs};
@@ -89,7 +88,7 @@ pub fn volume_line<R: Rack>(
     requires named { IsSome (seat_of yard.old.facts.items name.now) }
     requires prefer { IfSome want.now.prefer (λ p. p < want.now.mirrors) }
     ensures leads { (d : Doubted) (blocks mirrors : ℕ) (layout : LayoutValue) (log : LogValue) (map : MapValue) (policy : PolicyValue) → StandsFor d yard.old → want.now ≡ shape_is blocks mirrors layout log map policy → IsFree yard.old (Volume name.now volume.now blocks mirrors layout log map policy) → is_for_group d.world (Volume name.now volume.now blocks mirrors layout log map policy) ≡ true → LeadsOverIs d (Volume name.now volume.now blocks mirrors layout log map policy) yard.old yard.new result }
-    ensures above { (d : Doubted) (blocks mirrors : ℕ) (layout : LayoutValue) (log : LogValue) (map : MapValue) (policy : PolicyValue) → StandsFor d yard.old → want.now ≡ shape_is blocks mirrors layout log map policy → IsFree yard.old (Volume name.now volume.now blocks mirrors layout log map policy) → over_rvg_at d.world name.now ≡ true → is_open d.world (Volume name.now volume.now blocks mirrors layout log map policy) ≡ false → LeadsAboveIs d (Volume name.now volume.now blocks mirrors layout log map policy) yard.old yard.new result }
+    ensures above { (d : Doubted) (blocks mirrors : ℕ) (layout : LayoutValue) (log : LogValue) (map : MapValue) (policy : PolicyValue) → StandsFor d yard.old → want.now ≡ shape_is blocks mirrors layout log map policy → IsFree yard.old (Volume name.now volume.now blocks mirrors layout log map policy) → over_rvg_at d.world name.now ≡ true → LeadsAboveIs d (Volume name.now volume.now blocks mirrors layout log map policy) yard.old yard.new result }
     ensures asked { (d : Doubted) (blocks mirrors : ℕ) (layout : LayoutValue) (log : LogValue) (map : MapValue) (policy : PolicyValue) → StandsFor d yard.old → want.now ≡ shape_is blocks mirrors layout log map policy → IsFree yard.old (Volume name.now volume.now blocks mirrors layout log map policy) → is_for_group d.world (Volume name.now volume.now blocks mirrors layout log map policy) ≡ true → AsAsked d.world (Volume name.now volume.now blocks mirrors layout log map policy) yard.old yard.new }
     ensures called { (d : Doubted) (blocks mirrors : ℕ) (layout : LayoutValue) (log : LogValue) (map : MapValue) (policy : PolicyValue) → StandsFor d yard.old → want.now ≡ shape_is blocks mirrors layout log map policy → IsFree yard.old (Volume name.now volume.now blocks mirrors layout log map policy) → is_for_group d.world (Volume name.now volume.now blocks mirrors layout log map policy) ≡ true → IfOk result (λ said. HasCalled d.world (Volume name.now volume.now blocks mirrors layout log map policy) said yard.old yard.new) }
     ensures told { IsTold yard.new → IsTold yard.old }

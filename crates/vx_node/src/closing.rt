@@ -7,11 +7,11 @@ ghost use Rattle.vx_yard.specs.Carries.{Carries};
 ghost use Rattle.vx_yard.specs.Standing.{StandsFor};
 ghost use Rattle.vx_yard.specs.Working.{IsFree};
 ghost use Rattle.vx_yard.specs.Yards.{IsYardKept, in_files};
-ghost use Rattle.vx_node.specs.OpenSites.{halted_site, open_second, open_site};
+ghost use Rattle.vx_node.specs.OpenSites.{open_second, open_site};
 
 use crate::answering::refusal;
 use vx_disk::Rack;
-use vx_group_lines::{has_halted, has_rvg};
+use vx_group_lines::has_rvg;
 use vx_model::Name;
 use vx_script::ScriptLine;
 use vx_yard::Yard;
@@ -22,18 +22,6 @@ fn open_site(line: &ScriptLine) -> Option<Name>
 {
     match line {
         ScriptLine::Link { primary, .. } => Some(*primary),
-        _ => None,
-    }
-}
-
-// A site at which a line is open, where a replicated volume group that is halted is over its group.
-fn halted_site(line: &ScriptLine) -> Option<Name>
-    ensures { result ≡ halted_site line.now }
-{
-    match line {
-        ScriptLine::Volume { site, .. }
-        | ScriptLine::PlexDetach { site, .. }
-        | ScriptLine::PlexAttach { site, .. } => Some(*site),
         _ => None,
     }
 }
@@ -75,28 +63,15 @@ fn is_open_from<R: Rack>(yard: &Yard<R>, line: &ScriptLine, site: &Name) -> bool
     }
 }
 
-// One that is not open where its site is halted.
-fn is_open_running<R: Rack>(yard: &Yard<R>, line: &ScriptLine) -> bool
-    requires kept { IsYardKept yard.now }
-    requires free { IsFree yard.now line.now }
-    requires runs { halted_site line.now ≡ None }
-    ensures { (d : Doubted) → StandsFor d yard.now → result ≡ is_open d.world line.now }
-{
-    match open_site(line) {
-        Some(site) => is_open_from(yard, line, &site),
-        None => false,
-    }
-}
-
 // Any that no test refuses.
 fn is_open_at<R: Rack>(yard: &Yard<R>, line: &ScriptLine) -> bool
     requires kept { IsYardKept yard.now }
     requires free { IsFree yard.now line.now }
     ensures { (d : Doubted) → StandsFor d yard.now → result ≡ is_open d.world line.now }
 {
-    match halted_site(line) {
-        Some(site) => has_halted(yard, &site),
-        None => is_open_running(yard, line),
+    match open_site(line) {
+        Some(site) => is_open_from(yard, line, &site),
+        None => false,
     }
 }
 

@@ -35,7 +35,7 @@ use Rattle.vx_events.specs.OpenLines.{is_open}
 use Rattle.vx_order.specs.Calls.{is_data}
 use Rattle.vx_events.proofs.ReadsLeave.{read_by}
 use Rattle.vx_events.proofs.WritesBelow.{write_by}
-use Rattle.vx_events.specs.RvgOver.{BelowEnds, EndsOver, OverRvg, kind_named, loosened_at, missed_world, note_loosened, noting_over, fuse_behind}
+use Rattle.vx_events.specs.RvgOver.{AsGroup, BelowEnds, CutBelow, EndsBelow, EndsOver, OverRvg, kind_named, loosened_at, missed_world, note_loosened, noting_over, fuse_behind}
 use Rattle.vx_events.specs.RvgSteps.{AsBefore, FoundOne, FullBy, StepFull, WorksAbove, WorksBeside, WorksFull, is_for_rvg, rvg_place}
 use Rattle.vx_events.specs.StepsOver.{WorksOver, group_place, is_for_group, refused_over}
 use Rattle.vx_events.specs.declared.said.Said.{Said}
@@ -105,6 +105,11 @@ group_bright d b fails said new told line s held here (FindsGroup next are bring
 group_bright d b fails said new told line s held here (FindsNoGroup next why are brings unknown device notes says left) =
     over_bright s line next (run_as false d (refused_events (d.world.nodes s) s line)) new left here (run_bright false d (refused_events (d.world.nodes s) s line) b)
 
+under_bright : (d : Doubted) → AllBright d → (fails : Fails) (said : Said) (new : Doubted) (told : Type 0) (line : ScriptLine) (s : ℕ) → (IsHeldDown line said → ⊥) → IsBright (new.world.nodes s) → EndsBelow told d line s fails said new → AllBright new
+under_bright d b fails said new told line s held here (AsGroup ends) = group_bright d b fails said new told line s held here ends
+under_bright d b fails said new told line s held here (CutBelow kept next are fused cuts says left) =
+    over_bright s line next (run_as false d (CrashAt s kept ∷ [])) new left here (run_bright false d (CrashAt s kept ∷ []) b)
+
 module _ (told : Type 0) (tells : told) (d : Doubted) (b : AllBright d) (fails : Fails) (said : Said) (new : Doubted) where
   rises_bright : (line : ScriptLine) (s : ℕ) → (IsHeldDown line said → ⊥) → IsBright (new.world.nodes s) → RvgBack told d line s fails said new → AllBright new
   rises_bright line s held here (RvgUp site kept taken middle next shown has is are back keeps works says shows left) =
@@ -154,7 +159,7 @@ module _ (told : Type 0) (tells : told) (d : Doubted) (b : AllBright d) (fails :
   below_bright line s held here below =
       let w : MissedNote = below.missed in
       let known : (note_at (below.middle.world.nodes s)).dark ≡ false = sym (ap (λ (k : GroupNode). k.dark) (loosened_note below.loosens s below.middle new below.left)) ∙ here in
-      let middle : AllBright below.middle = group_bright (missed_world w d s) (in_bright d s (with_maps w (note_at (d.world.nodes s))) (b.sites s) b) fails said below.middle told line s held known below.ends in
+      let middle : AllBright below.middle = under_bright (missed_world w d s) (in_bright d s (with_maps w (note_at (d.world.nodes s))) (b.sites s) b) fails said below.middle told line s held known below.ends in
       as_bright below.middle (loosened_at below.loosens below.middle.world s) new below.left
       (noting_bright below.middle.world s (note_loosened below.loosens (note_at (below.middle.world.nodes s))) known middle.sites) middle
 

@@ -36,7 +36,7 @@ use Rattle.vx_events.specs.OpenLines.{is_open}
 use Rattle.vx_order.specs.Calls.{is_data}
 use Rattle.vx_events.proofs.ReadsLeave.{read_by}
 use Rattle.vx_events.proofs.WritesBelow.{write_by}
-use Rattle.vx_events.specs.RvgOver.{BelowEnds, EndsOver, OverRvg, kind_named, loosened_at, missed_world, note_loosened, noting_over, fuse_behind}
+use Rattle.vx_events.specs.RvgOver.{AsGroup, BelowEnds, CutBelow, EndsBelow, EndsOver, OverRvg, kind_named, loosened_at, missed_world, note_loosened, noting_over, fuse_behind}
 use Rattle.vx_events.specs.RvgSteps.{AsBefore, FoundOne, FullBy, StepFull, WorksAbove, WorksBeside, WorksFull, is_for_rvg, rvg_place}
 use Rattle.vx_events.specs.StepsOver.{WorksOver, group_place, is_for_group, refused_over}
 use Rattle.vx_events.specs.Strays.{gone_astray}
@@ -175,6 +175,11 @@ module _ (i : ℕ) (o : Option GroupNode) where
       over_notes s line next (run_as false d (group_events (d.world.nodes s) s line)) new apart left (OtherNotes.run_stands i o false d (group_events (d.world.nodes s) s line) x).has
   group_notes d x told fails said new line s apart (FindsNoGroup next why are brings unknown device notes says left) =
       over_notes s line next (run_as false d (refused_events (d.world.nodes s) s line)) new apart left (OtherNotes.run_stands i o false d (refused_events (d.world.nodes s) s line) x).has
+
+  under_notes : (d : Doubted) → OtherNotes.Standing i o d → (told : Type 0) (fails : Fails) (said : Said) (new : Doubted) (line : ScriptLine) (s : ℕ) → eqb i s ≡ false → EndsBelow told d line s fails said new → HasNote i o new
+  under_notes d x told fails said new line s apart (AsGroup ends) = group_notes d x told fails said new line s apart ends
+  under_notes d x told fails said new line s apart (CutBelow kept next are fused cuts says left) =
+      over_notes s line next (run_as false d (CrashAt s kept ∷ [])) new apart left (OtherNotes.run_stands i o false d (CrashAt s kept ∷ []) x).has
 
   module _ (d : Doubted) (x : OtherNotes.Standing i o d) where
     -- what events lead to
@@ -353,7 +358,7 @@ module _ (i : ℕ) (o : Option GroupNode) where
       below_notes : (line : ScriptLine) (s : ℕ) → eqb i s ≡ false → BelowEnds told d line s fails said new → HasNote i o new
       below_notes line s apart below =
           let w : MissedNote = below.missed in
-          let h : HasNote i o below.middle = group_notes (missed_world w d s) (in_stands d s (with_maps w (note_at (d.world.nodes s))) apart x) told fails said below.middle line s apart below.ends in
+          let h : HasNote i o below.middle = under_notes (missed_world w d s) (in_stands d s (with_maps w (note_at (d.world.nodes s))) apart x) told fails said below.middle line s apart below.ends in
           OtherNotes.as_notes i o below.middle (loosened_at below.loosens below.middle.world s) new below.left
           (OtherNotes.noting_notes i o below.middle.world s (note_loosened below.loosens (note_at (below.middle.world.nodes s))) apart h.note) h
 

@@ -110,7 +110,6 @@ returns-in-Ok-clause-above g c = λ d stands over.
     (record {
       at = start.at;
       up = start.up;
-      running = start.running;
       changed = record { there = at; later = c.in-Ok.ensures.later; disk_sets = refl; racks = refl };
       failing = c.in-Ok.ensures.failing;
       since = c.in-Ok.ensures.since;
@@ -118,7 +117,7 @@ returns-in-Ok-clause-above g c = λ d stands over.
       cut = then.holds.cut;
       kept = then.holds.kept;
     })
-    start.none start.asks then.holds
+    start.running start.none start.asks then.holds
     (ap (λ f. slice_set y.facts.items s f) (c.deport.ensures ∙ ap (λ f. deported_facts f) (some_same (sym (get_at y.facts.items s c.index_mut-in-Ok.result.now c.site_of-site.ensures.fact c.index_mut-in-Ok.ensures.value) ∙ start.at.seat.fact))))
     (record { flight = refl; assemblies = c.let_go.ensures; feeders = refl }))
 
@@ -139,7 +138,6 @@ returns-in-Err-clause-above g c = λ d stands over.
     (record {
       at = start.at;
       up = start.up;
-      running = start.running;
       changed = record { there = at; later = c.in-Err.ensures.later; disk_sets = ap (λ es. es.items) same.disk_sets; racks = same.racks };
       failing = c.in-Err.ensures.failing;
       since = c.in-Err.ensures.since;
@@ -147,7 +145,7 @@ returns-in-Err-clause-above g c = λ d stands over.
       cut = then.holds.cut;
       kept = then.holds.kept;
     })
-    start.none start.asks _ (record { facts = refl; load = record { flight = refl; assemblies = refl; feeders = refl } }) c.group_stopped.result c.in-Err.stop then.holds reply)
+    start.running start.none start.asks _ (record { facts = refl; load = record { flight = refl; assemblies = refl; feeders = refl } }) c.group_stopped.result c.in-Err.stop then.holds reply)
 
 pub returns-in-Ok-clause-asked : goal.returns-in-Ok-clause-asked
 returns-in-Ok-clause-asked g c = λ d stands over.

@@ -32,7 +32,7 @@ deport_line-requires-clause-free g c = λ κs lives. subst (λ line. IsFree c.ar
 pub returns-in-GroupDeport-clause-leads : goal.returns-in-GroupDeport-clause-leads
 returns-in-GroupDeport-clause-leads g c = λ d stands goes closed.
     works_both d c.args.yard.now c.deport_line.new.yard c.args.words.now _ _ c.deport_line.result c.in-GroupDeport.is tt refl stands c.requires.kept c.requires.free goes closed (λ group. c.deport_line.ensures.leads d stands group)
-    (λ over runs. c.deport_line.ensures.above d stands over)
+    (λ over. c.deport_line.ensures.above d stands over)
 
 pub returns-in-GroupDeport-clause-asked : goal.returns-in-GroupDeport-clause-asked
 returns-in-GroupDeport-clause-asked g c = λ d stands goes off. subst (λ line. AsAsked d.world line c.args.yard.now c.deport_line.new.yard) (sym c.in-GroupDeport.is) (c.deport_line.ensures.asked d stands (goes_alone d c.args.yard.now c.args.words.now _ c.in-GroupDeport.is tt stands c.requires.kept c.requires.free goes off))
@@ -67,7 +67,7 @@ detach_line-requires-clause-free g c = λ κs lives. subst (λ line. IsFree c.ar
 pub returns-in-PlexDetach-clause-leads : goal.returns-in-PlexDetach-clause-leads
 returns-in-PlexDetach-clause-leads g c = λ d stands goes closed.
     works_both d c.args.yard.now c.detach_line.new.yard c.args.words.now _ _ c.detach_line.result c.in-PlexDetach.is tt refl stands c.requires.kept c.requires.free goes closed (λ group. c.detach_line.ensures.leads d stands group)
-    (λ over runs. c.detach_line.ensures.above d stands over runs)
+    (λ over. c.detach_line.ensures.above d stands over)
 
 pub returns-in-PlexDetach-clause-asked : goal.returns-in-PlexDetach-clause-asked
 returns-in-PlexDetach-clause-asked g c = λ d stands goes off. subst (λ line. AsAsked d.world line c.args.yard.now c.detach_line.new.yard) (sym c.in-PlexDetach.is) (c.detach_line.ensures.asked d stands (goes_alone d c.args.yard.now c.args.words.now _ c.in-PlexDetach.is tt stands c.requires.kept c.requires.free goes off))
@@ -85,7 +85,7 @@ attach_line-requires-clause-free g c = λ κs lives. subst (λ line. IsFree c.ar
 pub returns-in-PlexAttach-clause-leads : goal.returns-in-PlexAttach-clause-leads
 returns-in-PlexAttach-clause-leads g c = λ d stands goes closed.
     works_both d c.args.yard.now c.attach_line.new.yard c.args.words.now _ _ c.attach_line.result c.in-PlexAttach.is tt refl stands c.requires.kept c.requires.free goes closed (λ group. c.attach_line.ensures.leads d stands group)
-    (λ over runs. c.attach_line.ensures.above d stands over runs)
+    (λ over. c.attach_line.ensures.above d stands over)
 
 pub returns-in-PlexAttach-clause-asked : goal.returns-in-PlexAttach-clause-asked
 returns-in-PlexAttach-clause-asked g c = λ d stands goes off. subst (λ line. AsAsked d.world line c.args.yard.now c.attach_line.new.yard) (sym c.in-PlexAttach.is) (c.attach_line.ensures.asked d stands (goes_alone d c.args.yard.now c.args.words.now _ c.in-PlexAttach.is tt stands c.requires.kept c.requires.free goes off))
@@ -206,7 +206,7 @@ pub returns-in-Volume-clause-leads : goal.returns-in-Volume-clause-leads
 returns-in-Volume-clause-leads g c = λ d stands goes closed.
     works_both d c.args.yard.now c.volume_line.new.yard c.args.words.now _ _ c.volume_line.result c.in-Volume.is tt refl stands c.requires.kept c.requires.free goes closed
     (λ group. c.volume_line.ensures.leads d c.in-Volume.blocks c.in-Volume.mirrors c.in-Volume.layout c.in-Volume.log c.in-Volume.map c.in-Volume.policy stands c.shape_of-want.ensures (subst (λ line. IsFree c.args.yard.now line) c.in-Volume.is c.requires.free) group)
-    (λ over runs. c.volume_line.ensures.above d c.in-Volume.blocks c.in-Volume.mirrors c.in-Volume.layout c.in-Volume.log c.in-Volume.map c.in-Volume.policy stands c.shape_of-want.ensures (subst (λ line. IsFree c.args.yard.now line) c.in-Volume.is c.requires.free) over runs)
+    (λ over. c.volume_line.ensures.above d c.in-Volume.blocks c.in-Volume.mirrors c.in-Volume.layout c.in-Volume.log c.in-Volume.map c.in-Volume.policy stands c.shape_of-want.ensures (subst (λ line. IsFree c.args.yard.now line) c.in-Volume.is c.requires.free) over)
 
 pub returns-in-Volume-clause-asked : goal.returns-in-Volume-clause-asked
 returns-in-Volume-clause-asked g c = λ d stands goes off.

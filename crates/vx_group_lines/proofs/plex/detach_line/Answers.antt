@@ -4,8 +4,6 @@ use Rattle.std.specs.Prelude.{Ok, Err}
 use Rattle.vx_model.proofs.Lists.{get_there}
 use Rattle.vx_script.specs.declared.line.ScriptLine.TheVariants.{PlexDetach}
 use Rattle.vx_diskset.specs.Asked.{FuseGoesOn, SameFailing}
-use Rattle.vx_events.proofs.Opens.{closed_runs}
-use Rattle.vx_events.specs.Facts.{site_number}
 use Rattle.vx_events.specs.GroupNotes.{note_at}
 use Rattle.vx_events.specs.LinkedFacts.{linked_fact}
 use Rattle.vx_events.specs.RvgOver.{missed_world}
@@ -166,27 +164,27 @@ returns-in-Err-clause-files g c =
     (reply_same s f.0 c.in-Err.stop _ c.group_stopped.new.yard c.group_stopped.result (c.group_stopped.ensures f.0 f.1)).files
 
 pub returns-in-Ok-clause-above : goal.returns-in-Ok-clause-above
-returns-in-Ok-clause-above g c = λ d stands over closed.
+returns-in-Ok-clause-above g c = λ d stands over.
     let y = c.args.yard.now in
     let s = c.site_of-site.result in
     let e = c.index_mut.result.now in
     let seat = c.site_of-site.ensures.seat in
     let at = get_at y.disk_sets.items s e c.site_of-site.ensures.disk_set c.index_mut.ensures.value in
     let may = detach_may y.facts.items (in_files y) c.args.name.now c.args.volume.now c.args.plex c.requires.free in
-    let start = below_start d y c.args.name.now s e stands seat over (closed_runs (d.world.nodes (site_number d.world c.args.name.now)) over closed) may.may at in
+    let start = below_start d y c.args.name.now s e stands seat over may.may at in
     let named = below_plex (missed_world start.missed d s) y c.args.name.now c.args.volume.now c.args.plex s c.number_of-place.result e start.at start.asks seat may at c.number_of-place.ensures in
     detached d y _ c.args.name.now c.args.volume.now c.args.plex _ c.number_of-place.result s e c.detach_plex.new.self start named c.min.ensures
     (record { there = at; later = c.in-Ok.ensures.later; disk_sets = refl; racks = refl }) c.in-Ok.ensures.failing c.in-Ok.ensures.since c.in-Ok.ensures.over refl (record { flight = refl; assemblies = refl; feeders = refl })
 
 pub returns-in-Err-clause-above : goal.returns-in-Err-clause-above
-returns-in-Err-clause-above g c = λ d stands over closed.
+returns-in-Err-clause-above g c = λ d stands over.
     let y = c.args.yard.now in
     let s = c.site_of-site.result in
     let e = c.index_mut.result.now in
     let seat = c.site_of-site.ensures.seat in
     let at = get_at y.disk_sets.items s e c.site_of-site.ensures.disk_set c.index_mut.ensures.value in
     let may = detach_may y.facts.items (in_files y) c.args.name.now c.args.volume.now c.args.plex c.requires.free in
-    let start = below_start d y c.args.name.now s e stands seat over (closed_runs (d.world.nodes (site_number d.world c.args.name.now)) over closed) may.may at in
+    let start = below_start d y c.args.name.now s e stands seat over may.may at in
     let named = below_plex (missed_world start.missed d s) y c.args.name.now c.args.volume.now c.args.plex s c.number_of-place.result e start.at start.asks seat may at c.number_of-place.ensures in
     let f = linked_fact (missed_world start.missed d s).world s in
     let reply = c.group_stopped.ensures f start.at.seat.fact in

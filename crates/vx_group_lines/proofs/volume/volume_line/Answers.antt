@@ -72,19 +72,19 @@ returns-in-Err-clause-files g c =
     ap (λ o. is_some o) rest.dir
 
 pub returns-in_err-room-clause-above : goal.returns-in_err-room-clause-above
-returns-in_err-room-clause-above g c = λ d blocks mirrors layout log map policy stands is_want free over closed.
+returns-in_err-room-clause-above g c = λ d blocks mirrors layout log map policy stands is_want free over.
     let p = err_from_is_err_and c.from_residual.result c.from_residual.ensures.1 in
     unbegun_below d (Volume c.args.name.now c.args.volume.now blocks mirrors layout log map policy) c.args.yard.now c.from_residual.result p.0 p.1 stands
 
 pub returns-in-Ok-clause-above : goal.returns-in-Ok-clause-above
-returns-in-Ok-clause-above g c = λ d blocks mirrors layout log map policy stands is_want free over closed.
+returns-in-Ok-clause-above g c = λ d blocks mirrors layout log map policy stands is_want free over.
     let there = get_at c.args.yard.now.disk_sets.items c.site_of-site.result c.index_mut.result.now c.site_of-site.ensures.disk_set c.index_mut.ensures.value in
-    made d c.args.yard.now _ c.args.name.now c.args.volume.now blocks mirrors layout log map policy c.args.want.now is_want c.site_of-site.result c.index_mut.result.now c.make_volume.new.self stands c.site_of-site.ensures.seat over closed free (record { there = there; later = c.make_volume.ensures.later; disk_sets = refl; racks = refl }) c.make_volume.ensures.failing c.make_volume.ensures.since
+    made d c.args.yard.now _ c.args.name.now c.args.volume.now blocks mirrors layout log map policy c.args.want.now is_want c.site_of-site.result c.index_mut.result.now c.make_volume.new.self stands c.site_of-site.ensures.seat over free (record { there = there; later = c.make_volume.ensures.later; disk_sets = refl; racks = refl }) c.make_volume.ensures.failing c.make_volume.ensures.since
     (record { facts = refl; load = record { flight = refl; assemblies = refl; feeders = refl } }) c.note_volumes.new.yard c.in-Ok.field-0 c.in-Ok.ensures.over c.note_volumes.ensures.facts c.note_volumes.ensures.assemblies c.note_volumes.ensures.same
 
 pub returns-in-Err-clause-above : goal.returns-in-Err-clause-above
-returns-in-Err-clause-above g c = λ d blocks mirrors layout log map policy stands is_want free over closed.
+returns-in-Err-clause-above g c = λ d blocks mirrors layout log map policy stands is_want free over.
     let there = get_at c.args.yard.now.disk_sets.items c.site_of-site.result c.index_mut.result.now c.site_of-site.ensures.disk_set c.index_mut.ensures.value in
     let rest = rest_of c.site_of-site.result c.in-Err.stop c.group_stopped.result _ c.group_stopped.new.yard c.group_stopped.ensures c.args.yard.now.facts.items refl c.site_of-site.ensures.fact in
-    unmade d c.args.yard.now _ c.args.name.now c.args.volume.now blocks mirrors layout log map policy c.args.want.now is_want c.site_of-site.result c.index_mut.result.now c.make_volume.new.self stands c.site_of-site.ensures.seat over closed free (record { there = there; later = c.make_volume.ensures.later; disk_sets = refl; racks = refl }) c.make_volume.ensures.failing c.make_volume.ensures.since
+    unmade d c.args.yard.now _ c.args.name.now c.args.volume.now blocks mirrors layout log map policy c.args.want.now is_want c.site_of-site.result c.index_mut.result.now c.make_volume.new.self stands c.site_of-site.ensures.seat over free (record { there = there; later = c.make_volume.ensures.later; disk_sets = refl; racks = refl }) c.make_volume.ensures.failing c.make_volume.ensures.since
     (record { facts = refl; load = record { flight = refl; assemblies = refl; feeders = refl } }) c.group_stopped.new.yard c.in-Err.stop c.group_stopped.result c.in-Err.ensures.over rest c.group_stopped.ensures

@@ -1,7 +1,6 @@
 -- A line, answered and sent, or one at which the run ends.
 use Rattle.std.proofs.Common.{◌≡◌, ◌∙◌, false, inl, inr, refl, subst, sym, true}
 use Rattle.std.specs.Io.KnownBytes.{Appends}
-use Rattle.vx_events.proofs.Opens.{open_beside, open_links}
 use Rattle.vx_yard.specs.Replies.{text_of}
 use Rattle.vx_yard.specs.Working.{IsFree}
 use Rattle.vx_stream.proofs.SendLemmas.{appends_none}
@@ -24,7 +23,7 @@ returns-in_default-replied-clause-line g c = λ d s.
       inr (
         text_of c.in-Ok.said c.sent_since.result,
         answer_steps d c.args.words.now c.args.yard.now c.answer.new.yard c.in-Ok.said c.count-before.result c.count.result c.sent_since.result s.carries c.count-before.ensures.count c.count.ensures.count c.sent_since.ensures (c.in-Ok.ensures.leads d s.stands closed s.carries s.good)
-            (λ free off. c.in-Ok.ensures.called d s.stands off (open_links d.world c.args.words.now (closed free)) s.carries s.good free),
+            (λ free off. c.in-Ok.ensures.called d s.stands off (closed free) s.carries s.good free),
       ),
       appends_none (g.O.Sink.written c.args.out.now),
     )
@@ -34,7 +33,7 @@ returns-in-Ok-send-clause-line g c = λ d s.
     let closed = λ (free : IsFree c.args.yard.now c.args.words.now). c.ends_run.ensures.closed c.if-ends_run.false free d s.stands s.carries in (
       text_of c.in-Ok.said c.sent_since.result,
       answer_steps d c.args.words.now c.args.yard.now c.answer.new.yard c.in-Ok.said c.count-before.result c.count.result c.sent_since.result s.carries c.count-before.ensures.count c.count.ensures.count c.sent_since.ensures (c.in-Ok.ensures.leads d s.stands closed s.carries s.good)
-          (λ free off. c.in-Ok.ensures.called d s.stands off (open_links d.world c.args.words.now (closed free)) s.carries s.good free),
+          (λ free off. c.in-Ok.ensures.called d s.stands off (closed free) s.carries s.good free),
       subst (λ xs. Appends (g.O.Sink.written c.args.out.now) (g.O.Sink.written c.send.new.sink) xs) (c.deref.ensures.value ∙ c.in-Ok-replied.ensures) c.in-Ok-send.ensures.bytes,
     )
 
@@ -46,7 +45,7 @@ returns-clause-line g c = λ d s.
       bytes.0,
       bytes.1,
       answer_steps d c.args.words.now c.args.yard.now c.answer.new.yard c.in-Ok.said c.count-before.result c.count.result c.sent_since.result s.carries c.count-before.ensures.count c.count.ensures.count c.sent_since.ensures (c.in-Ok.ensures.leads d s.stands closed s.carries s.good)
-          (λ free off. c.in-Ok.ensures.called d s.stands off (open_links d.world c.args.words.now (closed free)) s.carries s.good free),
+          (λ free off. c.in-Ok.ensures.called d s.stands off (closed free) s.carries s.good free),
       sym (c.deref.ensures.value ∙ c.in-Ok-replied.ensures) ∙ bytes.2,
       bytes.3,
       bytes.4,
@@ -54,7 +53,7 @@ returns-clause-line g c = λ d s.
 
 pub returns-then-ends_run-clause-asked : goal.returns-then-ends_run-clause-asked
 returns-then-ends_run-clause-asked g c = λ d s free off links.
-    absurd (let clash : true ≡ false = sym (c.ends_run.ensures.ends c.if-ends_run.true d s.stands s.carries).is ∙ open_beside d.world c.args.words.now off links in cc)
+    absurd (let clash : true ≡ false = sym (c.ends_run.ensures.ends c.if-ends_run.true d s.stands s.carries).is ∙ links in cc)
 
 pub returns-in_default-clause-asked : goal.returns-in_default-clause-asked
 returns-in_default-clause-asked g c = λ d s free off links. c.in_default.ensures.asked d s.stands free off links
@@ -73,19 +72,19 @@ returns-then-ends_run-clause-settled g c = λ d s free. settled_still c.args.wor
 
 pub returns-in_default-clause-settled : goal.returns-in_default-clause-settled
 returns-in_default-clause-settled g c = λ d s free.
-    c.in_default.ensures.settled d s.stands (open_links d.world c.args.words.now (c.ends_run.ensures.closed c.if-ends_run.false free d s.stands s.carries)) s.carries s.good free
+    c.in_default.ensures.settled d s.stands (c.ends_run.ensures.closed c.if-ends_run.false free d s.stands s.carries) s.carries s.good free
 
 pub returns-in_default-replied-clause-settled : goal.returns-in_default-replied-clause-settled
 returns-in_default-replied-clause-settled g c = λ d s free.
-    c.in-Ok.ensures.settled d s.stands (open_links d.world c.args.words.now (c.ends_run.ensures.closed c.if-ends_run.false free d s.stands s.carries)) s.carries s.good free
+    c.in-Ok.ensures.settled d s.stands (c.ends_run.ensures.closed c.if-ends_run.false free d s.stands s.carries) s.carries s.good free
 
 pub returns-in-Ok-send-clause-settled : goal.returns-in-Ok-send-clause-settled
 returns-in-Ok-send-clause-settled g c = λ d s free.
-    c.in-Ok.ensures.settled d s.stands (open_links d.world c.args.words.now (c.ends_run.ensures.closed c.if-ends_run.false free d s.stands s.carries)) s.carries s.good free
+    c.in-Ok.ensures.settled d s.stands (c.ends_run.ensures.closed c.if-ends_run.false free d s.stands s.carries) s.carries s.good free
 
 pub returns-clause-settled : goal.returns-clause-settled
 returns-clause-settled g c = λ d s free.
-    c.in-Ok.ensures.settled d s.stands (open_links d.world c.args.words.now (c.ends_run.ensures.closed c.if-ends_run.false free d s.stands s.carries)) s.carries s.good free
+    c.in-Ok.ensures.settled d s.stands (c.ends_run.ensures.closed c.if-ends_run.false free d s.stands s.carries) s.carries s.good free
 
 pub returns-then-ends_run-clause-done : goal.returns-then-ends_run-clause-done
 returns-then-ends_run-clause-done g c = λ d s none goes. absurd (goes refl)
@@ -98,7 +97,7 @@ returns-in_default-replied-clause-done g c = λ d s none goes.
     let closed = λ (free : IsFree c.args.yard.now c.args.words.now). c.ends_run.ensures.closed c.if-ends_run.false free d s.stands s.carries in (
       text_of c.in-Ok.said c.sent_since.result,
       answer_steps d c.args.words.now c.args.yard.now c.answer.new.yard c.in-Ok.said c.count-before.result c.count.result c.sent_since.result s.carries c.count-before.ensures.count c.count.ensures.count c.sent_since.ensures (c.in-Ok.ensures.leads d s.stands closed s.carries s.good)
-          (λ free off. c.in-Ok.ensures.called d s.stands off (open_links d.world c.args.words.now (closed free)) s.carries s.good free),
+          (λ free off. c.in-Ok.ensures.called d s.stands off (closed free) s.carries s.good free),
     )
 
 pub returns-in-Ok-send-clause-done : goal.returns-in-Ok-send-clause-done
@@ -106,7 +105,7 @@ returns-in-Ok-send-clause-done g c = λ d s none goes.
     let closed = λ (free : IsFree c.args.yard.now c.args.words.now). c.ends_run.ensures.closed c.if-ends_run.false free d s.stands s.carries in (
       text_of c.in-Ok.said c.sent_since.result,
       answer_steps d c.args.words.now c.args.yard.now c.answer.new.yard c.in-Ok.said c.count-before.result c.count.result c.sent_since.result s.carries c.count-before.ensures.count c.count.ensures.count c.sent_since.ensures (c.in-Ok.ensures.leads d s.stands closed s.carries s.good)
-          (λ free off. c.in-Ok.ensures.called d s.stands off (open_links d.world c.args.words.now (closed free)) s.carries s.good free),
+          (λ free off. c.in-Ok.ensures.called d s.stands off (closed free) s.carries s.good free),
     )
 
 pub returns-clause-done : goal.returns-clause-done
@@ -114,5 +113,5 @@ returns-clause-done g c = λ d s none goes.
     let closed = λ (free : IsFree c.args.yard.now c.args.words.now). c.ends_run.ensures.closed c.if-ends_run.false free d s.stands s.carries in (
       text_of c.in-Ok.said c.sent_since.result,
       answer_steps d c.args.words.now c.args.yard.now c.answer.new.yard c.in-Ok.said c.count-before.result c.count.result c.sent_since.result s.carries c.count-before.ensures.count c.count.ensures.count c.sent_since.ensures (c.in-Ok.ensures.leads d s.stands closed s.carries s.good)
-          (λ free off. c.in-Ok.ensures.called d s.stands off (open_links d.world c.args.words.now (closed free)) s.carries s.good free),
+          (λ free off. c.in-Ok.ensures.called d s.stands off (closed free) s.carries s.good free),
     )
