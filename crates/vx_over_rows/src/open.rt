@@ -2,25 +2,8 @@
 use crate::done::ends_at;
 use std::test::Fail;
 
-// A line on a plex is one where the site is halted, and one that makes a volume. Five lines make the group, and two its replicated volume group.
-#[test]
-fn a_run_ends_at_a_line_on_the_group_of_a_halted_site(rt: HostRuntime) -> Result<(), Fail> {
-    let made =
-        "vol a w 64 mirrors=1 layout=concat log=none fmr=off rdpol=round\nrvg a srl=log1 dcm=maps vols=w\nwrite a w 0 1 11\ndisk a 0 fail\napply a 1\n";
-    let wanted =
-        "done\ndone\ndone\ndone\ndone\ndone\ndone\ndone 1\ndone\nno 7 device 0\nbad 11 1\n";
-    for line in [
-        "plex a v 1 det\n",
-        "plex a v 1 att\n",
-        "plex a w 0 att\n",
-        "vol a u 64 mirrors=1 layout=concat log=none fmr=off rdpol=round\n",
-    ] {
-        assert!(rt; ends_at(&rt, rt.alloc(), made, line, 11, wanted)?, "{line}");
-    }
-    Ok(())
-}
-
-// A run ends at a link from the site or to it. The other site has one volume of the same size, and a log of the same.
+// A run ends at a link from the site or to it. The other site has one volume of the same size, and a log of the same. Five lines make the group, and one its replicated
+// volume group.
 #[test]
 fn a_run_ends_at_a_link(rt: HostRuntime) -> Result<(), Fail> {
     let made = "rvg a srl=log1 dcm=maps vols=v\nsite b 3 256\nraw b\n";
@@ -38,9 +21,17 @@ fn a_run_ends_at_a_link(rt: HostRuntime) -> Result<(), Fail> {
 #[test]
 fn lines_before_it_are_done(rt: HostRuntime) -> Result<(), Fail> {
     let made =
-        "vol a w 64 mirrors=1 layout=concat log=none fmr=off rdpol=round\nrvg a srl=log1 dcm=maps vols=w\nwrite a w 0 1 11\nread a w 0 1\ndisk a 0 fail\napply a 1\n";
-    let wanted =
-        "done\ndone\ndone\ndone\ndone\ndone\ndone\ndone 1\n11\ndone\nno 7 device 0\nbad 12 1\n";
-    assert!(rt; ends_at(&rt, rt.alloc(), made, "plex a v 1 det\nfoo\n", 12, wanted)?);
+        "rvg a srl=log1 dcm=maps vols=v\nsite b 3 256\nraw b\nwrite a v 0 1 11\nread a v 0 1\n";
+    let wanted = "done\ndone\ndone\ndone\ndone\ndone\ndone\ndone\ndone 1\n11\nbad 11 1\n";
+    assert!(rt;
+        ends_at(
+            &rt,
+            rt.alloc(),
+            made,
+            "link a b synchronous=off srlprot=fail\nfoo\n",
+            11,
+            wanted
+        )?
+    );
     Ok(())
 }

@@ -28,6 +28,17 @@ fn a_volume_is_refused_beside_the_data_volumes(rt: HostRuntime) -> Result<(), Fa
     Ok(())
 }
 
+// At a site that a failing disk halted a volume is made as at one that runs.
+#[test]
+fn a_volume_is_made_at_a_halted_site(rt: HostRuntime) -> Result<(), Fail> {
+    let script =
+        b"site a 2 1024\ndg a init\nvol a log1 64 mirrors=2 layout=concat log=none fmr=off rdpol=round\nvol a maps 8 mirrors=2 layout=concat log=none fmr=off rdpol=round\nvol a v 256 mirrors=2 layout=concat log=none fmr=off rdpol=round\nvol a w 64 mirrors=1 layout=concat log=none fmr=off rdpol=round\nrvg a srl=log1 dcm=maps vols=v,w\nwrite a w 0 1 11\ndisk a 0 fail\napply a 1\ndisk a 0 ok\nvol a u 64 mirrors=2 layout=concat log=none fmr=off rdpol=round\nvol a u 64 mirrors=1 layout=concat log=none fmr=off rdpol=round\nplex a u 0 det\nread a u 0 1\ncrash a 0\nrecover a\nread a u 63 1\nread a w 0 2\n";
+    let wanted =
+        "done\ndone\ndone\ndone\ndone\ndone\ndone\ndone 1\ndone\nno 7 device 0\ndone\ndone\nno 2 exists u\ndone\nno 20 halted 0\ndone\nrecovered 1\nsite a up\ndisk 0 ok\ndisk 1 ok\nvol log1 64 none off\nplex 0 ACTIVE\nplex 1 ACTIVE\nvol maps 8 none off\nplex 0 ACTIVE\nplex 1 ACTIVE\nvol v 256 none off\nplex 0 ACTIVE\nplex 1 ACTIVE\nvol w 64 none off\nplex 0 ACTIVE\nvol u 64 none off\nplex 0 STALE\nplex 1 ACTIVE\nrvg primary 1 a head 1 mark consistent session 2\n00\n11\n00\n";
+    assert!(rt; is_done(&rt, rt.alloc(), script, wanted)?);
+    Ok(())
+}
+
 // Whether a volume before which so many calls were let pass is answered so, and what the recovery shows of it is this.
 fn is_made<H: Threads + Wait + Sync>(
     handle: &H,
