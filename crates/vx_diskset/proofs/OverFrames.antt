@@ -1,5 +1,5 @@
 -- A replicated volume group over the volumes of a group of which others changed, or were made.
-use Rattle.std.proofs.Common.{◌≡◌, ◌∙◌, ◌⊎◌, inl, ⊎_elim, ℕ, zero, suc, ◌*◌, ◌<◌, Bool, true, false, List, [], ◌∷◌, length, drop, map, ltb, Option, Some, None, MatchOption, IsTrue, ap, subst, sym, refl, arith}
+use Rattle.std.proofs.Common.{◌≡◌, ◌∙◌, ◌⊎◌, ⊎_elim, ℕ, zero, suc, ◌*◌, ◌<◌, Bool, true, false, List, [], ◌∷◌, length, drop, take, map, ltb, Option, Some, None, MatchOption, IsTrue, ap, subst, sym, refl, arith}
 use Rattle.std.proofs.lemmas.Bool.{cases_lt, le-ltb}
 use Rattle.std.proofs.lemmas.List.Sums.{sum_by-cons}
 use Rattle.std.specs.List.{sum_by}
@@ -25,8 +25,6 @@ use Rattle.vx_diskset.proofs.BesideLemmas.{never_besides, site_map}
 use Rattle.vx_diskset.proofs.MixedImages.{aside_of, left_mixed}
 use Rattle.vx_diskset.proofs.Laying.{laid_in, over_there}
 use Rattle.vx_events.specs.RvgNotes.{inside_of}
-use Rattle.vx_diskset.proofs.Receiving.{as_held, as_receiver, durable_of, receiver_up}
-use Rattle.vx_diskset.proofs.StaysUp.{kept_whole, told_now, writes_found}
 use Rattle.vx_model.specs.declared.call.Update.{Update}
 use Rattle.vx_history.specs.Steps.{burned, worked}
 use Rattle.vx_history.specs.World.{Fuse, NoFuse, FuseSet, FuseLit, Node}
@@ -38,17 +36,15 @@ use Rattle.vx_rvg.specs.Contents.{writes_of}
 use Rattle.vx_rvg.specs.Holdings.{Holding}
 use Rattle.vx_rvg.specs.Stands.{Stands}
 use Rattle.vx_rvg.specs.Views.{Core, IsSound, applied_count, unit_of, volume_size}
-use Rattle.vx_rvg.proofs.ContentFacts.{left_found}
 use Rattle.vx_rvg.proofs.WriteSound.{within_same}
 use Rattle.vx_srl.specs.Rings.{RingOn}
 use Rattle.vx_secondary.specs.Receivers.{Wait, can_log}
 use Rattle.vx_grouped.specs.Volumes.{SiteGoes, VolumesGo, laid_seen}
 use Rattle.vx_diskset.specs.Fuses.{FuseOn}
 use Rattle.vx_diskset.specs.Holds.{HasSite, KeptBeside}
-use Rattle.vx_diskset.specs.Lasts.{StandsHolding}
 use Rattle.vx_diskset.specs.OverKeeps.{BelowGoes}
 use Rattle.vx_diskset.specs.Stands.{AboveStands, IsHeldAt, IsReceiverAt, IsUpAt, OverStands}
-use Rattle.vx_diskset.proofs.LastWrites.{stands_with, still_with}
+use Rattle.vx_diskset.proofs.LastWrites.{still_with}
 
 was_running : (before after : Bool) → (IsTrue before → IsTrue after) → IsFalse after → IsFalse before
 was_running false after falls up = refl

@@ -1,7 +1,7 @@
 -- Calls on the group below a replicated volume group: it stands as it did, or the site crashed behind the call.
 use Rattle.std.proofs.Common.{◌≡◌, ℕ, ◌<◌, List, length, refl, ap, sym, ◌∙◌, subst}
 use Rattle.vx_diskset.proofs.RawSets.{over_on}
-use Rattle.std.specs.Prelude.{IsFalse, None}
+use Rattle.std.specs.Prelude.{IsFalse}
 use Rattle.vx_disk.specs.Moves.{Blocks, Nowhere}
 use Rattle.vx_disk.specs.Racks.{IsRack}
 use Rattle.vx_disk.specs.Shelf.{Covers, Lawful}

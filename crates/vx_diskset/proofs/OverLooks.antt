@@ -1,6 +1,6 @@
 -- What is read of a write that was cut, at a site whose replicated volume group came up with its group.
 use Rattle.std.proofs.Common.{◌≡◌, ◌∙◌, ◌⊎◌, inl, ℕ, ap, length, refl, subst, sym}
-use Rattle.std.specs.Prelude.{Err, None, Ok, Option, Result, Some}
+use Rattle.std.specs.Prelude.{Err, Ok, Option, Result, Some}
 use Rattle.vx_disk.specs.Counts.{Rose}
 use Rattle.vx_disk.specs.Moves.{Nowhere}
 use Rattle.vx_disk.specs.Racks.{IsRack}

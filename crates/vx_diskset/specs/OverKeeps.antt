@@ -1,5 +1,5 @@
 -- What calls on the group below a replicated volume group make of that.
-use Rattle.std.specs.Prelude.{◌≡◌, IsFalse, None, Some}
+use Rattle.std.specs.Prelude.{◌≡◌, IsFalse, Some}
 use Rattle.vx_disk.specs.Moves.{Blocks}
 use Rattle.vx_disk.specs.Racks.{Stopped}
 use Rattle.vx_disk.specs.declared.shelf.Shelf.{Ghosts}
