@@ -45,7 +45,7 @@ use Rattle.vx_diskset.specs.declared.over_set.OverSet.{OverSet}
 use Rattle.vx_diskset.proofs.GroundNotes.{ground_tidy, ground_up, note_ground}
 use Rattle.vx_diskset.proofs.MadeOver.{fuse_over, group_as}
 use Rattle.vx_diskset.proofs.MakeEnds.{or_left}
-use Rattle.vx_diskset.proofs.OverCame.{log_inside, or_right, vol_inside}
+use Rattle.vx_diskset.proofs.InsideUnits.{log_inside, or_right, vol_inside}
 use Rattle.vx_diskset.proofs.OverFinds.{found_may, found_over, set_found, whole_found}
 use Rattle.vx_diskset.proofs.OverNoted.{note_read}
 use Rattle.vx_diskset.proofs.StaysUp.{not_true}

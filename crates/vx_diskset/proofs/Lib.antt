@@ -120,3 +120,4 @@ pub mod UnderCalling
 pub mod UnitsLie
 pub mod OverLooks
 pub mod OverRisen
+pub mod InsideUnits

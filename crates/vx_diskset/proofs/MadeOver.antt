@@ -65,7 +65,7 @@ use Rattle.vx_diskset.specs.declared.over_set.OverSet.{OverSet}
 use Rattle.vx_diskset.proofs.GroundNotes.{ground_agrees, ground_tidy, ground_up, note_ground, note_works}
 use Rattle.vx_diskset.proofs.MakeEnds.{left_may, or_left, sizes_then}
 use Rattle.vx_diskset.proofs.Narrowing.{block_chosen, is_named, narrowed_left, narrows, note_narrowed, one_value}
-use Rattle.vx_diskset.proofs.OverCame.{log_inside, or_right, vol_inside}
+use Rattle.vx_diskset.proofs.InsideUnits.{log_inside, or_right, vol_inside}
 use Rattle.vx_diskset.proofs.OverFrames.{OverUp, over_from}
 use Rattle.vx_diskset.proofs.OverMaking.{placed_then}
 use Rattle.vx_diskset.proofs.OverNoted.{note_read}

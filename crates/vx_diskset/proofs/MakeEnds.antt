@@ -43,7 +43,7 @@ use Rattle.vx_diskset.specs.declared.disk_set.DiskSet.TheVariants.{OfGroup}
 use Rattle.vx_diskset.specs.declared.group_set.CutWrite.{CutWrite}
 use Rattle.vx_diskset.proofs.CountMoves.{counts_lose}
 use Rattle.vx_diskset.proofs.GroundNotes.{ground_agrees, ground_lies, ground_lit, ground_up, note_ground, note_works, sure_of}
-use Rattle.vx_diskset.proofs.OverCame.{or_right}
+use Rattle.vx_diskset.proofs.InsideUnits.{or_right}
 
 not_both : (b : Bool) → IsTrue b → IsFalse b → ⊥
 not_both true is off = let clash : true ≡ false = off in cc

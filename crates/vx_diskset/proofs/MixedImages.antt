@@ -24,7 +24,7 @@ use Rattle.vx_diskset.specs.Holds.{HasSite, HasWrites, KeptBeside}
 use Rattle.vx_diskset.specs.Layouts.{IsLaid, units_of}
 use Rattle.vx_diskset.proofs.BesideLemmas.{site_sure}
 use Rattle.vx_diskset.proofs.Narrowing.{is_named, named_in}
-use Rattle.vx_diskset.proofs.OverCame.{log_inside, or_right, vol_inside}
+use Rattle.vx_diskset.proofs.InsideUnits.{log_inside, or_right, vol_inside}
 use Rattle.vx_diskset.proofs.Rewriting.{place_among}
 
 -- ---- the units of a replicated volume group

@@ -15,7 +15,7 @@ use Rattle.vx_history.specs.World.{Volume}
 use Rattle.vx_model.specs.declared.units.Units.{Units}
 use Rattle.vx_rvg.specs.Views.{UnitsPlaced, unit_of}
 use Rattle.vx_diskset.specs.Makings.{NarrowsNote}
-use Rattle.vx_diskset.proofs.OverCame.{any_of}
+use Rattle.vx_diskset.proofs.InsideUnits.{any_of}
 use Rattle.vx_diskset.proofs.Rewriting.{place_among}
 
 -- ---- whether a volume is one of these

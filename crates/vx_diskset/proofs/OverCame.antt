@@ -1,8 +1,7 @@
 -- What the volumes of a group have of a replicated volume group behind an import of disks that crashed, or were deported.
-use Rattle.std.proofs.Common.{◌≡◌, ◌∙◌, inl, inr, ⊎_elim, ℕ, zero, suc, ◌+◌, ◌<◌, ◌≤◌, Bool, true, false, List, [], ◌∷◌, length, IsTrue, ap, arith, refl, subst, sym, ◌⊎◌}
-use Rattle.std.specs.Prelude.{◌||◌, ◌==◌, None, Some, get_or}
-use Rattle.std.specs.List.{list_any}
-use Rattle.std.proofs.lemmas.Bool.{cases_lt, eq-eqb}
+use Rattle.std.proofs.Common.{◌≡◌, ◌∙◌, inl, inr, ⊎_elim, ℕ, ◌+◌, ◌<◌, ◌≤◌, true, List, [], length, IsTrue, ap, arith, subst, sym, ◌⊎◌}
+use Rattle.std.specs.Prelude.{None, Some}
+use Rattle.std.proofs.lemmas.Bool.{cases_lt}
 use Rattle.vx_config.specs.Checks.{blocks_of}
 use Rattle.vx_config.specs.declared.config.Config.{Config}
 use Rattle.vx_copyfmt.specs.Imports.{Found}
@@ -42,27 +41,9 @@ use Rattle.vx_volume.specs.Plexes.{Inside}
 use Rattle.vx_group.specs.Settles.{LivesAgree}
 use Rattle.vx_kept.proofs.Narrower.{wanted_sound}
 use Rattle.vx_group.proofs.FoundLemmas.{found_wanted}
+use Rattle.vx_diskset.proofs.InsideUnits.{log_inside, vol_inside}
 use Rattle.vx_diskset.proofs.OverClean.{clean_value}
 use Rattle.vx_diskset.proofs.OverCrash.{shown, shows}
-
--- ---- the volumes of a replicated volume group
-
-pub or_right : (a b : Bool) → b ≡ true → (a || b) ≡ true
-or_right true b is = refl
-or_right false b is = is
-
-pub any_of : (w : ℕ) (xs : List ℕ) (v : ℕ) → v < length xs → get_or xs v 0 ≡ w → list_any (λ x. x == w) xs ≡ true
-any_of w [] v low is = absurd (omega (arith, low))
-any_of w (x ∷ xs) zero low is = ap (λ (t : Bool). t || list_any (λ y. y == w) xs) (eq-eqb x w is)
-any_of w (x ∷ xs) (suc v) low is = or_right (x == w) (list_any (λ y. y == w) xs) (any_of w xs v (omega (arith, low)) is)
-
-pub log_inside : (u : Units) → inside_of u u.srl ≡ true
-log_inside u = ap (λ (t : Bool). t || ((u.srl == u.maps) || list_any (λ x. x == u.srl) u.vols)) (eq-eqb u.srl u.srl refl)
-
-pub vol_inside : (u : Units) (v : ℕ) → v < length u.vols → inside_of u (unit_of u.vols v) ≡ true
-vol_inside u v low =
-    let w : ℕ = unit_of u.vols v in
-    or_right (w == u.srl) ((w == u.maps) || list_any (λ x. x == w) u.vols) (or_right (w == u.maps) (list_any (λ x. x == w) u.vols) (any_of w u.vols v low refl))
 
 -- ---- one image says what is left of them
 
