@@ -73,64 +73,66 @@ others_unnamed name units place (v ∷ vs) away none =
 
 -- ---- how many there are
 
--- whether it is this one, as a number
-abbrev one_if : Bool → ℕ
-one_if true = 1
-one_if false = 0
+-- one more, if this is so
+abbrev more_if : Bool → ℕ → ℕ
+more_if true n = suc n
+more_if false n = n
 
 -- of so many places, the first of which is this one, those of data volumes
-marked : List ℕ → (place n : ℕ) → ℕ
+abbrev marked : List ℕ → (place n : ℕ) → ℕ
 marked ps place zero = 0
-marked ps place (suc n) = one_if (is_data_unit ps place) + marked ps (place + 1) n
+marked ps place (suc n) = more_if (is_data_unit ps place) (marked ps (place + 1) n)
 
-equal_to : (p place n : ℕ) → ℕ
+abbrev equal_to : (p place n : ℕ) → ℕ
 equal_to p place zero = 0
-equal_to p place (suc n) = one_if (p == place) + equal_to p (place + 1) n
+equal_to p place (suc n) = more_if (p == place) (equal_to p (place + 1) n)
 
 none_behind : (p place n : ℕ) → p < place → equal_to p place n ≡ 0
 none_behind p place zero past = refl
 none_behind p place (suc n) past =
     let off : (p == place) ≡ false = grind (arith, nat_tests) in
-    ap (λ (b : Bool). one_if b + equal_to p (place + 1) n) off ∙ none_behind p (place + 1) n (omega (arith, past))
+    ap (λ (b : Bool). more_if b (equal_to p (place + 1) n)) off ∙ none_behind p (place + 1) n (omega (arith, past))
+
+one_only : (p place n : ℕ) (b : Bool) → (p == place) ≡ b → equal_to p (place + 1) n ≤ 1 → more_if b (equal_to p (place + 1) n) ≤ 1
+one_only p place n true is few =
+    let rest : equal_to p (place + 1) n ≡ 0 = none_behind p (place + 1) n (omega (arith, eqb-true p place is)) in
+    subst (λ (k : ℕ). suc k ≤ 1) (sym rest) (omega arith)
+one_only p place n false is few = few
 
 most_one : (p place n : ℕ) → equal_to p place n ≤ 1
-most_one p place zero = omega arith
-most_one p place (suc n) = by (p == place) refl
-  where
-    by : (b : Bool) → (p == place) ≡ b → one_if (p == place) + equal_to p (place + 1) n ≤ 1
-    by true is =
-        let rest : equal_to p (place + 1) n ≡ 0 = none_behind p (place + 1) n (omega (arith, eqb-true p place is)) in
-        subst (λ (c : Bool). one_if c + equal_to p (place + 1) n ≤ 1) (sym is) (omega (arith, rest))
-    by false is = subst (λ (c : Bool). one_if c + equal_to p (place + 1) n ≤ 1) (sym is) (omega (arith, most_one p (place + 1) n))
+most_one p place zero = let it : 0 ≤ 1 = omega arith in it
+most_one p place (suc n) = one_only p place n (p == place) refl (most_one p (place + 1) n)
 
-either_one : (a b : Bool) → one_if (a || b) ≤ one_if a + one_if b
-either_one true b = omega arith
-either_one false b = omega arith
+either_more : (a b : Bool) (x y z : ℕ) → x ≤ y + z → more_if (a || b) x ≤ more_if a y + more_if b z
+either_more true true x y z le = let it : suc x ≤ suc y + suc z = omega (arith, le) in it
+either_more true false x y z le = let it : suc x ≤ suc y + z = omega (arith, le) in it
+either_more false true x y z le = let it : suc x ≤ y + suc z = omega (arith, le) in it
+either_more false false x y z le = le
 
 marked_more : (p : ℕ) (ps : List ℕ) (place n : ℕ) → marked (p ∷ ps) place n ≤ equal_to p place n + marked ps place n
-marked_more p ps place zero = omega arith
-marked_more p ps place (suc n) = omega (arith, either_one (p == place) (is_data_unit ps place), marked_more p ps (place + 1) n)
+marked_more p ps place zero = let it : 0 ≤ 0 + 0 = omega arith in it
+marked_more p ps place (suc n) = either_more (p == place) (is_data_unit ps place) (marked (p ∷ ps) (place + 1) n) (equal_to p (place + 1) n) (marked ps (place + 1) n) (marked_more p ps (place + 1) n)
 
 marked_none : (place n : ℕ) → marked [] place n ≡ 0
 marked_none place zero = refl
 marked_none place (suc n) = marked_none (place + 1) n
 
+few_more : (k x y z : ℕ) → x ≤ y + z → y ≤ 1 → z ≤ k → x ≤ suc k
+few_more k x y z more one few = omega (arith, more, one, few)
+
 marked_few : (ps : List ℕ) (place n : ℕ) → marked ps place n ≤ length ps
-marked_few [] place n = omega (arith, marked_none place n)
-marked_few (p ∷ ps) place n = omega (arith, marked_more p ps place n, most_one p place n, marked_few ps place n)
+marked_few [] place n = subst (λ (k : ℕ). k ≤ 0) (sym (marked_none place n)) (omega arith)
+marked_few (p ∷ ps) place n = few_more (length ps) (marked (p ∷ ps) place n) (equal_to p place n) (marked ps place n) (marked_more p ps place n) (most_one p place n) (marked_few ps place n)
+
+-- this one is among the others, or a data volume
+data_more : (b : Bool) (f : VolumeFacts) (fs : List VolumeFacts) (k m : ℕ) → k ≤ length fs + m → suc k ≤ length (unless_data b f fs) + more_if b m
+data_more true f fs k m le = let it : suc k ≤ length fs + suc m = omega (arith, le) in it
+data_more false f fs k m le = let it : suc k ≤ suc (length fs) + m = omega (arith, le) in it
 
 others_count : (units : Units) (place : ℕ) (vs : List VolumeEntry) → length vs ≤ length (others_from units place vs) + marked units.vols place (length vs)
-others_count units place [] = omega arith
-others_count units place (v ∷ vs) = by (is_data_unit units.vols place) refl
-  where
-    by : (b : Bool) → is_data_unit units.vols place ≡ b
-        → length vs + 1 ≤ length (unless_data (is_data_unit units.vols place) (kinded units place v) (others_from units (place + 1) vs)) + (one_if (is_data_unit units.vols place) + marked units.vols (place + 1) (length vs))
-    by true is =
-        subst (λ (c : Bool). length vs + 1 ≤ length (unless_data c (kinded units place v) (others_from units (place + 1) vs)) + (one_if c + marked units.vols (place + 1) (length vs))) (sym is)
-        (omega (arith, others_count units (place + 1) vs))
-    by false is =
-        subst (λ (c : Bool). length vs + 1 ≤ length (unless_data c (kinded units place v) (others_from units (place + 1) vs)) + (one_if c + marked units.vols (place + 1) (length vs))) (sym is)
-        (omega (arith, others_count units (place + 1) vs))
+others_count units place [] = let it : 0 ≤ 0 + 0 = omega arith in it
+others_count units place (v ∷ vs) =
+    data_more (is_data_unit units.vols place) (kinded units place v) (others_from units (place + 1) vs) (length vs) (marked units.vols (place + 1) (length vs)) (others_count units (place + 1) vs)
 
 data_count : (vs : List VolumeEntry) (places : List ℕ) → length (data_facts vs places (map as_volume (map (data_at vs) places))) ≡ length places
 data_count vs [] = refl
