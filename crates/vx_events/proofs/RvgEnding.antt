@@ -109,7 +109,7 @@ done_by d s line taken next events ending new tells left = but_by false d s line
 
 under_stops : (told : Type 0) (d : Doubted) (line : ScriptLine) (s : ℕ) (fails : Fails) (said : Said) (new : Doubted) → EndsBelow told d line s fails said new → GroupStops d new
 under_stops told d line s fails said new (AsGroup ends) = group_stops told d line s fails said new ends
-under_stops told d line s fails said new (CutBelow kept next are fused cuts says left) = stop_by d new s line next (CrashAt s kept ∷ []) refl left
+under_stops told d line s fails said new (CutBelow kept next are fused cuts says left) = stop_by d new s line next (CrashAt s (crash_count (d.world.nodes s) kept) ∷ []) refl left
 
 -- ---- recoveries
 

@@ -151,7 +151,7 @@ ends_over_strays told d line s fails said new h =
 -- one on the group alone
 under_strays : (told : Type 0) (d : Doubted) (line : ScriptLine) (s : ℕ) (fails : Fails) (said : Said) (new : Doubted) → EndsBelow told d line s fails said new → StraysAs d new
 under_strays told d line s fails said new (AsGroup ends) = group_strays told d line s fails said new ends
-under_strays told d line s fails said new (CutBelow kept next are fused cuts says left) = left.strayed ∙ run_strays false d (CrashAt s kept ∷ [])
+under_strays told d line s fails said new (CutBelow kept next are fused cuts says left) = left.strayed ∙ run_strays false d (CrashAt s (crash_count (d.world.nodes s) kept) ∷ [])
 
 below_strays : (told : Type 0) (d : Doubted) (line : ScriptLine) (s : ℕ) (fails : Fails) (said : Said) (new : Doubted) → BelowEnds told d line s fails said new → StraysAs d new
 below_strays told d line s fails said new h = h.left.strayed ∙ under_strays told (missed_world h.missed d s) line s fails said h.middle h.ends

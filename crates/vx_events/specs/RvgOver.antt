@@ -27,6 +27,7 @@ use Rattle.vx_events.specs.GroupReplies.{GivesPlain}
 use Rattle.vx_events.specs.RvgBack.{RvgBack, RvgFinds}
 use Rattle.vx_events.specs.RvgMakes.{noting_in}
 use Rattle.vx_events.specs.RvgViews.{over_disks, table_at}
+use Rattle.vx_events.specs.Lists.{crash_count}
 use Rattle.vx_events.specs.RvgWorks.{FuseRanOut, NoneFailed, NotesWork}
 use Rattle.vx_events.specs.declared.said.Said.{Said}
 use Rattle.vx_events.specs.declared.said.Said.TheVariants.{Refused, Shown}
@@ -133,11 +134,12 @@ note_loosened loosens note = record note { loose = loosens || note.loose }
 abbrev pub loosened_at : Bool → World → ℕ → World
 loosened_at loosens v s = noting v s (note_loosened loosens (note_at (v.nodes s)))
 
--- It ends as one at a group without a replicated volume group; or its fuse ran out, and the crash kept so many writes of the site, which may be halted.
+-- It ends as one at a group without a replicated volume group; or its fuse ran out, and the crash kept the durable writes of a site that runs, and so many of one that is
+-- halted.
 pub data EndsBelow (told : Type 0) (d : Doubted) (line : ScriptLine) (s : ℕ) (fails : Fails) (said : Said) (new : Doubted) : Type 0 where
   AsGroup : GroupEnds told d line s fails said new → EndsBelow told d line s fails said new
   CutBelow : (kept : ℕ) (next : GroupNode) → AreOf s fails → IsFused (d.world.nodes s).fuse → GroupCuts s (note_at (d.world.nodes s)) line fails next → said ≡ Refused IsOff
-      → IsLeftOver s line next (run_as false d (CrashAt s kept ∷ [])) new → EndsBelow told d line s fails said new
+      → IsLeftOver s line next (run_as false d (CrashAt s (crash_count (d.world.nodes s) kept) ∷ [])) new → EndsBelow told d line s fails said new
 
 -- What plexes missed as it begins, and the serial, are not noted where calls of a replicated volume group
 -- change them: it may be anything. Where a call on a disk failed, or the fuse ran out, imports of the group may disagree behind it.

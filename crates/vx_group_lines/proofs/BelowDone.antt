@@ -14,7 +14,7 @@ use Rattle.vx_config.specs.declared.config.Config.{Config}
 use Rattle.vx_config.specs.declared.entry.VolumeEntry.{VolumeEntry}
 use Rattle.vx_kept.specs.Cleans.{at_serial}
 use Rattle.vx_history.proofs.Updates.{at_place}
-use Rattle.vx_history.specs.Doubts.{Doubted, happened}
+use Rattle.vx_history.specs.Doubts.{Doubted}
 use Rattle.vx_history.specs.Groups.{GroupNode, MissedNote, NoteSettles, NoteUnsettles}
 use Rattle.vx_history.specs.Missing.{no_maps, with_maps}
 use Rattle.vx_history.specs.Steps.{burned, crashed, worked, worked_on}
@@ -49,6 +49,7 @@ use Rattle.vx_events.specs.GroupMaps.{MapsLost}
 use Rattle.vx_events.specs.GroupNotes.{note_at}
 use Rattle.vx_events.specs.GroupViews.{noted_table, plain_fact, volumes_of}
 use Rattle.vx_events.specs.LinkedFacts.{linked_fact}
+use Rattle.vx_events.specs.Lists.{crash_count}
 use Rattle.vx_events.specs.RvgFits.{KeptVolume, NoteKeepsRvg, config_rvg, entries_noted, rvg_noted}
 use Rattle.vx_events.specs.RvgOver.{AsGroup, BelowEnds, CutBelow, EndsBelow, OverRvg, loosened_at, missed_world, note_loosened}
 use Rattle.vx_events.specs.RvgSteps.{rvg_place}
@@ -74,7 +75,7 @@ use Rattle.vx_above.proofs.OverSeen.{seen_like}
 use Rattle.vx_above.proofs.OverSites.{note_is, over_again}
 use Rattle.vx_above.proofs.SiteCalls.{calls, names_below, rose_below}
 use Rattle.vx_above.proofs.Tables.{table_like}
-use Rattle.vx_group_lines.proofs.BelowOff.{FollowsOff, below_fell, world_kept}
+use Rattle.vx_group_lines.proofs.BelowOff.{FollowsOff, below_fell, crash_kept, world_kept}
 use Rattle.vx_group_lines.proofs.BelowUp.{BelowCalled, NotesBelow, below_follows}
 use Rattle.vx_group_lines.proofs.GroupDone.{Turns, burned_noted}
 use Rattle.vx_group_lines.proofs.GroupEnding.{IsQuiet, LeftDone, Means, Midway, SameTable, lets_on, load_on, world_up}
@@ -179,7 +180,7 @@ pub record IsBelowLine (d : Doubted) (s : ℕ) (line : ScriptLine) : Type 0 wher
   pub done : (k : GroupNode) → LeftDone d s line k
   pub broke : (k : GroupNode) → IsLeftOver s line k (run_as false d (refused_events (d.world.nodes s) s line)) (world_up d s k)
   pub lacks : (k : GroupNode) → IsLeftOver s line k d (world_up d s k)
-  pub off : (count : ℕ) (k : GroupNode) → IsLeftOver s line k (run_as false d (CrashAt s count ∷ [])) (world_kept d s count k)
+  pub off : (count : ℕ) (k : GroupNode) → IsLeftOver s line k (run_as false d (CrashAt s (crash_count (d.world.nodes s) count) ∷ [])) (world_kept d s count k)
 
 module _ {R : Type 0} {g : Ghosts R} where
   -- what the line leads a yard to, by the regions that are noted as missed as it begins
@@ -357,7 +358,7 @@ module _ {R : Type 0} {g : Ghosts R} where
             ends = ends fell.count;
             loosens = loosens_of k;
             why = why;
-            left = tidied_as (happened d (CrashAt s fell.count) false) s k;
+            left = tidied_as (crash_kept d s fell.count) s k;
             stands = fell.follows.stands;
             carries = fell.follows.carries;
             rose = rises;

@@ -1,14 +1,13 @@
 -- What a call on the group below a replicated volume group leads the yard to, that wrote to no volume, where imports of the group may disagree behind it.
-use Rattle.std.proofs.Common.{◌≡◌, ℕ, Bool, true, false, List, length, refl, sym}
+use Rattle.std.proofs.Common.{◌≡◌, ℕ, Bool, true, List, length, refl, sym}
 use Rattle.std.specs.Prelude.{Some, slice_set}
 use Rattle.vx_model.specs.declared.units.Units.{Units}
 use Rattle.vx_disk.specs.declared.shelf.Shelf.{Ghosts}
 use Rattle.vx_effects.specs.Facts.{down_fact}
-use Rattle.vx_history.specs.Doubts.{Doubted, happened}
+use Rattle.vx_history.specs.Doubts.{Doubted}
 use Rattle.vx_history.specs.Groups.{GroupNode}
 use Rattle.vx_history.specs.Steps.{burned, crashed}
 use Rattle.vx_history.specs.World.{Node}
-use Rattle.vx_history.specs.declared.event.Event.TheVariants.{Crash as CrashAt}
 use Rattle.vx_script.specs.declared.line.ScriptLine.{ScriptLine}
 use Rattle.vx_grouped.specs.GroupSites.{DownNoted, UpNoted, with_note}
 use Rattle.vx_diskset.specs.Aboves.{site_in}
@@ -37,7 +36,7 @@ use Rattle.vx_above.proofs.OverSeen.{seen_like}
 use Rattle.vx_above.proofs.OverSites.{over_again}
 use Rattle.vx_above.proofs.Tables.{table_like}
 use Rattle.vx_group_lines.proofs.BelowDone.{LeadsBelow, loosened_world}
-use Rattle.vx_group_lines.proofs.BelowOff.{FollowsOff, below_fell, world_kept}
+use Rattle.vx_group_lines.proofs.BelowOff.{FollowsOff, below_fell, crash_kept, world_kept}
 use Rattle.vx_group_lines.proofs.BelowUp.{BelowCalled, NotesBelow, below_follows}
 use Rattle.vx_group_lines.proofs.GroupEnding.{world_up}
 use Rattle.vx_group_lines.proofs.GroupLeads.{Follows}
@@ -98,7 +97,7 @@ module _ {R : Type 0} {g : Ghosts R} (d : Doubted) (line : ScriptLine) (old new 
         ends = ends fell.count;
         loosens = loosens;
         why = why;
-        left = loosened_as loosens (happened d (CrashAt s fell.count) false) s k;
+        left = loosened_as loosens (crash_kept d s fell.count) s k;
         stands = fell.follows.stands;
         carries = fell.follows.carries;
         rose = rises;

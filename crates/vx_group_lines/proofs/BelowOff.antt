@@ -1,15 +1,20 @@
--- What calls on the group below a replicated volume group lead the yard of a site to whose fuse ran out in them: it crashed, and kept some of its writes.
-use Rattle.std.proofs.Common.{◌≡◌, ◌∙◌, ◌⊎◌, inl, inr, ℕ, ◌≤◌, Bool, true, false, List, length, map, ap, sym, subst, refl, arith}
-use Rattle.std.specs.Prelude.{Some, None, if◌then◌else◌, slice_set}
+-- What calls on the group below a replicated volume group lead the yard of a site to whose fuse ran out in them: it crashed, and keeps all its writes, or, where it
+-- was halted, some of them.
+use Rattle.std.proofs.Common.{◌≡◌, ◌∙◌, ◌⊎◌, inl, inr, ℕ, ◌<◌, ◌≤◌, Bool, true, false, List, length, map, ap, sym, subst, refl, arith}
+use Rattle.std.specs.Prelude.{Option, Some, None, if◌then◌else◌, slice_set}
 use Rattle.vx_model.specs.Content.{Write}
-use Rattle.vx_model.specs.declared.site.SiteState.TheVariants.{Down as IsDown}
+use Rattle.vx_model.specs.Sites.{is_origin}
+use Rattle.vx_model.specs.declared.site.SiteState.TheVariants.{Up as IsUp, Down as IsDown}
 use Rattle.vx_model.specs.declared.units.Units.{Units}
 use Rattle.vx_disk.specs.declared.shelf.Shelf.{Ghosts}
 use Rattle.vx_effects.proofs.Leaving.{fit_note, fit_worked}
 use Rattle.vx_effects.proofs.Rises.{note_effect}
 use Rattle.vx_effects.specs.Facts.{down_fact}
-use Rattle.vx_history.specs.Doubts.{Doubted, happened}
+use Rattle.vx_history.specs.Doubts.{Doubted, happened, resolved_at}
+use Rattle.vx_history.specs.Events.{crash_at, kept_of}
 use Rattle.vx_history.specs.Groups.{GroupNode}
+use Rattle.vx_history.specs.Refusals.{Outcome}
+use Rattle.vx_history.specs.Step.{done, headers_counted}
 use Rattle.vx_history.specs.Steps.{burned, crashed}
 use Rattle.vx_history.specs.World.{Fuse, Node, NoFuse}
 use Rattle.vx_history.specs.declared.event.Event.TheVariants.{Crash as CrashAt}
@@ -28,17 +33,21 @@ use Rattle.vx_diskset.specs.Holds.{KeptBeside, KeptSite, beside_of, itself, sure
 use Rattle.vx_diskset.specs.Layouts.{units_of}
 use Rattle.vx_diskset.specs.Noted.{NotedOn, NotedOver, RestsNamed, SiteNoted, below_rvg}
 use Rattle.vx_diskset.specs.OverKeeps.{KeptBy, StaysHere}
-use Rattle.vx_diskset.specs.Stands.{SiteStands}
+use Rattle.vx_diskset.specs.Stands.{OverStands, SiteStands}
 use Rattle.vx_diskset.specs.declared.disk_set.DiskSet.{DiskSet}
 use Rattle.vx_diskset.specs.declared.disk_set.DiskSet.TheVariants.{Over}
 use Rattle.vx_diskset.specs.declared.over_set.OverSet.{OverSet}
+use Rattle.vx_diskset.specs.declared.over_set.OverSite.{OverSite}
+use Rattle.vx_diskset.specs.declared.over_set.OverSite.TheVariants.{Origin as OriginSite, Receiver as ReceiverSite, Deported as GroupAway, Down as GroupFell, Gone as NoGroup}
 use Rattle.vx_events.proofs.Places.{never_some, some_same}
 use Rattle.vx_events.proofs.RvgEvents.{rvg_apart}
+use Rattle.vx_events.proofs.Steps.{crash_step}
 use Rattle.vx_events.specs.Effects.{EffectAt}
 use Rattle.vx_events.specs.Facts.{volume_fact}
 use Rattle.vx_events.specs.GroupLines.{noting}
 use Rattle.vx_events.specs.GroupNotes.{note_at}
 use Rattle.vx_events.specs.LinksFit.{LinksFit}
+use Rattle.vx_events.specs.Lists.{crash_count, kept_while}
 use Rattle.vx_events.specs.RvgFits.{entries_noted, rvg_noted}
 use Rattle.vx_events.specs.RvgViews.{is_over_rvg, over_table}
 use Rattle.vx_yard.proofs.ApplySite.{comes_effect, worked_effect}
@@ -60,9 +69,31 @@ use Rattle.vx_group_lines.proofs.RvgReturns.{named_again}
 
 -- ---- the crash
 
--- the world behind one that kept so many writes, with this note
+-- the world behind one of a site, which kept so many writes if it was halted
+abbrev pub crash_kept : Doubted → ℕ → ℕ → Doubted
+crash_kept d s count = happened d (CrashAt s (crash_count (d.world.nodes s) count)) false
+
+-- and with this note
 abbrev pub world_kept : Doubted → ℕ → ℕ → GroupNode → Doubted
-world_kept d s count k = world_up (happened d (CrashAt s count) false) s k
+world_kept d s count k = world_up (crash_kept d s count) s k
+
+-- two crashes that keep as many writes are one
+crash_as : (d : Doubted) (s j k : ℕ) → s < d.world.sites → (d.world.nodes s).state ≡ IsUp → kept_of (d.world.nodes s) j ≡ kept_of (d.world.nodes s) k → happened d (CrashAt s j) false ≡ happened d (CrashAt s k) false
+crash_as d s j k below up same =
+    ap (λ (o : Outcome). let x : Doubted = record (resolved_at d s false) { world = (headers_counted d.world (CrashAt s 0) o).world } in x)
+    (crash_step d.world s j below up ∙ ap (λ (x : ℕ). done (crash_at d.world s x)) same ∙ sym (crash_step d.world s k below up))
+
+-- a site all of whose writes are durable keeps them
+all_kept : (n : Node) (count : ℕ) → length n.log ≤ n.safe → n.safe ≤ count → count ≤ length n.log → kept_of n count ≡ kept_of n n.safe
+all_kept n count durable least most = omega (arith, durable, least, most)
+
+-- so one that keeps so many is told of by how many a line keeps
+kept_counts : (n : Node) (count : ℕ) → (n.halted ≡ None → length n.log ≤ n.safe) → n.safe ≤ count → count ≤ length n.log → kept_of n count ≡ kept_of n (crash_count n count)
+kept_counts n count durable least most = by n.halted refl
+  where
+    by : (o : Option ℕ) → n.halted ≡ o → kept_of n count ≡ kept_of n (crash_count n count)
+    by None is = all_kept n count (durable is) least most ∙ sym (ap (λ (x : Option ℕ). kept_of n (kept_while x n.safe count)) is)
+    by (Some disk) is = sym (ap (λ (x : Option ℕ). kept_of n (kept_while x n.safe count)) is)
 
 -- so many writes are kept of those of the site
 pub record FellSo {R : Type 0} {g : Ghosts R} (beside : KeptBeside) (n : Node) (p : OverSet R g) : Type 0 where
@@ -84,6 +115,14 @@ fell_like n k m state disks blocks group fuse = record {
 }
 
 module _ {R : Type 0} {g : Ghosts R} where
+  -- writes arise at the site, and while it runs all are durable
+  running_durable : (beside : KeptBeside) (n : Node) (s : OverSite R g) → n.state ≡ IsUp → is_origin n.role ≡ true → OverStands beside n s → n.halted ≡ None → length n.log ≤ n.safe
+  running_durable beside n (OriginSite f) up origin it running = it.durable running
+  running_durable beside n (ReceiverSite f) up origin it running = absurd (let clash : true ≡ false = sym origin ∙ it.role in cc)
+  running_durable beside n (GroupAway idle) up origin it running = absurd (let clash = sym it.0 ∙ up in cc)
+  running_durable beside n (GroupFell idle) up origin it running = absurd (down_up (sym it.0 ∙ up))
+  running_durable beside n NoGroup up origin it running = absurd it
+
   -- the yard stands for such a crash, and carries it
   pub record FollowsOff (d : Doubted) (s : ℕ) (k : GroupNode) (old new : Yard R g) : Type 0 where
     pub count : ℕ
@@ -131,6 +170,9 @@ module _ {R : Type 0} {g : Ghosts R} where
     fell =
         fell_so (beside_of d s) n p call.at.stands.0.1
         (off_kept (beside_of d s) n (crashed (with_note k (below_rvg n)) 0) k p (site_in p) noted (call.kept.each (beside_of d s) n call.at.stands call.up))
+
+    kept_same : kept_of n fell.count ≡ kept_of n (crash_count n fell.count)
+    kept_same = kept_counts n fell.count (running_durable (beside_of d s) n call.at.set.site call.up call.at.stands.0.5 call.at.stands.1) fell.least fell.most
 
     abbrev e : Doubted
     e = crash_of d s fell.count false
@@ -230,7 +272,10 @@ module _ {R : Type 0} {g : Ghosts R} where
     }
 
     pub fell_by : new.facts.items ≡ slice_set old.facts.items s (down_fact (fact_from (d.world.nodes s) (d.world.links s) d.world.sites)) → LetsGo old new s → FollowsOff d s k old new
-    fell_by facts lets = record { count = fell.count; follows = fell_follows facts lets }
+    fell_by facts lets = record {
+      count = fell.count;
+      follows = subst (λ (x : Doubted). Follows d (world_up x s k) old new) (crash_as d s fell.count (crash_count (d.world.nodes s) fell.count) call.at.seat.below call.up kept_same) (fell_follows facts lets);
+    }
 
   -- where no write is cut
   module _ (d : Doubted) (old new : Yard R g) (name : List ℕ) (s : ℕ) (before after : DiskSet R g) (p : OverSet R g) (stands : StandsFor d old) (call : BelowCalled d old new name s before after p)

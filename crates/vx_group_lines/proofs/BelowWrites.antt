@@ -13,13 +13,12 @@ use Rattle.vx_disk.specs.declared.shelf.Shelf.{Ghosts}
 use Rattle.vx_config.specs.declared.config.Config.{Config}
 use Rattle.vx_config.specs.declared.entry.VolumeEntry.{VolumeEntry}
 use Rattle.vx_kept.specs.Cleans.{at_serial}
-use Rattle.vx_history.specs.Doubts.{Doubted, happened}
+use Rattle.vx_history.specs.Doubts.{Doubted}
 use Rattle.vx_history.specs.Groups.{GroupNode, NoteSettles, NoteUnsettles, note_cut, note_doubt, note_write}
 use Rattle.vx_history.specs.MapChanges.{InNoVolume, InVolume, StayKnown}
 use Rattle.vx_history.specs.Missing.{no_maps, this_volume, with_maps}
 use Rattle.vx_history.specs.Steps.{burned, crashed}
 use Rattle.vx_history.specs.World.{Node}
-use Rattle.vx_history.specs.declared.event.Event.TheVariants.{Crash as CrashAt}
 use Rattle.vx_order.specs.Calls.{is_data}
 use Rattle.vx_order.specs.declared.facts.SiteFacts.{SiteFacts}
 use Rattle.vx_order.specs.declared.facts.VolumeFacts.{VolumeFacts}
@@ -91,7 +90,7 @@ use Rattle.vx_above.proofs.Tables.{table_like}
 use Rattle.vx_group_lines.proofs.BelowAt.{BelowAt, BelowCall, below_at, below_call}
 use Rattle.vx_group_lines.proofs.BelowDone.{LeadsBelow, leads_above, loosened_world, never_on, seen_keeps, tight_then}
 use Rattle.vx_group_lines.proofs.BelowMissed.{missed_carries, missed_site, missed_stands}
-use Rattle.vx_group_lines.proofs.BelowOff.{FollowsOff, fell_by, world_kept}
+use Rattle.vx_group_lines.proofs.BelowOff.{FollowsOff, crash_kept, fell_by, world_kept}
 use Rattle.vx_group_lines.proofs.BelowUp.{BelowAs, NotesStill, OverBehind, follows_by, overs_behind}
 use Rattle.vx_group_lines.proofs.GroupEnding.{world_up}
 use Rattle.vx_group_lines.proofs.GroupLeads.{Follows}
@@ -321,7 +320,7 @@ module _ {R : Type 0} {g : Ghosts R} where
               (record { world = refl; after = λ i. refl; strayed = refl });
           loosens = true;
           why = λ on none never. never (wrote.3, refl);
-          left = record { world = sym (loosened_world true (happened d (CrashAt s fell.count) false).world s k); after = λ i. refl; strayed = refl };
+          left = record { world = sym (loosened_world true (crash_kept d s fell.count).world s k); after = λ i. refl; strayed = refl };
           stands = fell.follows.stands;
           carries = fell.follows.carries;
           rose = rises many;

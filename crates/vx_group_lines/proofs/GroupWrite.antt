@@ -35,6 +35,7 @@ use Rattle.vx_events.specs.GroupEnds.{AreOf, GroupCut, GroupDone, GroupEnds, Gro
 use Rattle.vx_events.specs.GroupLines.{noting, plain_number}
 use Rattle.vx_events.specs.GroupNotes.{NotesCut, NotesDoubt, NotesWrite, Reconfigures, note_at}
 use Rattle.vx_events.specs.GroupViews.{noted_table}
+use Rattle.vx_events.specs.Lists.{crash_count}
 use Rattle.vx_events.specs.RvgOver.{CutBelow, EndsBelow}
 use Rattle.vx_events.specs.StepsOver.{fact_of_group, group_place, is_for_group, over_group_at}
 use Rattle.vx_events.specs.declared.said.Said.{Said}
@@ -125,9 +126,9 @@ module _ (told : Type 0) (d e : Doubted) (line : ScriptLine) (name volume : List
           subst (λ (l : ScriptLine). GroupEnds told d l s fails (Refused IsOff) e) (sym is)
           (GroupCut next are fused (named_write (λ x. NotesCut s fails x was_note next) was_note volume start place bytes bytes number refl cuts) refl is_as)
 
-  -- below a replicated volume group, which kept so many of its writes
+  -- below a replicated volume group, of which the crash keeps so many writes where it was halted
   pub under_ends : (kept : ℕ) → IsFused (d.world.nodes s).fuse → NotesCut s fails (plain_write place start bytes) (note_at (d.world.nodes s)) next
-      → IsAs (happened d (CrashAt s kept) false) (worked_on (noting (happened d (CrashAt s kept) false).world s next) s) e → EndsBelow told d line s fails (Refused IsOff) e
+      → IsAs (happened d (CrashAt s (crash_count (d.world.nodes s) kept)) false) (worked_on (noting (happened d (CrashAt s (crash_count (d.world.nodes s) kept)) false).world s next) s) e → EndsBelow told d line s fails (Refused IsOff) e
   under_ends kept fused cuts is_as = by is
     where
       by : IsWriteLine line name volume start bytes → EndsBelow told d line s fails (Refused IsOff) e

@@ -31,6 +31,7 @@ use Rattle.vx_events.specs.RvgBack.{GroupHeld, GroupUnfound, IsLeftBack, KeptLos
 use Rattle.vx_events.specs.Brights.{AllBright, IsBright, IsBrightNote}
 use Rattle.vx_events.specs.RvgMakes.{IsLeftRvg, MakesRvg, RvgCut, RvgDone, RvgFails, RvgLacks, noting_in, units_at}
 use Rattle.vx_events.specs.RvgNotes.{volume_events}
+use Rattle.vx_events.specs.Lists.{crash_count}
 use Rattle.vx_events.specs.OpenLines.{is_open}
 use Rattle.vx_order.specs.Calls.{is_data}
 use Rattle.vx_events.proofs.ReadsLeave.{read_by}
@@ -108,7 +109,7 @@ group_bright d b fails said new told line s held here (FindsNoGroup next why are
 under_bright : (d : Doubted) → AllBright d → (fails : Fails) (said : Said) (new : Doubted) (told : Type 0) (line : ScriptLine) (s : ℕ) → (IsHeldDown line said → ⊥) → IsBright (new.world.nodes s) → EndsBelow told d line s fails said new → AllBright new
 under_bright d b fails said new told line s held here (AsGroup ends) = group_bright d b fails said new told line s held here ends
 under_bright d b fails said new told line s held here (CutBelow kept next are fused cuts says left) =
-    over_bright s line next (run_as false d (CrashAt s kept ∷ [])) new left here (run_bright false d (CrashAt s kept ∷ []) b)
+    over_bright s line next (run_as false d (CrashAt s (crash_count (d.world.nodes s) kept) ∷ [])) new left here (run_bright false d (CrashAt s (crash_count (d.world.nodes s) kept) ∷ []) b)
 
 module _ (told : Type 0) (tells : told) (d : Doubted) (b : AllBright d) (fails : Fails) (said : Said) (new : Doubted) where
   rises_bright : (line : ScriptLine) (s : ℕ) → (IsHeldDown line said → ⊥) → IsBright (new.world.nodes s) → RvgBack told d line s fails said new → AllBright new

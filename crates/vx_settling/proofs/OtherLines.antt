@@ -179,7 +179,7 @@ module _ (i : ℕ) (o : Option GroupNode) where
   under_notes : (d : Doubted) → OtherNotes.Standing i o d → (told : Type 0) (fails : Fails) (said : Said) (new : Doubted) (line : ScriptLine) (s : ℕ) → eqb i s ≡ false → EndsBelow told d line s fails said new → HasNote i o new
   under_notes d x told fails said new line s apart (AsGroup ends) = group_notes d x told fails said new line s apart ends
   under_notes d x told fails said new line s apart (CutBelow kept next are fused cuts says left) =
-      over_notes s line next (run_as false d (CrashAt s kept ∷ [])) new apart left (OtherNotes.run_stands i o false d (CrashAt s kept ∷ []) x).has
+      over_notes s line next (run_as false d (CrashAt s (crash_count (d.world.nodes s) kept) ∷ [])) new apart left (OtherNotes.run_stands i o false d (CrashAt s (crash_count (d.world.nodes s) kept) ∷ []) x).has
 
   module _ (d : Doubted) (x : OtherNotes.Standing i o d) where
     -- what events lead to
