@@ -79,7 +79,7 @@ module _ (units : Units) (i j : Image) where
   }
 
 -- a site over a group
-module _ {beside : KeptBeside} (n : Node) (m : Meaning) (laid : IsLaid (units_of n) n.ring n.volumes n.base.size m) where
+module _ (n : Node) (m : Meaning) (laid : IsLaid (units_of n) n.ring n.volumes n.base.size m) where
   -- a volume of its content is one of them
   content_there : (c : Content) → ((v : ℕ) → c.size v ≡ n.base.size v) → (v b : ℕ) → b < c.size v → v < length (units_of n).vols
   content_there c sizes v b low = ⊎_elim
@@ -87,6 +87,7 @@ module _ {beside : KeptBeside} (n : Node) (m : Meaning) (laid : IsLaid (units_of
       (λ high. absurd (let many = laid.count in let none = laid.none v (omega (arith, high, many)) in let same = sizes v in omega (arith, low, none, same)))
       (cases_lt v (length (units_of n).vols))
 
+module _ {beside : KeptBeside} (n : Node) (m : Meaning) (laid : IsLaid (units_of n) n.ring n.volumes n.base.size m) where
   writes_mixed : (i j : Image) → HasWrites beside n (mixed (units_of n) i j) → HasWrites beside n i
   writes_mixed i j has = record {
     count = has.count;
@@ -97,7 +98,7 @@ module _ {beside : KeptBeside} (n : Node) (m : Meaning) (laid : IsLaid (units_of
       has = has.found.has;
       needs = has.found.needs;
       found = found_mixed (units_of n) i j n.ring _ n.session _ has.found.held
-          (content_there has.found.held.content (λ v. ap (λ (k : Content). k.size v) has.found.has.content ∙ folded_size n.base (drop n.safe (take has.count n.log)) v)) has.found.found;
+          (content_there n m laid has.found.held.content (λ v. ap (λ (k : Content). k.size v) has.found.has.content ∙ folded_size n.base (drop n.safe (take has.count n.log)) v)) has.found.found;
     };
   }
 
