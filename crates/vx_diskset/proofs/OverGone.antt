@@ -1,6 +1,6 @@
 -- Disks by themselves, of a site that was deported, as its note has them: behind a start that was refused, or an import of which nothing is known any more.
 use Rattle.std.proofs.Common.{◌≡◌, ◌∙◌, ℕ, Bool, List, true, false, IsTrue, ap, refl, subst, sym}
-use Rattle.std.specs.Prelude.{Option}
+use Rattle.std.specs.Prelude.{◌||◌, Option}
 use Rattle.vx_disk.specs.Shelf.{Meaning}
 use Rattle.vx_disk.specs.declared.shelf.Shelf.{Ghosts}
 use Rattle.vx_grouped.proofs.AlikeLemmas.{less_deported}

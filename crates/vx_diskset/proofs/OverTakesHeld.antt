@@ -124,7 +124,7 @@ module _ {R : Type 0} {g : Ghosts R} (racks : (s : Shade R) → IsRack (shade_me
     refused = subst (λ (b : Bool). ImportRefused b site_ready ready (idle_ready idle) (Deported now) stop) on (by.imported (below_rvg n) note away)
 
     site_at : s.site ≡ GroupAway now
-    site_at = given_site s.site now at
+    site_at = given_site laws s.site now at
 
     why_held : ImportWhy (IsTrue (site_disks (site_in s)).tells) (KnownAway (IsTrue (site_disks (site_in s)).tells) ready) (idle_ready idle) (site_disks (site_in s)) stop
     why_held = subst (λ (e : GroupSite R g). ImportWhy (IsTrue (site_disks e).tells) (KnownAway (IsTrue (site_disks e).tells) ready) (idle_ready idle) (site_disks e) stop) (sym at) refused.2
@@ -316,7 +316,7 @@ module _ {R : Type 0} {g : Ghosts R} (racks : (s : Shade R) → IsRack (shade_me
                     (record { is = refl; none = record { role = refl; volumes = refl; log = refl; safe = refl; running = refl } }) state (back.armed ∙ stopped_last.unarmed)
                     (λ off. let clash : true ≡ false = sym off ∙ back.up in cc) refl refl)
                     (named_dim (not x.agreed) (not idle.agreed) x none_x);
-                stands = dim_away (not x.agreed) (not idle.agreed) x (λ told. never_both (idle_disks x).tells ((ready_under g x.agreed x.rack).tells told) none_x.tells) s NoFuse (given_site s.site x at);
+                stands = dim_away (not x.agreed) (not idle.agreed) x (λ told. never_both (idle_disks x).tells ((ready_under g x.agreed x.rack).tells told) none_x.tells) s NoFuse (given_site laws s.site x at);
               }
 
         -- they are down

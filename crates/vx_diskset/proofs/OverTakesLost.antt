@@ -209,7 +209,7 @@ module _ {R : Type 0} {g : Ghosts R} (racks : (s : Shade R) → IsRack (shade_me
                 why = why;
                 noted = gone_noted session it.0;
                 stands = lost_away racks laws beside n laid told has mid since only fell.fell fell.is session from found rest lost_units n.state NoFuse (never_lacks it.0) x
-                    (subst (λ (m : Meaning). LeavesLess m (idle_ready x)) ready_is less_x) over state s (given_site s.site x at);
+                    (subst (λ (m : Meaning). LeavesLess m (idle_ready x)) ready_is less_x) over state s (given_site laws s.site x at);
               }
               by_end (inr it) = absurd (up (cut_down lost_node worked_note (Up mid) it.0))
 
