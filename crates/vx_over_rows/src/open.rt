@@ -21,15 +21,15 @@ fn a_run_ends_at_a_link(rt: HostRuntime) -> Result<(), Fail> {
 #[test]
 fn lines_before_it_are_done(rt: HostRuntime) -> Result<(), Fail> {
     let made =
-        "rvg a srl=log1 dcm=maps vols=v\nsite b 3 256\nraw b\nwrite a v 0 1 11\nread a v 0 1\n";
-    let wanted = "done\ndone\ndone\ndone\ndone\ndone\ndone\ndone\ndone 1\n11\nbad 11 1\n";
+        "vol a w 64 mirrors=1 layout=concat log=none fmr=off rdpol=round\nrvg a srl=log1 dcm=maps vols=v\nsite b 3 256\nraw b\nwrite a w 0 1 11\nread a w 0 1\n";
+    let wanted = "done\ndone\ndone\ndone\ndone\ndone\ndone\ndone\ndone\ndone\n11\nbad 12 1\n";
     assert!(rt;
         ends_at(
             &rt,
             rt.alloc(),
             made,
             "link a b synchronous=off srlprot=fail\nfoo\n",
-            11,
+            12,
             wanted
         )?
     );

@@ -65,9 +65,9 @@ fn an_attach_is_refused_where_nothing_can_be_copied(rt: HostRuntime) -> Result<(
 #[test]
 fn plexes_of_a_halted_site_are_detached_and_attached(rt: HostRuntime) -> Result<(), Fail> {
     let script =
-        b"site a 2 1024\ndg a init\nvol a log1 64 mirrors=2 layout=concat log=none fmr=off rdpol=round\nvol a maps 8 mirrors=2 layout=concat log=none fmr=off rdpol=round\nvol a v 256 mirrors=2 layout=concat log=none fmr=off rdpol=round\nvol a w 64 mirrors=1 layout=concat log=none fmr=off rdpol=round\nrvg a srl=log1 dcm=maps vols=v,w\nwrite a w 0 1 11\ndisk a 0 fail\napply a 1\ndisk a 0 ok\nplex a v 1 det\nplex a v 0 det\nplex a v 1 att\nplex a log1 0 det\nplex a log1 0 att\nplex a maps 1 det\nplex a w 0 det\nread a w 0 1\nwrite a v 0 1 22\ncrash a 0\nrecover a\nread a w 0 2\nread a v 0 1\nwrite a v 0 1 22\n";
+        b"site a 2 1024\ndg a init\nvol a log1 64 mirrors=2 layout=concat log=none fmr=off rdpol=round\nvol a maps 16 mirrors=2 layout=concat log=none fmr=off rdpol=round\nvol a v 256 mirrors=2 layout=concat log=none fmr=off rdpol=round\nvol a w 64 mirrors=1 layout=concat log=none fmr=off rdpol=round\nrvg a srl=log1 dcm=maps vols=v,w\nwrite a w 0 1 11\ndisk a 0 fail\napply a 1\ndisk a 0 ok\nplex a v 1 det\nplex a v 0 det\nplex a v 1 att\nplex a log1 0 det\nplex a log1 0 att\nplex a maps 1 det\nplex a w 0 det\nread a w 0 1\nwrite a v 0 1 22\ncrash a 0\nrecover a\nread a w 0 2\nread a v 0 1\nwrite a v 0 1 22\n";
     let wanted =
-        "done\ndone\ndone\ndone\ndone\ndone\ndone\ndone 1\ndone\nno 7 device 0\ndone\ndone\nno 10 lastplex\ndone 4\ndone\ndone 1\ndone\nno 10 lastplex\nno 20 halted 0\nno 20 halted 0\ndone\nrecovered 1\nsite a up\ndisk 0 ok\ndisk 1 ok\nvol log1 64 none off\nplex 0 ACTIVE\nplex 1 ACTIVE\nvol maps 8 none off\nplex 0 ACTIVE\nplex 1 STALE\nvol v 256 none off\nplex 0 ACTIVE\nplex 1 ACTIVE\nvol w 64 none off\nplex 0 ACTIVE\nrvg primary 1 a head 1 mark consistent session 2\n11\n00\n00\ndone 2\n";
+        "done\ndone\ndone\ndone\ndone\ndone\ndone\ndone 1\ndone\nno 7 device 0\ndone\ndone\nno 10 lastplex\ndone 4\ndone\ndone 1\ndone\nno 10 lastplex\nno 20 halted 0\nno 20 halted 0\ndone\nrecovered 1\nsite a up\ndisk 0 ok\ndisk 1 ok\nvol log1 64 none off\nplex 0 ACTIVE\nplex 1 ACTIVE\nvol maps 16 none off\nplex 0 ACTIVE\nplex 1 STALE\nvol v 256 none off\nplex 0 ACTIVE\nplex 1 ACTIVE\nvol w 64 none off\nplex 0 ACTIVE\nrvg primary 1 a head 1 mark consistent session 2\n11\n00\n00\ndone 2\n";
     assert!(rt; is_done(&rt, rt.alloc(), script, wanted)?);
     Ok(())
 }
@@ -82,10 +82,10 @@ fn is_detached<H: Threads + Wait + Sync>(
     state: &str,
 ) -> Result<bool, OutOfMemory> {
     let script = format!(in alloc;
-        "site a 2 1024\ndg a init\nvol a l 8 mirrors=2 layout=concat log=none fmr=off rdpol=round\nvol a m 8 mirrors=2 layout=concat log=none fmr=off rdpol=round\nvol a v 16 mirrors=2 layout=concat log=none fmr=off rdpol=round\nvol a w 8 mirrors=1 layout=concat log=none fmr=off rdpol=round\nrvg a srl=l dcm=m vols=v,w\nwrite a v 0 2 22\napply a 1\nwrite a w 0 1 33\ndisk a 0 fail\napply a 2\ndisk a 0 ok\nfuse a {calls} {pick}\nplex a v 1 det\nrecover a\nread a v 0 3\nread a w 0 1\n"
+        "site a 2 1024\ndg a init\nvol a l 8 mirrors=2 layout=concat log=none fmr=off rdpol=round\nvol a m 16 mirrors=2 layout=concat log=none fmr=off rdpol=round\nvol a v 16 mirrors=2 layout=concat log=none fmr=off rdpol=round\nvol a w 8 mirrors=1 layout=concat log=none fmr=off rdpol=round\nrvg a srl=l dcm=m vols=v,w\nwrite a v 0 2 22\napply a 1\nwrite a w 0 1 33\ndisk a 0 fail\napply a 2\ndisk a 0 ok\nfuse a {calls} {pick}\nplex a v 1 det\nrecover a\nread a v 0 3\nread a w 0 1\n"
     )?;
     let wanted = format!(in alloc;
-        "done\ndone\ndone\ndone\ndone\ndone\ndone\ndone 1\ndone 1\ndone 2\ndone\nno 7 device 0\ndone\ndone\n{reply}\nrecovered 2\nsite a up\ndisk 0 ok\ndisk 1 ok\nvol l 8 none off\nplex 0 ACTIVE\nplex 1 ACTIVE\nvol m 8 none off\nplex 0 ACTIVE\nplex 1 ACTIVE\nvol v 16 none off\nplex 0 ACTIVE\nplex 1 {state}\nvol w 8 none off\nplex 0 ACTIVE\nrvg primary 1 a head 2 mark consistent session 2\n22\n22\n00\n33\n"
+        "done\ndone\ndone\ndone\ndone\ndone\ndone\ndone 1\ndone 1\ndone 2\ndone\nno 7 device 0\ndone\ndone\n{reply}\nrecovered 2\nsite a up\ndisk 0 ok\ndisk 1 ok\nvol l 8 none off\nplex 0 ACTIVE\nplex 1 ACTIVE\nvol m 16 none off\nplex 0 ACTIVE\nplex 1 ACTIVE\nvol v 16 none off\nplex 0 ACTIVE\nplex 1 {state}\nvol w 8 none off\nplex 0 ACTIVE\nrvg primary 1 a head 2 mark consistent session 2\n22\n22\n00\n33\n"
     )?;
     is_done(handle, alloc, script.as_bytes(), &wanted)
 }
