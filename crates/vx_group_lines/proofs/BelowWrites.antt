@@ -142,12 +142,12 @@ write_seat d line name volume start bytes (OfPut is one) = ap (λ (l : ScriptLin
 
 module _ {R : Type 0} {g : Ghosts R} where
   -- the call of such a line on the group, in a world in which no maps are noted
-  record WriteCall (d : Doubted) (old new : Yard R g) (name volume : List ℕ) (start : ℕ) (bytes : List ℕ) (s place : ℕ) (before after : DiskSet R g) (p : OverSet R g) : Type 0 where
-    called : BelowAs d old new name s before after p
-    asks : UpNoted (below_rvg (d.world.nodes s)) (note_at (d.world.nodes s)) (site_in called.at.set)
-    fits : FitsPlain (note_at (d.world.nodes s)) place start (length bytes)
-    number : plain_number (note_at (d.world.nodes s)) volume ≡ place
-    none : (note_at (d.world.nodes s)).maps ≡ no_maps
+  pub record WriteCall (d : Doubted) (old new : Yard R g) (name volume : List ℕ) (start : ℕ) (bytes : List ℕ) (s place : ℕ) (before after : DiskSet R g) (p : OverSet R g) : Type 0 where
+    pub called : BelowAs d old new name s before after p
+    pub asks : UpNoted (below_rvg (d.world.nodes s)) (note_at (d.world.nodes s)) (site_in called.at.set)
+    pub fits : FitsPlain (note_at (d.world.nodes s)) place start (length bytes)
+    pub number : plain_number (note_at (d.world.nodes s)) volume ≡ place
+    pub none : (note_at (d.world.nodes s)).maps ≡ no_maps
 
   module _ (d : Doubted) (old new : Yard R g) (line : ScriptLine) (name volume : List ℕ) (start : ℕ) (bytes : List ℕ) (s place : ℕ) (before after : DiskSet R g) (p : OverSet R g) (stands : StandsFor d old) (is : IsWriteLine line name volume start bytes)
       (call : WriteCall d old new name volume start bytes s place before after p) where
@@ -365,11 +365,11 @@ module _ {R : Type 0} {g : Ghosts R} where
   module _ (d : Doubted) (old : Yard R g) (name volume : List ℕ) (start count s place : ℕ) (before : DiskSet R g) (stands : StandsFor d old) (seat : seat_of old.facts.items name ≡ Some s) (over : over_rvg_at d.world name ≡ true)
       (plain : is_data (kind_named (d.world.nodes (site_number d.world name)) volume) ≡ false) (may : CallMay old.facts.items name volume start count) (there : slice_get old.disk_sets.items s ≡ Some before)
       (number : (c : Config) → HasConfig s c old → place ≡ number_in c.volumes volume) where
-    abbrev n : Node
-    n = d.world.nodes s
+    abbrev node_was : Node
+    node_was = d.world.nodes s
 
-    abbrev m : Node
-    m = missed_site no_maps (d.world.nodes s)
+    abbrev node_bare : Node
+    node_bare = missed_site no_maps (d.world.nodes s)
 
     at : BelowAt d old name s before
     at = below_at d old name s before stands seat over there
@@ -384,12 +384,12 @@ module _ {R : Type 0} {g : Ghosts R} where
     bare_number = (place_at (missed_world no_maps d s) old name s bare_stands seat).number
 
     still_over : is_over_rvg (missed_site no_maps (d.world.nodes s)) ≡ true
-    still_over = over_again n m (with_maps no_maps (note_at n)) at.over refl refl
+    still_over = over_again node_was node_bare (with_maps no_maps (note_at node_was)) at.over refl refl
 
     same_table : table_at (missed_site no_maps (d.world.nodes s)) ≡ table_at (d.world.nodes s)
     same_table =
-        ap (λ (b : Bool). if b then over_table m (note_at m) else []) still_over
-        ∙ sym (ap (λ (b : Bool). if b then over_table n (note_at n) else []) at.over)
+        ap (λ (b : Bool). if b then over_table node_bare (note_at node_bare) else []) still_over
+        ∙ sym (ap (λ (b : Bool). if b then over_table node_was (note_at node_was) else []) at.over)
 
     -- the volume is no data volume
     pub plain_here : is_data (kind_named (d.world.nodes s) volume) ≡ false
@@ -458,7 +458,7 @@ module _ {R : Type 0} {g : Ghosts R} where
 
       pub stop_above : (no : No) → OnOver (WritesBelow place start bytes (Err no)) before after → new.facts.items ≡ slice_set old.facts.items s (below_facts no (linked_fact (missed_world no_maps d s).world s)) → LetsGoBy no old new s
           → LeadsAbove d line (Refused no) old new
-      stop_above no wrote facts lets =
-          let to : OverBehind (WritesBelow place start bytes (Err no) bare_call.at.set) after = overs_behind (writes (Err no)) before after bare_call.at.set bare_call.at.is_set wrote in
-          above (Refused no) (wrote_stops (missed_world no_maps d s) old new line name volume start bytes s place before after to.set bare_stands is (call_of (Err no) to) no
+      stop_above why wrote facts lets =
+          let to : OverBehind (WritesBelow place start bytes (Err why) bare_call.at.set) after = overs_behind (writes (Err why)) before after bare_call.at.set bare_call.at.is_set wrote in
+          above (Refused why) (wrote_stops (missed_world no_maps d s) old new line name volume start bytes s place before after to.set bare_stands is (call_of (Err why) to) why
           (to.holds.wrote (below_rvg ((missed_world no_maps d s).world.nodes s)) (note_at ((missed_world no_maps d s).world.nodes s)) bare_call.asks fits) to.holds.cut to.holds.named facts lets)
