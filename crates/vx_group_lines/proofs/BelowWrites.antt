@@ -1,6 +1,6 @@
 -- What a write leads a yard to whose volume is one of the group below a replicated volume group, and none of its data volumes: it ends as one of the group alone. What
 -- plexes missed is not noted there, so that nothing is said of their maps.
-use Rattle.std.proofs.Common.{◌≡◌, ◌∙◌, ◌+◌, ◌*◌, ◌≤◌, ℕ, Bool, true, false, List, [], length, ap, sym, subst, refl, arith}
+use Rattle.std.proofs.Common.{◌≡◌, ◌∙◌, ◌+◌, ◌*◌, ◌≤◌, ℕ, Bool, true, false, List, length, map, ap, sym, subst, refl, arith}
 use Rattle.std.specs.List.{position}
 use Rattle.std.specs.Str.{bytes_eq}
 use Rattle.std.specs.Prelude.{◌&&◌, Option, Some, None, Result, Ok, Err, if◌then◌else◌, slice_get, slice_set, unwrap_or}
@@ -52,7 +52,7 @@ use Rattle.vx_events.proofs.Refused.{Named}
 use Rattle.vx_events.proofs.RefusedCalls.{CallMay}
 use Rattle.vx_events.proofs.RvgMissed.{missed_node, missed_note}
 use Rattle.vx_events.proofs.RvgStays.{then_same}
-use Rattle.vx_events.specs.Facts.{place_of, seat_of, site_number}
+use Rattle.vx_events.specs.Facts.{place_of, seat_of, site_number, volume_fact}
 use Rattle.vx_events.specs.Fails.{Fails}
 use Rattle.vx_events.specs.GroupConfigs.{ConfigLoses}
 use Rattle.vx_events.specs.GroupEnds.{AreOf}
@@ -388,8 +388,8 @@ module _ {R : Type 0} {g : Ghosts R} where
 
     same_table : table_at (missed_site no_maps (d.world.nodes s)) ≡ table_at (d.world.nodes s)
     same_table =
-        ap (λ (b : Bool). if b then over_table node_bare (note_at node_bare) else []) still_over
-        ∙ sym (ap (λ (b : Bool). if b then over_table node_was (note_at node_was) else []) at.over)
+        ap (λ (b : Bool). if b then over_table node_bare (note_at node_bare) else map volume_fact node_bare.volumes) still_over
+        ∙ sym (ap (λ (b : Bool). if b then over_table node_was (note_at node_was) else map volume_fact node_was.volumes) at.over)
 
     -- the volume is no data volume
     pub plain_here : is_data (kind_named (d.world.nodes s) volume) ≡ false
@@ -451,6 +451,7 @@ module _ {R : Type 0} {g : Ghosts R} where
           (write_turns (IsTold new) d line name volume start bytes s said is plain_here) it
 
       pub write_above : (done : Unit {0}) → OnOver (WritesBelow place start bytes (Ok done)) before after → new.facts ≡ old.facts → SameLoad old new → LeadsAbove d line Done old new
+      unfolding call_of bare_call
       write_above done wrote facts load =
           let to : OverBehind (WritesBelow place start bytes (Ok done) bare_call.at.set) after = overs_behind (writes (Ok done)) before after bare_call.at.set bare_call.at.is_set wrote in
           above Done (wrote_done (missed_world no_maps d s) old new line name volume start bytes s place before after to.set bare_stands is (call_of (Ok done) to)
@@ -458,6 +459,7 @@ module _ {R : Type 0} {g : Ghosts R} where
 
       pub stop_above : (no : No) → OnOver (WritesBelow place start bytes (Err no)) before after → new.facts.items ≡ slice_set old.facts.items s (below_facts no (linked_fact (missed_world no_maps d s).world s)) → LetsGoBy no old new s
           → LeadsAbove d line (Refused no) old new
+      unfolding call_of bare_call
       stop_above why wrote facts lets =
           let to : OverBehind (WritesBelow place start bytes (Err why) bare_call.at.set) after = overs_behind (writes (Err why)) before after bare_call.at.set bare_call.at.is_set wrote in
           above (Refused why) (wrote_stops (missed_world no_maps d s) old new line name volume start bytes s place before after to.set bare_stands is (call_of (Err why) to) why
