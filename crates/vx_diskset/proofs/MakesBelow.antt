@@ -8,7 +8,8 @@ use Rattle.vx_config.specs.Configs.{HasSpelling}
 use Rattle.vx_disk.specs.Racks.{IsRack}
 use Rattle.vx_disk.specs.Shelf.{Meaning}
 use Rattle.vx_disk.specs.declared.shelf.Shelf.{Ghosts}
-use Rattle.vx_ground.specs.Lifted.{laid_volumes, volumes_over}
+use Rattle.vx_blockwise.specs.Blocks.{blockwise}
+use Rattle.vx_ground.specs.Lifted.{volumes_over}
 use Rattle.vx_group.specs.declared.group_core.GroupCore.{GroupCore}
 use Rattle.vx_history.specs.Groups.{GroupNode}
 use Rattle.vx_history.specs.World.{Node}
@@ -30,6 +31,7 @@ use Rattle.vx_grouped.proofs.SiteAddLemmas.{ended, failed_since, made_done, made
 use Rattle.vx_diskset.specs.Aboves.{above_in, site_in}
 use Rattle.vx_diskset.specs.Founded.{LaidFell}
 use Rattle.vx_diskset.specs.Holds.{KeptBeside}
+use Rattle.vx_diskset.specs.LaidBlocks.{laid_blockwise}
 use Rattle.vx_diskset.specs.OverKeeps.{StaysAbove}
 use Rattle.vx_diskset.specs.OverPlains.{note_tidied}
 use Rattle.vx_diskset.specs.OverVolumes.{StandsAgain, StillSite, VolBelow}
@@ -90,9 +92,9 @@ module _ {R : Type 0} {g : Ghosts R} where
 
   -- ---- nothing has changed
 
-  laid_still : (old new : Laid R g) → new.core ≡ old.core → new.shelf ≡ old.shelf → laid_volumes old ≡ laid_volumes new
+  laid_still : (old new : Laid R g) → new.core ≡ old.core → new.shelf ≡ old.shelf → laid_blockwise old ≡ laid_blockwise new
   laid_still old new core shelf =
-      sym (ap (λ (c : GroupCore). volumes_over c (shade_meaning g.meaning new.shelf)) core ∙ ap (λ (s : Shade R). volumes_over old.core (shade_meaning g.meaning s)) shelf)
+      sym (ap (λ (c : GroupCore). blockwise (volumes_over c (shade_meaning g.meaning new.shelf))) core ∙ ap (λ (s : Shade R). blockwise (volumes_over old.core (shade_meaning g.meaning s))) shelf)
 
   over_still : (beside : KeptBeside) (n : Node) (a : Above) (old new : GroupSite R g) → StillSite old new → OverUp beside n a old → OverUp beside n a new
   over_still beside n a (Up old) (Up new) still it = subst (λ (m : Meaning). AboveStands beside n a m) (laid_still old new still.0 still.1) it

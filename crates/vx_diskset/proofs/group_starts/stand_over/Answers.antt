@@ -21,7 +21,7 @@ pub of-requires-in-Err-after_bounds : goal.of-requires-in-Err-after_bounds
 of-requires-in-Err-after_bounds g c = λ κs lives. site_stays Nowhere c.parts-site.result.1 c.parts-site.result.0 c.look_kept.new.site c.look_kept.ensures.volumes c.parts-site.ensures.stays
 
 pub returns-in-Ok-clause-stands : goal.returns-in-Ok-clause-stands
-returns-in-Ok-clause-stands g c = λ beside n note stands state noted none.
+returns-in-Ok-clause-stands g c = λ beside n note stands state running noted none.
     let laws = shade_lawful g.R.Shelf.meaning (g.met.R.Shelf g.world.𝓛 g.world.𝓜 g.world.𝓡 ((λ s x. x), (λ x. x), (λ x. x), λ x. x)).lawful in
     let racks = shade_rack g.R.Shelf.meaning (g.met.R.Rack g.world.𝓛 g.world.𝓜 g.world.𝓡 ((λ s x. x), (λ x. x), (λ x. x), λ x. x)).rack in
     let was = up_old racks laws beside n note c.args.cut c.args.over c.parts-site.result.0 c.look_kept.new.site c.parts-site.result.1 c.parts-site.ensures.site c.parts-site.ensures.above c.parts-site.ensures.stays c.look_kept.ensures.volumes stands state noted in
@@ -39,7 +39,7 @@ returns-in-Ok-clause-told g c =
     carried_site (λ o e. TellsLess (site_below o) (site_below e)) (site_in c.args.over) c.parts-site.result.0 (site_in c.of.result) c.look_kept.new.site c.parts-site.ensures.site c.of.ensures.site c.look_kept.ensures.told
 
 pub returns-in-Err-clause-stands : goal.returns-in-Err-clause-stands
-returns-in-Err-clause-stands g c = λ beside n note stands state noted none.
+returns-in-Err-clause-stands g c = λ beside n note stands state running noted none.
     let laws = shade_lawful g.R.Shelf.meaning (g.met.R.Shelf g.world.𝓛 g.world.𝓜 g.world.𝓡 ((λ s x. x), (λ x. x), (λ x. x), λ x. x)).lawful in
     let racks = shade_rack g.R.Shelf.meaning (g.met.R.Rack g.world.𝓛 g.world.𝓜 g.world.𝓡 ((λ s x. x), (λ x. x), (λ x. x), λ x. x)).rack in
     let was = up_old racks laws beside n note c.args.cut c.args.over c.parts-site.result.0 c.look_kept.new.site c.parts-site.result.1 c.parts-site.ensures.site c.parts-site.ensures.above c.parts-site.ensures.stays c.look_kept.ensures.volumes stands state noted in
