@@ -1,6 +1,7 @@
-// What a block is printed as.
+// What a block, and what is kept of a write, are printed as.
 use std::test::Fail;
-use vx_report::block;
+use vx_model::Name;
+use vx_report::{Kept, block, push_kept};
 
 #[test]
 fn prints_one_byte_or_all(rt: HostRuntime) -> Result<(), Fail> {
@@ -13,5 +14,22 @@ fn prints_one_byte_or_all(rt: HostRuntime) -> Result<(), Fail> {
     assert!(rt; text.len() == 1025);
     assert!(rt; text.starts_with(b"0000"));
     assert!(rt; text.ends_with(b"00f0\n"));
+    Ok(())
+}
+
+#[test]
+fn prints_what_is_kept_of_a_write(rt: HostRuntime) -> Result<(), Fail> {
+    let mut kept = Kept {
+        volume: Name::new(b"v"),
+        block: 70,
+        count: 3,
+        bits: [false; 16],
+    };
+    kept.bits[0] = true;
+    kept.bits[2] = true;
+    kept.bits[3] = true;
+    let mut out = Vec::new(rt.alloc());
+    push_kept(&mut out, &kept)?;
+    assert!(rt; out.as_slice() == b"kept v 70 101\n".as_slice());
     Ok(())
 }

@@ -14,6 +14,8 @@ mod order_groups;
 #[cfg(test)]
 mod order_links;
 #[cfg(test)]
+mod order_sites;
+#[cfg(test)]
 mod refusals;
 #[cfg(test)]
 mod script;

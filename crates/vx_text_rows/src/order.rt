@@ -1,232 +1,177 @@
-// What each line is answered, with all later reasons holding too.
+// What each line is answered, with all later reasons holding too: the sites of the tables are made, and each line is tried at them.
+use crate::{order_groups, order_links, order_sites};
 use std::alloc::Global;
 use std::test::Fail;
-use vx_model::limits::{MOST_DISKS, MOST_SITES};
-use vx_model::{Counted, Line, Mark, Name, Named, No, OutOfMemory, Role, SiteName, SiteState};
-use vx_order::{LinkTable, RvgFacts, SiteFacts, VolumeFacts, VolumeKind, VolumeTable, refuse};
-use vx_script::{DiskState, ScriptLine};
+use vx_model::{
+    Bytes, Line, Link, Mark, Mode, Name, Named, No, OutOfMemory, Prot, Role, SiteState, SyncMode,
+};
+use vx_order::{
+    LinkFacts, LinkTable, RvgFacts, SiteFacts, VolumeFacts, VolumeKind, VolumeTable, refuse,
+    refuse_packet,
+};
+use vx_report::refusal;
+use vx_script::{Names, ScriptLine, parse};
 
-fn bare(alloc: Global, name: Name, disks: u32, blocks: u64) -> SiteFacts {
-    SiteFacts {
-        name,
-        state: SiteState::Bare,
-        disks,
-        blocks,
-        grouped: false,
-        volumes: VolumeTable::new(alloc),
-        rvg: None,
-        links: LinkTable::new(alloc),
+/// The one volume of a site that is no group, whose name is `d1` and which has the blocks of a disk; or those of a group: the
+/// name of each, its blocks, what it is, and how often it is there.
+#[derive(Clone, Copy)]
+pub enum Has {
+    Nothing,
+    D1,
+    Volumes(&'static [(&'static [u8; 1], u64, VolumeKind, u32)]),
+}
+
+/// A replicated volume group: its role, generation and origin, the last number, the blocks of its ring, and the disk that halts it.
+pub type Rvg = (Role, u64, u32, u64, u64, Option<u32>);
+
+/// A link: its site, whether it leads to a bunker, its mode of writes, whether it is connected, its mode, and the blocks that it needs.
+pub type Sends = (u32, bool, SyncMode, bool, Mode, u64);
+
+/// A site: its name and state, its disks and the blocks of each, whether they are a group, and what it has.
+pub type Stands = (
+    &'static [u8; 1],
+    SiteState,
+    u32,
+    u64,
+    bool,
+    Has,
+    Option<Rvg>,
+    &'static [Sends],
+);
+
+/// What the rows show, the sites, whether disks are files, and the lines with what each is refused with, which is nothing where it is taken.
+pub type Rows = (
+    &'static str,
+    &'static [Stands],
+    bool,
+    &'static [(&'static str, &'static str)],
+);
+
+fn volumes_of(alloc: Global, has: &Has, blocks: u64) -> Result<VolumeTable, OutOfMemory> {
+    let mut volumes = VolumeTable::new(alloc);
+    match has {
+        Has::Nothing => {}
+        Has::D1 => volumes.push(VolumeFacts {
+            name: Name::new(b"d1"),
+            blocks,
+            kind: VolumeKind::Data,
+            plexes: 0,
+        })?,
+        Has::Volumes(all) => {
+            for (name, blocks, kind, times) in *all {
+                for _ in 0..*times {
+                    volumes.push(VolumeFacts {
+                        name: Name::new(*name),
+                        blocks: *blocks,
+                        kind: *kind,
+                        plexes: 2,
+                    })?;
+                }
+            }
+        }
+    }
+    Ok(volumes)
+}
+
+fn links_of(alloc: Global, all: &[Sends]) -> Result<LinkTable, OutOfMemory> {
+    let mut links = LinkTable::new(alloc);
+    for (site, bunker, sync, connected, mode, used) in all {
+        links.push(LinkFacts {
+            link: Link {
+                site: *site,
+                bunker: *bunker,
+                attached: true,
+                connected: *connected,
+                paused: false,
+                sync: *sync,
+                prot: Prot::Fail,
+                session: 1,
+                net: 0,
+                stored: 0,
+                sent: 0,
+                trimmed: 0,
+                mode: *mode,
+            },
+            used: *used,
+        })?;
+    }
+    Ok(links)
+}
+
+fn rvg_of(rvg: &Option<Rvg>) -> Option<RvgFacts> {
+    match rvg {
+        Some((role, generation, origin, last, ring, halted)) => Some(RvgFacts {
+            role: *role,
+            line: Line {
+                generation: *generation,
+                origin: *origin,
+            },
+            parent: Line::default(),
+            mark: Mark::Consistent,
+            low: 1,
+            last: *last,
+            ring: *ring,
+            halted: *halted,
+        }),
+        None => None,
     }
 }
 
-fn raw(
-    alloc: Global,
-    name: Name,
-    blocks: u64,
-    role: Role,
-    halted: Option<u32>,
-) -> Result<SiteFacts, OutOfMemory> {
-    let mut site = bare(alloc, name, 3, blocks);
-    site.state = SiteState::Up;
-    site.volumes.push(VolumeFacts {
-        name: Name::new(b"d1"),
-        blocks,
-        kind: VolumeKind::Data,
-        plexes: 0,
-    })?;
-    site.rvg = Some(RvgFacts {
-        role,
-        line: Line::default(),
-        parent: Line::default(),
-        mark: Mark::Consistent,
-        low: 1,
-        last: 0,
-        ring: blocks.saturating_sub(2),
-        halted,
-    });
-    Ok(site)
-}
-
-fn write(site: Name, start: u64, count: u64) -> ScriptLine {
-    ScriptLine::Write {
-        site,
-        volume: Name::new(b"d1"),
-        block: start,
-        count,
-        fill: 1,
-    }
-}
-
-fn read(site: Name, volume: Name) -> ScriptLine {
-    ScriptLine::Read {
-        site,
-        volume,
-        block: 0,
-        count: 1,
-    }
-}
-
-fn made(site: Name, disks: u64, blocks: u64) -> ScriptLine {
-    ScriptLine::Site {
-        site,
-        disks,
-        blocks,
-    }
-}
-
-/// The refusal of a name that nothing has.
-pub fn unknown(name: Name) -> Option<No> {
-    Some(No::Unknown {
-        what: Named::Of(name),
-    })
-}
-
-/// The refusal of a count that would pass its greatest value.
-pub fn limit(what: Counted, most: u64) -> Option<No> {
-    Some(No::Limit { what, most })
-}
-
-#[test]
-fn tests_writes_in_order(rt: HostRuntime) -> Result<(), Fail> {
-    let mut sites = Vec::new(rt.alloc());
-    for (name, blocks) in [(b"a", 64), (b"b", 10)] {
-        let site = raw(rt.alloc(), Name::new(name), blocks, Role::Primary, None)?;
-        sites.push(site)?;
-    }
-    for (line, wanted) in [
-        (write(Name::new(b"a"), 63, 1), None),
-        (write(Name::new(b"a"), 63, 2), Some(No::Range)),
-        (write(Name::new(b"a"), 0, 0), Some(No::Size)),
-        (write(Name::new(b"a"), 0, 17), Some(No::Size)),
-        (write(Name::new(b"a"), 63, 17), Some(No::Size)),
-        (write(Name::new(b"a"), 0, 16), None),
-        (write(Name::new(b"a"), u64::MAX, 16), Some(No::Range)),
-        (write(Name::new(b"b"), 0, 7), None),
-        (write(Name::new(b"b"), 0, 8), Some(No::Size)),
-        (
-            read(Name::new(b"a"), Name::new(b"d2")),
-            unknown(Name::new(b"d2")),
-        ),
-        (
-            read(Name::new(b"c"), Name::new(b"d1")),
-            unknown(Name::new(b"c")),
-        ),
-    ] {
-        assert!(rt; refuse(&sites, false, &line) == wanted);
-    }
-    Ok(())
-}
-
-#[test]
-fn tests_how_a_site_stands(rt: HostRuntime) -> Result<(), Fail> {
-    let mut sites = Vec::new(rt.alloc());
-    for (name, role, halted) in [
-        (b"a", Role::Primary, Some(0)),
-        (b"b", Role::Secondary, None),
-        (b"c", Role::Handing { to: 1 }, None),
-    ] {
-        sites.push(raw(rt.alloc(), Name::new(name), 64, role, halted)?)?;
-    }
-    sites.push(bare(rt.alloc(), Name::new(b"d"), 3, 64))?;
-    let mut down = bare(rt.alloc(), Name::new(b"e"), 3, 64);
-    down.state = SiteState::Down;
-    sites.push(down)?;
-    let show = ScriptLine::Show {
-        site: Name::new(b"b"),
-        volume: Name::new(b"d1"),
-        block: 0,
-        count: 2,
-    };
-    for (line, wanted) in [
-        (write(Name::new(b"a"), 0, 1), Some(No::Halted { disk: 0 })),
-        (
-            read(Name::new(b"a"), Name::new(b"d2")),
-            Some(No::Halted { disk: 0 }),
-        ),
-        (read(Name::new(b"b"), Name::new(b"d1")), Some(No::Role)),
-        (
-            read(Name::new(b"b"), Name::new(b"zz")),
-            unknown(Name::new(b"zz")),
-        ),
-        (show, None),
-        (write(Name::new(b"c"), 0, 1), Some(No::Role)),
-        (write(Name::new(b"d"), 0, 1), unknown(Name::new(b"d1"))),
-        (write(Name::new(b"e"), 0, 1), Some(No::Down)),
-    ] {
-        assert!(rt; refuse(&sites, false, &line) == wanted);
-    }
-    Ok(())
-}
-
-// One site with a raw set and three bare ones, of which the last can be made one.
-fn sites(alloc: Global) -> Result<Vec<SiteFacts>, OutOfMemory> {
+fn sites_of(alloc: Global, all: &[Stands]) -> Result<Vec<SiteFacts>, OutOfMemory> {
     let mut sites = Vec::new(alloc);
-    sites.push(raw(alloc, Name::new(b"a"), 64, Role::Primary, None)?)?;
-    for (name, disks, blocks) in [(b"b", 2, 64), (b"c", 4, 8), (b"d", 3, 8)] {
-        sites.push(bare(alloc, Name::new(name), disks, blocks))?;
+    for (name, state, disks, blocks, grouped, has, rvg, links) in all {
+        sites.push(SiteFacts {
+            name: Name::new(*name),
+            state: *state,
+            disks: *disks,
+            blocks: *blocks,
+            grouped: *grouped,
+            volumes: volumes_of(alloc, has, *blocks)?,
+            rvg: rvg_of(rvg),
+            links: links_of(alloc, links)?,
+        })?;
     }
     Ok(sites)
 }
 
-#[test]
-fn tests_new_sites(rt: HostRuntime) -> Result<(), Fail> {
-    let mut all = sites(rt.alloc())?;
-    let taken = Some(No::Exists {
-        name: Name::new(b"a"),
-    });
-    let blocks = limit(Counted::Blocks, 16384);
-    for (line, wanted) in [
-        (made(Name::new(b"a"), 9, 64), taken),
-        (
-            made(Name::new(b"e"), 9, 64),
-            limit(Counted::Disks, u64::from(MOST_DISKS)),
-        ),
-        (made(Name::new(b"e"), 0, 16385), blocks),
-        (made(Name::new(b"e"), 0, 8), Some(No::Size)),
-        (made(Name::new(b"e"), 1, 7), Some(No::Size)),
-        (made(Name::new(b"e"), 8, 16384), None),
-    ] {
-        assert!(rt; refuse(&all, false, &line) == wanted);
+// What a line is refused with, as it is printed, and nothing where it is taken.
+fn refused(alloc: Global, sites: &[SiteFacts], files: bool, text: &str) -> Result<Bytes, Fail> {
+    let line = parse(alloc, text.as_bytes(), 1)?.ok_or("a line")?;
+    match refuse(sites, files, &line) {
+        Some(no) => Ok(refusal(alloc, &no)?),
+        None => Ok(Bytes::new(Vec::new(alloc))),
     }
-    assert!(rt; refuse(&all, true, &made(Name::new(b"e"), 1, 4194304)) == None);
-    for name in [b"e", b"f", b"g", b"h"] {
-        all.push(bare(rt.alloc(), Name::new(name), 1, 8))?;
-    }
-    assert!(rt;
-        refuse(&all, true, &made(Name::new(b"i"), 9, 1)) == limit(Counted::Sites, MOST_SITES as u64)
-    );
-    Ok(())
 }
 
 #[test]
-fn tests_raw_sets(rt: HostRuntime) -> Result<(), Fail> {
-    let all = sites(rt.alloc())?;
-    for (site, wanted) in [
-        (Name::new(b"a"), Some(No::Role)),
-        (Name::new(b"b"), Some(No::Size)),
-        (Name::new(b"c"), Some(No::Size)),
-        (Name::new(b"d"), None),
-    ] {
-        assert!(rt; refuse(&all, false, &ScriptLine::Raw { site }) == wanted);
+fn lines_are_refused_in_order(rt: HostRuntime) -> Result<(), Fail> {
+    let alloc = rt.alloc();
+    for table in [order_sites::ROWS, order_groups::ROWS, order_links::ROWS] {
+        for (shows, sites, files, rows) in table {
+            let sites = sites_of(alloc, sites)?;
+            for (text, wanted) in *rows {
+                let said = refused(alloc, &sites, *files, text)?;
+                assert!(rt; said.as_slice() == wanted.as_bytes(), "{shows}: {text}");
+            }
+        }
     }
     Ok(())
 }
 
+// There is no line for a replicated volume group of no volumes.
 #[test]
-fn tests_a_status_and_a_disk(rt: HostRuntime) -> Result<(), Fail> {
-    let all = sites(rt.alloc())?;
-    for (site, wanted) in [
-        (Name::new(b"b"), None),
-        (Name::new(b"z"), unknown(Name::new(b"z"))),
-    ] {
-        assert!(rt; refuse(&all, false, &ScriptLine::Status { site }) == wanted);
-    }
-    let disk = ScriptLine::Disk {
-        site: Name::new(b"a"),
-        disk: 3,
-        state: DiskState::Fail,
+fn what_has_no_line_is_refused(rt: HostRuntime) -> Result<(), Fail> {
+    let alloc = rt.alloc();
+    let sites = sites_of(alloc, &order_groups::SITES)?;
+    let none = ScriptLine::Rvg {
+        site: Name::new(b"g"),
+        srl: Name::new(b"l"),
+        dcm: Name::new(b"m"),
+        volumes: Names::new(alloc),
     };
-    let what = Named::Number(3);
-    assert!(rt; refuse(&all, false, &disk) == Some(No::Unknown { what }));
+    assert!(rt; refuse(&sites, false, &none) == Some(No::Size));
+    let what = Named::Number(10);
+    assert!(rt; refuse_packet(9, 10) == Some(No::Unknown { what }));
+    assert!(rt; refuse_packet(9, 9) == None);
     Ok(())
 }

@@ -1,255 +1,289 @@
-// The tests of lines of links, and of writes by the links of their site.
-use std::alloc::Global;
-use std::test::Fail;
-use vx_model::{
-    Counted, Line, Link, Mark, Mode, Name, Named, No, OutOfMemory, Prot, Role, SiteName, SiteState,
-    SyncMode,
-};
-use vx_order::{
-    LinkFacts, LinkTable, RvgFacts, SiteFacts, VolumeFacts, VolumeKind, VolumeTable, refuse,
-    refuse_packet,
-};
-use vx_script::ScriptLine;
+// What lines of links are refused with, and writes by the links of their site.
+use crate::order::{Has, Rows, Rvg, Sends, Stands};
+use vx_model::{Mode, Role, SiteState, SyncMode};
 
-// A site that is up and the primary of its first line, with one volume and so many writes.
-fn primary(alloc: Global, name: Name, number: u32, last: u64) -> Result<SiteFacts, OutOfMemory> {
-    let mut volumes = VolumeTable::new(alloc);
-    volumes.push(VolumeFacts {
-        name: Name::new(b"d1"),
-        blocks: 10,
-        kind: VolumeKind::Data,
-        plexes: 0,
-    })?;
-    Ok(SiteFacts {
-        name,
-        state: SiteState::Up,
-        disks: 3,
-        blocks: 10,
-        grouped: false,
-        volumes,
-        rvg: Some(RvgFacts {
-            role: Role::Primary,
-            line: Line {
-                generation: 1,
-                origin: number,
-            },
-            parent: Line::default(),
-            mark: Mark::Consistent,
-            low: 1,
-            last,
-            ring: 8,
-            halted: None,
-        }),
-        links: LinkTable::new(alloc),
-    })
-}
+// Sites that are up, with one volume of 10 blocks, and primaries of their first line where their name says nothing else.
+const A: Stands = (
+    b"a",
+    SiteState::Up,
+    3,
+    10,
+    false,
+    Has::D1,
+    Some((Role::Primary, 1, 0, 0, 8, None)),
+    &[],
+);
 
-fn link(site: u32, sync: SyncMode, connected: bool, mode: Mode) -> Link {
-    Link {
-        site,
-        bunker: false,
-        attached: true,
-        connected,
-        paused: false,
-        sync,
-        prot: Prot::Fail,
-        session: 1,
-        net: 0,
-        stored: 0,
-        sent: 0,
-        trimmed: 0,
-        mode,
-    }
-}
+const B: Stands = (
+    b"b",
+    SiteState::Up,
+    3,
+    10,
+    false,
+    Has::D1,
+    Some((Role::Primary, 1, 1, 0, 8, None)),
+    &[],
+);
 
-fn made(primary: Name, secondary: Name) -> ScriptLine {
-    ScriptLine::Link {
-        primary,
-        secondary,
-        sync: SyncMode::Off,
-        prot: Prot::Fail,
-    }
-}
+// It has written once.
+const C: Stands = (
+    b"c",
+    SiteState::Up,
+    3,
+    10,
+    false,
+    Has::D1,
+    Some((Role::Primary, 1, 2, 1, 8, None)),
+    &[],
+);
 
-fn write(site: Name) -> ScriptLine {
-    ScriptLine::Write {
-        site,
-        volume: Name::new(b"d1"),
-        block: 4,
-        count: 1,
-        fill: 4,
-    }
-}
+const FOUR_LINKS_A: Stands = (
+    b"a",
+    SiteState::Up,
+    3,
+    10,
+    false,
+    Has::D1,
+    Some((Role::Primary, 1, 0, 0, 8, None)),
+    &[
+        (2, false, SyncMode::Off, true, Mode::Log, 0),
+        (3, false, SyncMode::Off, true, Mode::Log, 0),
+        (4, false, SyncMode::Off, true, Mode::Log, 0),
+        (5, false, SyncMode::Off, true, Mode::Log, 0),
+    ],
+);
 
-#[test]
-fn tests_a_further_link(rt: HostRuntime) -> Result<(), Fail> {
-    let (a, b, c) = (Name::new(b"a"), Name::new(b"b"), Name::new(b"c"));
-    let mut sites = Vec::new(rt.alloc());
-    for (name, number, last) in [(a, 0, 0), (b, 1, 0), (c, 2, 1)] {
-        sites.push(primary(rt.alloc(), name, number, last)?)?;
-    }
-    for (line, wanted) in [
-        (made(a, b), None),
-        (made(a, a), Some(No::Role)),
-        (made(a, c), Some(No::Role)),
-        (made(c, b), Some(No::Role)),
-    ] {
-        assert!(rt; refuse(&sites, false, &line) == wanted);
-    }
-    let mut first = primary(rt.alloc(), a, 0, 0)?;
-    for number in 2..6 {
-        first.links.push(LinkFacts {
-            link: link(number, SyncMode::Off, true, Mode::Log),
-            used: 0,
-        })?;
-    }
-    let mut more = Vec::new(rt.alloc());
-    more.push(first)?;
-    more.push(primary(rt.alloc(), b, 1, 0)?)?;
-    let full = No::Limit {
-        what: Counted::Links,
-        most: 4,
-    };
-    assert!(rt; refuse(&more, false, &made(a, b)) == Some(full));
-    assert!(rt;
-        refuse_packet(9, 10)
-            == Some(No::Unknown {
-                what: Named::Number(10)
-            })
-    );
-    assert!(rt; refuse_packet(9, 9) == None);
-    Ok(())
-}
+// The primary a with three writes, and here with a link to b, for which seven blocks are kept.
+const WRITES: Option<Rvg> = Some((Role::Primary, 1, 0, 3, 8, None));
 
-// The primary a with three writes and this link to b, for which seven blocks are kept, and the primary b.
-fn linked(alloc: Global, link: Link, b: SiteFacts) -> Result<Vec<SiteFacts>, OutOfMemory> {
-    let mut first = primary(alloc, Name::new(b"a"), 0, 3)?;
-    first.links.push(LinkFacts { link, used: 7 })?;
-    let mut sites = Vec::new(alloc);
-    sites.push(first)?;
-    sites.push(b)?;
-    Ok(sites)
-}
+const LIVE_A: Stands = (
+    b"a",
+    SiteState::Up,
+    3,
+    10,
+    false,
+    Has::D1,
+    WRITES,
+    &[(1, false, SyncMode::Off, true, Mode::Log, 7)],
+);
 
-fn stalled(b: Name) -> Option<No> {
-    let link = SiteName::Known(b);
-    Some(No::Stalled { link })
-}
+const CUT_A: Stands = (
+    b"a",
+    SiteState::Up,
+    3,
+    10,
+    false,
+    Has::D1,
+    WRITES,
+    &[(1, false, SyncMode::Off, false, Mode::Log, 7)],
+);
 
-fn full(b: Name) -> Option<No> {
-    let link = SiteName::Known(b);
-    Some(No::LogFull { link })
-}
+const FAILING_A: Stands = (
+    b"a",
+    SiteState::Up,
+    3,
+    10,
+    false,
+    Has::D1,
+    WRITES,
+    &[(1, false, SyncMode::Fail, false, Mode::Log, 7)],
+);
 
-fn down(b: Name) -> Option<No> {
-    let link = SiteName::Known(b);
-    Some(No::LinkDown { link })
-}
+const CUT_STALE_A: Stands = (
+    b"a",
+    SiteState::Up,
+    3,
+    10,
+    false,
+    Has::D1,
+    WRITES,
+    &[(1, false, SyncMode::Off, false, Mode::Stale, 7)],
+);
 
-#[test]
-fn tests_writes_by_a_link(rt: HostRuntime) -> Result<(), Fail> {
-    let (a, b) = (Name::new(b"a"), Name::new(b"b"));
-    let (stalled, full, down) = (stalled(b), full(b), down(b));
-    for (sync, connected, mode, wanted) in [
-        (SyncMode::Off, true, Mode::Log, stalled),
-        (SyncMode::Off, false, Mode::Log, full),
-        (SyncMode::Fail, false, Mode::Log, down),
-        (SyncMode::Off, false, Mode::Stale, None),
-    ] {
-        let second = primary(rt.alloc(), b, 1, 0)?;
-        let sites = linked(rt.alloc(), link(1, sync, connected, mode), second)?;
-        assert!(rt; refuse(&sites, false, &write(a)) == wanted);
-    }
-    Ok(())
-}
+const STALE_A: Stands = (
+    b"a",
+    SiteState::Up,
+    3,
+    10,
+    false,
+    Has::D1,
+    WRITES,
+    &[(1, false, SyncMode::Off, true, Mode::Stale, 7)],
+);
 
-#[test]
-fn tests_lines_of_a_link_that_stands(rt: HostRuntime) -> Result<(), Fail> {
-    let (primary_name, secondary) = (Name::new(b"a"), Name::new(b"b"));
-    let wait = ScriptLine::Wait {
-        site: primary_name,
-        number: 3,
-    };
-    let pump = ScriptLine::Pump {
-        primary: primary_name,
-        secondary,
-    };
-    let settle = ScriptLine::Settle {
-        primary: primary_name,
-        secondary,
-    };
-    let link_down = No::LinkDown {
-        link: SiteName::Known(secondary),
-    };
-    let unconfirmed = No::Unconfirmed { number: 3 };
-    for (sync, connected, mode, line, wanted) in [
-        (SyncMode::Fail, false, Mode::Log, wait, unconfirmed),
-        (SyncMode::Off, false, Mode::Log, pump, link_down),
-        (SyncMode::Off, true, Mode::Stale, settle, No::Role),
-    ] {
-        let second = primary(rt.alloc(), secondary, 1, 0)?;
-        let sites = linked(rt.alloc(), link(1, sync, connected, mode), second)?;
-        assert!(rt; refuse(&sites, false, &line) == Some(wanted));
-    }
-    Ok(())
-}
+const BUNKER_A: Stands = (
+    b"a",
+    SiteState::Up,
+    3,
+    10,
+    false,
+    Has::D1,
+    WRITES,
+    &[(1, true, SyncMode::Off, true, Mode::Log, 7)],
+);
 
-#[test]
-fn tests_a_line_of_no_link(rt: HostRuntime) -> Result<(), Fail> {
-    let (a, b) = (Name::new(b"a"), Name::new(b"b"));
-    let second = primary(rt.alloc(), b, 1, 0)?;
-    let sites = linked(rt.alloc(), link(1, SyncMode::Off, true, Mode::Log), second)?;
-    let tick = ScriptLine::Tick {
-        primary: a,
-        secondary: a,
-    };
-    let what = Named::Of(a);
-    assert!(rt; refuse(&sites, false, &tick) == Some(No::Unknown { what }));
-    Ok(())
-}
+const FORK_A: Stands = (
+    b"a",
+    SiteState::Up,
+    3,
+    10,
+    false,
+    Has::D1,
+    WRITES,
+    &[(1, false, SyncMode::Off, true, Mode::Fork { maps: 0 }, 7)],
+);
 
-// The site b with this role, on the line that the site of number `origin` began first.
-fn led(alloc: Global, role: Role, origin: u32) -> Result<SiteFacts, OutOfMemory> {
-    let mut site = primary(alloc, Name::new(b"b"), origin, 0)?;
-    if let Some(mut rvg) = site.rvg {
-        rvg.role = role;
-        site.rvg = Some(rvg);
-    }
-    Ok(site)
-}
+const APART_A: Stands = (b"a", SiteState::Up, 3, 10, false, Has::D1, WRITES, &[]);
 
-#[test]
-fn tests_where_a_settled_link_leads(rt: HostRuntime) -> Result<(), Fail> {
-    let (a, b) = (Name::new(b"a"), Name::new(b"b"));
-    let line = ScriptLine::Settle {
-        primary: a,
-        secondary: b,
-    };
-    let replaying = No::Replaying {
-        link: SiteName::Known(b),
-    };
-    for (bunker, mode, role, origin, wanted) in [
-        (false, Mode::Log, Role::Secondary, 0, None),
-        (false, Mode::Log, Role::Secondary, 1, Some(No::Role)),
-        (false, Mode::Log, Role::Primary, 0, Some(No::Role)),
-        (false, Mode::Log, Role::Bunker, 0, Some(No::Role)),
-        (true, Mode::Log, Role::Bunker, 0, None),
-        (
-            false,
-            Mode::Fork { maps: 0 },
-            Role::Primary,
-            1,
-            Some(replaying),
-        ),
-    ] {
-        let mut kept = link(1, SyncMode::Off, true, mode);
-        kept.bunker = bunker;
-        let sites = linked(rt.alloc(), kept, led(rt.alloc(), role, origin)?)?;
-        assert!(rt; refuse(&sites, false, &line) == wanted);
-    }
-    let mut apart = Vec::new(rt.alloc());
-    apart.push(primary(rt.alloc(), a, 0, 3)?)?;
-    apart.push(led(rt.alloc(), Role::Primary, 1)?)?;
-    assert!(rt; refuse(&apart, false, &line) == Some(No::Unknown { what: Named::Of(b) }));
-    Ok(())
-}
+// The site b on the line that a began first.
+const SECONDARY_B: Stands = (
+    b"b",
+    SiteState::Up,
+    3,
+    10,
+    false,
+    Has::D1,
+    Some((Role::Secondary, 1, 0, 0, 8, None)),
+    &[],
+);
+
+const PRIMARY_B: Stands = (
+    b"b",
+    SiteState::Up,
+    3,
+    10,
+    false,
+    Has::D1,
+    Some((Role::Primary, 1, 0, 0, 8, None)),
+    &[],
+);
+
+const BUNKER_B: Stands = (
+    b"b",
+    SiteState::Up,
+    3,
+    10,
+    false,
+    Has::D1,
+    Some((Role::Bunker, 1, 0, 0, 8, None)),
+    &[],
+);
+
+// It is on a line of its own.
+const OTHER_B: Stands = (
+    b"b",
+    SiteState::Up,
+    3,
+    10,
+    false,
+    Has::D1,
+    Some((Role::Secondary, 1, 1, 0, 8, None)),
+    &[],
+);
+
+pub const ROWS: &[Rows] = &[
+    (
+        "a further link",
+        &[A, B, C],
+        false,
+        &[
+            ("link a b synchronous=off srlprot=fail", ""),
+            ("link a a synchronous=off srlprot=fail", "no 5 role\n"),
+            ("link a c synchronous=off srlprot=fail", "no 5 role\n"),
+            ("link c b synchronous=off srlprot=fail", "no 5 role\n"),
+        ],
+    ),
+    (
+        "a fifth link",
+        &[FOUR_LINKS_A, B],
+        false,
+        &[(
+            "link a b synchronous=off srlprot=fail",
+            "no 19 limit links 4\n",
+        )],
+    ),
+    (
+        "a write by a live link",
+        &[LIVE_A, B],
+        false,
+        &[("write a d1 4 1 04", "no 13 stalled b\n")],
+    ),
+    (
+        "a write and a pump by a cut link",
+        &[CUT_A, B],
+        false,
+        &[
+            ("write a d1 4 1 04", "no 12 logfull b\n"),
+            ("pump a b", "no 14 linkdown b\n"),
+        ],
+    ),
+    (
+        "a write and a wait by a cut link whose writes fail",
+        &[FAILING_A, B],
+        false,
+        &[
+            ("write a d1 4 1 04", "no 14 linkdown b\n"),
+            ("wait a 3", "no 15 unconfirmed 3\n"),
+        ],
+    ),
+    (
+        "a write by a cut and stale link",
+        &[CUT_STALE_A, B],
+        false,
+        &[("write a d1 4 1 04", "")],
+    ),
+    (
+        "a stale link that is to be settled",
+        &[STALE_A, B],
+        false,
+        &[("settle a b", "no 5 role\n")],
+    ),
+    (
+        "a line of no link",
+        &[LIVE_A, B],
+        false,
+        &[("tick a a", "no 1 unknown a\n")],
+    ),
+    (
+        "a settled link to a secondary",
+        &[LIVE_A, SECONDARY_B],
+        false,
+        &[("settle a b", "")],
+    ),
+    (
+        "a settled link to a secondary of another line",
+        &[LIVE_A, OTHER_B],
+        false,
+        &[("settle a b", "no 5 role\n")],
+    ),
+    (
+        "a settled link to a primary",
+        &[LIVE_A, PRIMARY_B],
+        false,
+        &[("settle a b", "no 5 role\n")],
+    ),
+    (
+        "a settled link to a bunker that is none",
+        &[LIVE_A, BUNKER_B],
+        false,
+        &[("settle a b", "no 5 role\n")],
+    ),
+    (
+        "a settled link to a bunker",
+        &[BUNKER_A, BUNKER_B],
+        false,
+        &[("settle a b", "")],
+    ),
+    (
+        "a settled link that goes by the maps of a fork",
+        &[FORK_A, B],
+        false,
+        &[("settle a b", "no 18 replaying b\n")],
+    ),
+    (
+        "sites without a link",
+        &[APART_A, B],
+        false,
+        &[("settle a b", "no 1 unknown b\n")],
+    ),
+];
