@@ -98,28 +98,131 @@ fn both_good(config: &Config) -> bool {
     config.disks.as_slice().iter().all(|disk| !disk.failed)
 }
 
+// What is done to a shelf of two labelled disks, or what an import finds there.
+enum Step {
+    // A copy of the body on a disk, with this serial in its header, and with bytes of its own at places.
+    Copy(u32, u64, &'static [(usize, u8)]),
+    // The same of the body with a volume, on the first disk.
+    CopyVolume(u64, &'static [(usize, u8)]),
+    Fails(u32),
+    Works(u32),
+    // Zeros over a block of the first disk.
+    Zeros(u64),
+    // The serial, the disks that were held as good, and whether both are now.
+    Finds(u64, u8, bool),
+    FindsNone,
+    Misses(u32),
+}
+
+const STEPS: &[(&str, &[Step])] = &[
+    (
+        "the newest copy is found",
+        &[
+            Step::FindsNone,
+            Step::Copy(0, 1, &[]),
+            Step::Copy(1, 1, &[]),
+            Step::Finds(1, 3, true),
+            // The first disk fails: the second one has serial 3, which holds it so.
+            Step::Copy(1, 3, &[(SERIAL, 3), (FIRST, 1)]),
+            Step::Finds(3, 2, true),
+            Step::Fails(0),
+            Step::Finds(3, 2, false),
+            Step::Fails(1),
+            Step::FindsNone,
+            Step::Works(0),
+            Step::Misses(1),
+            Step::Works(1),
+            Step::Finds(3, 2, true),
+        ],
+    ),
+    (
+        "a copy goes over the lesser one",
+        &[
+            Step::Copy(0, 1, &[(SERIAL, 1)]),
+            Step::Finds(1, 3, true),
+            Step::Copy(0, 2, &[(SERIAL, 2)]),
+            Step::Finds(2, 3, true),
+            Step::Copy(0, 3, &[(SERIAL, 3)]),
+            Step::Finds(3, 3, true),
+            Step::Copy(0, 4, &[(SERIAL, 4)]),
+            Step::Finds(4, 3, true),
+            Step::Copy(0, 5, &[(SERIAL, 5)]),
+            Step::Finds(5, 3, true),
+            // Serial 5 stands in the first area and serial 4 in the second.
+            Step::Zeros(1),
+            Step::Finds(4, 3, true),
+        ],
+    ),
+    (
+        "a body that is no configuration does not count",
+        &[
+            // A state that is neither 0 nor 1, and a disk of another size.
+            Step::Copy(0, 1, &[(SECOND, 2)]),
+            Step::FindsNone,
+            Step::Copy(0, 2, &[(SECOND - 1, 1), (SERIAL, 2)]),
+            Step::FindsNone,
+        ],
+    ),
+    (
+        "a configuration that is not sound does not count",
+        &[
+            Step::CopyVolume(1, &[(START, 63)]),
+            Step::FindsNone,
+            Step::CopyVolume(2, &[(SERIAL, 2)]),
+            Step::Finds(2, 3, true),
+            // A body of another serial than its header.
+            Step::CopyVolume(3, &[]),
+            Step::Finds(2, 3, true),
+        ],
+    ),
+];
+
+// A body with these bytes at places.
+fn edited<const N: usize>(body: [u8; N], edits: &[(usize, u8)]) -> [u8; N] {
+    let mut bytes = body;
+    for (place, byte) in edits {
+        if *place < N {
+            bytes[*place] = *byte;
+        }
+    }
+    bytes
+}
+
+// Whether a step is done, or finds what it says.
+fn goes<S: Rack>(alloc: Global, shelf: &mut S, step: &Step) -> bool {
+    let wanted = match step {
+        Step::Copy(disk, serial, edits) => {
+            return copy(shelf, *disk, *serial, &edited(BODY, edits));
+        }
+        Step::CopyVolume(serial, edits) => {
+            return copy_volume(shelf, *serial, &edited(VOLUME, edits));
+        }
+        Step::Fails(disk) => {
+            fail(shelf, *disk, true);
+            return true;
+        }
+        Step::Works(disk) => {
+            fail(shelf, *disk, false);
+            return true;
+        }
+        Step::Zeros(at) => return write(shelf, 0, *at, &[0; 512]),
+        Step::Finds(serial, good, both) => Ok((*serial, *good, *both)),
+        Step::FindsNone => Err(Stop::No(No::NoConfig)),
+        Step::Misses(disk) => Err(Stop::No(No::Missing { disk: *disk })),
+    };
+    found(alloc, shelf) == wanted
+}
+
 #[test]
-fn the_newest_copy_is_found(rt: HostRuntime) {
+fn imports_find_copies(rt: HostRuntime) -> Result<(), Fail> {
     let alloc = rt.alloc();
-    let mut shelf = labelled(alloc).expect(&rt, "there is memory");
-    assert!(rt; found(alloc, &mut shelf) == Err(Stop::No(No::NoConfig)));
-    assert!(rt; copy(&mut shelf, 0, 1, &BODY));
-    assert!(rt; copy(&mut shelf, 1, 1, &BODY));
-    assert!(rt; found(alloc, &mut shelf) == Ok((1, 3, true)));
-    // The first disk fails: the second one has serial 3, which holds it so.
-    let mut newer = BODY;
-    newer[SERIAL] = 3;
-    newer[FIRST] = 1;
-    assert!(rt; copy(&mut shelf, 1, 3, &newer));
-    assert!(rt; found(alloc, &mut shelf) == Ok((3, 2, true)));
-    fail(&mut shelf, 0, true);
-    assert!(rt; found(alloc, &mut shelf) == Ok((3, 2, false)));
-    fail(&mut shelf, 1, true);
-    assert!(rt; found(alloc, &mut shelf) == Err(Stop::No(No::NoConfig)));
-    fail(&mut shelf, 0, false);
-    assert!(rt; found(alloc, &mut shelf) == Err(Stop::No(No::Missing { disk: 1 })));
-    fail(&mut shelf, 1, false);
-    assert!(rt; found(alloc, &mut shelf) == Ok((3, 2, true)));
+    for (shows, steps) in STEPS {
+        let mut shelf = labelled(alloc)?;
+        for (at, step) in steps.iter().enumerate() {
+            assert!(rt; goes(alloc, &mut shelf, step), "{shows}: step {at}");
+        }
+    }
+    Ok(())
 }
 
 // Two good disks of 1,024 blocks, and no volume, with serial 0.
@@ -274,21 +377,6 @@ fn a_commit_is_cut(rt: HostRuntime) {
 }
 
 #[test]
-fn a_copy_goes_over_the_lesser_one(rt: HostRuntime) {
-    let alloc = rt.alloc();
-    let mut shelf = labelled(alloc).expect(&rt, "there is memory");
-    for serial in 1..6u8 {
-        let mut body = BODY;
-        body[SERIAL] = serial;
-        assert!(rt; copy(&mut shelf, 0, serial as u64, &body));
-        assert!(rt; found(alloc, &mut shelf) == Ok((serial as u64, 3, true)));
-    }
-    // Serial 5 stands in the first area and serial 4 in the second.
-    assert!(rt; write(&mut shelf, 0, 1, &[0; 512]));
-    assert!(rt; found(alloc, &mut shelf) == Ok((4, 3, true)));
-}
-
-#[test]
 fn a_damaged_body_is_told(rt: HostRuntime) {
     let alloc = rt.alloc();
     let mut shelf = labelled(alloc).expect(&rt, "there is memory");
@@ -303,22 +391,6 @@ fn a_damaged_body_is_told(rt: HostRuntime) {
         computed: digest(&front(&block)),
     };
     assert!(rt; found(alloc, &mut shelf) == Err(Stop::No(wanted)));
-}
-
-#[test]
-fn a_body_that_is_no_configuration_does_not_count(rt: HostRuntime) {
-    let alloc = rt.alloc();
-    let mut shelf = labelled(alloc).expect(&rt, "there is memory");
-    // A state that is neither 0 nor 1, and a disk of another size.
-    let mut wrong = BODY;
-    wrong[SECOND] = 2;
-    assert!(rt; copy(&mut shelf, 0, 1, &wrong));
-    assert!(rt; found(alloc, &mut shelf) == Err(Stop::No(No::NoConfig)));
-    let mut other = BODY;
-    other[SECOND - 1] = 1;
-    other[SERIAL] = 2;
-    assert!(rt; copy(&mut shelf, 0, 2, &other));
-    assert!(rt; found(alloc, &mut shelf) == Err(Stop::No(No::NoConfig)));
 }
 
 #[test]
@@ -365,21 +437,4 @@ fn copy_volume<S: Shelf>(shelf: &mut S, serial: u64, bytes: &[u8; 96]) -> bool {
         digest: digest(&front),
     };
     put_copy(shelf, 0, &header, &block).is_ok()
-}
-
-#[test]
-fn a_configuration_that_is_not_sound_does_not_count(rt: HostRuntime) {
-    let alloc = rt.alloc();
-    let mut shelf = labelled(alloc).expect(&rt, "there is memory");
-    let mut overlap = VOLUME;
-    overlap[START] = 63;
-    assert!(rt; copy_volume(&mut shelf, 1, &overlap));
-    assert!(rt; found(alloc, &mut shelf) == Err(Stop::No(No::NoConfig)));
-    let mut newer = VOLUME;
-    newer[SERIAL] = 2;
-    assert!(rt; copy_volume(&mut shelf, 2, &newer));
-    assert!(rt; found(alloc, &mut shelf) == Ok((2, 3, true)));
-    // A body of another serial than its header.
-    assert!(rt; copy_volume(&mut shelf, 3, &VOLUME));
-    assert!(rt; found(alloc, &mut shelf) == Ok((2, 3, true)));
 }

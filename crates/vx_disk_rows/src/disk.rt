@@ -66,76 +66,152 @@ fn make_fail<R: Rack>(rack: &mut R, disk: u32, on: bool) {
     }
 }
 
-#[test]
-fn a_crash_keeps_the_picked_blocks(rt: HostRuntime) -> Result<(), Fail> {
-    let mut shelf = fitted(rt.alloc(), &[], 2)?;
-    write(&mut shelf, 1, 0, 3)?;
-    write(&mut shelf, 0, 3, 2)?;
-    write(&mut shelf, 0, 1, 1)?;
-    shelf.crash(5);
-    assert!(rt; last_byte(&mut shelf, 0, 3) == Err(ShelfError::Down));
-    raise(&mut shelf);
-    for (unit, block, want) in [(0, 1, 1), (0, 3, 0), (1, 0, 3)] {
-        assert!(rt;
-            last_byte(&mut shelf, unit, block) == Ok(want),
-            "at {unit} {block}"
-        );
+const DONE: Result<(), ShelfError> = Ok(());
+
+const DOWN: Result<(), ShelfError> = Err(ShelfError::Down);
+
+const FAULT: Result<(), ShelfError> = Err(ShelfError::Fault { disk: 1 });
+
+// What is done to a shelf, or what a call on it is answered.
+enum Step {
+    // The disk, the block, the byte and the answer; and of two blocks.
+    Writes(u32, u64, u8, Result<(), ShelfError>),
+    PutsTwo(u32, u64, u8, Result<(), ShelfError>),
+    Flushes(u32, Result<(), ShelfError>),
+    // The last byte of a block of a disk, or why it is not read.
+    Reads(u32, u64, Result<u8, ShelfError>),
+    // The faults of a disk.
+    Faults(u32, u64),
+    Crashes(u64),
+    Fuse(u64, u64),
+    Raises,
+    Fails(u32),
+    Works(u32),
+}
+
+// What the steps show, the calls that fail, the disks of 8 blocks, and the steps.
+const STEPS: &[(&str, &[u64], u32, &[Step])] = &[
+    (
+        "a crash keeps the picked blocks",
+        &[],
+        2,
+        &[
+            Step::Writes(1, 0, 3, DONE),
+            Step::Writes(0, 3, 2, DONE),
+            Step::Writes(0, 1, 1, DONE),
+            Step::Crashes(5),
+            Step::Reads(0, 3, Err(ShelfError::Down)),
+            Step::Raises,
+            Step::Reads(0, 1, Ok(1)),
+            Step::Reads(0, 3, Ok(0)),
+            Step::Reads(1, 0, Ok(3)),
+        ],
+    ),
+    (
+        "what was flushed stays",
+        &[],
+        1,
+        &[
+            Step::Writes(0, 1, 1, DONE),
+            Step::Flushes(0, DONE),
+            Step::PutsTwo(0, 2, 4, DONE),
+            Step::Writes(0, 1, 7, DONE),
+            Step::Crashes(0),
+            Step::Raises,
+            Step::Reads(0, 0, Ok(0)),
+            Step::Reads(0, 1, Ok(1)),
+            Step::Reads(0, 2, Ok(4)),
+            Step::Reads(0, 3, Ok(4)),
+            Step::Reads(0, 4, Ok(0)),
+        ],
+    ),
+    (
+        "a fuse lets writes and flushes pass",
+        &[],
+        1,
+        &[
+            Step::Fuse(2, 1),
+            Step::Writes(0, 1, 1, DONE),
+            Step::Reads(0, 1, Ok(1)),
+            Step::Writes(0, 2, 2, DONE),
+            Step::Flushes(0, DOWN),
+            Step::Raises,
+            Step::Reads(0, 1, Ok(1)),
+            Step::Reads(0, 2, Ok(0)),
+            Step::Writes(0, 2, 2, DONE),
+        ],
+    ),
+    (
+        "listed calls fail",
+        &[2, 4],
+        2,
+        &[
+            Step::Writes(1, 0, 1, DONE),
+            Step::Flushes(1, FAULT),
+            Step::Reads(1, 0, Ok(1)),
+            Step::Reads(0, 0, Err(ShelfError::Fault { disk: 0 })),
+            Step::Reads(0, 0, Ok(0)),
+            Step::Faults(0, 1),
+            Step::Faults(1, 1),
+        ],
+    ),
+    (
+        "a failing disk fails until it works",
+        &[],
+        2,
+        &[
+            Step::Fails(1),
+            Step::Writes(1, 0, 1, FAULT),
+            Step::Reads(1, 0, Err(ShelfError::Fault { disk: 1 })),
+            Step::Writes(0, 0, 1, DONE),
+            Step::Works(1),
+            Step::Reads(1, 0, Ok(0)),
+            Step::Faults(1, 2),
+        ],
+    ),
+];
+
+// Whether a step is done, or answered what it says.
+fn goes(shelf: &mut MemShelf, step: &Step) -> bool {
+    match step {
+        Step::Writes(unit, block, value, wanted) => write(shelf, *unit, *block, *value) == *wanted,
+        Step::PutsTwo(unit, block, value, wanted) => {
+            put_two(shelf, *unit, *block, *value) == *wanted
+        }
+        Step::Flushes(unit, wanted) => flush(shelf, *unit) == *wanted,
+        Step::Reads(unit, block, wanted) => last_byte(shelf, *unit, *block) == *wanted,
+        Step::Faults(unit, wanted) => faults(shelf, *unit) == *wanted,
+        Step::Crashes(pick) => {
+            shelf.crash(*pick);
+            true
+        }
+        Step::Fuse(calls, pick) => {
+            shelf.fuse(*calls, *pick);
+            true
+        }
+        Step::Raises => {
+            raise(shelf);
+            true
+        }
+        Step::Fails(disk) => {
+            make_fail(shelf, *disk, true);
+            true
+        }
+        Step::Works(disk) => {
+            make_fail(shelf, *disk, false);
+            true
+        }
     }
-    Ok(())
 }
 
 #[test]
-fn what_was_flushed_stays(rt: HostRuntime) -> Result<(), Fail> {
-    let mut shelf = fitted(rt.alloc(), &[], 1)?;
-    write(&mut shelf, 0, 1, 1)?;
-    flush(&mut shelf, 0)?;
-    put_two(&mut shelf, 0, 2, 4)?;
-    write(&mut shelf, 0, 1, 7)?;
-    shelf.crash(0);
-    raise(&mut shelf);
-    for (block, want) in [(0, 0), (1, 1), (2, 4), (3, 4), (4, 0)] {
-        assert!(rt; last_byte(&mut shelf, 0, block) == Ok(want), "at {block}");
+fn shelves_crash_and_fail(rt: HostRuntime) -> Result<(), Fail> {
+    for (shows, fails, disks, steps) in STEPS {
+        let mut shelf = fitted(rt.alloc(), fails, *disks)?;
+        for (at, step) in steps.iter().enumerate() {
+            assert!(rt; goes(&mut shelf, step), "{shows}: step {at}");
+        }
     }
-    Ok(())
-}
-
-#[test]
-fn a_fuse_lets_writes_and_flushes_pass(rt: HostRuntime) -> Result<(), Fail> {
-    let mut shelf = fitted(rt.alloc(), &[], 1)?;
-    shelf.fuse(2, 1);
-    write(&mut shelf, 0, 1, 1)?;
-    assert!(rt; last_byte(&mut shelf, 0, 1) == Ok(1));
-    write(&mut shelf, 0, 2, 2)?;
-    assert!(rt; flush(&mut shelf, 0) == Err(ShelfError::Down));
-    raise(&mut shelf);
-    assert!(rt; last_byte(&mut shelf, 0, 1) == Ok(1));
-    assert!(rt; last_byte(&mut shelf, 0, 2) == Ok(0));
-    assert!(rt; write(&mut shelf, 0, 2, 2) == Ok(()));
-    Ok(())
-}
-
-#[test]
-fn listed_calls_fail(rt: HostRuntime) -> Result<(), Fail> {
-    let mut shelf = fitted(rt.alloc(), &[2, 4], 2)?;
-    assert!(rt; write(&mut shelf, 1, 0, 1) == Ok(()));
-    assert!(rt; flush(&mut shelf, 1) == Err(ShelfError::Fault { disk: 1 }));
-    assert!(rt; last_byte(&mut shelf, 1, 0) == Ok(1));
-    assert!(rt; last_byte(&mut shelf, 0, 0) == Err(ShelfError::Fault { disk: 0 }));
-    assert!(rt; last_byte(&mut shelf, 0, 0) == Ok(0));
-    assert!(rt; (faults(&shelf, 0), faults(&shelf, 1)) == (1, 1));
-    Ok(())
-}
-
-#[test]
-fn a_failing_disk_fails_until_it_works(rt: HostRuntime) -> Result<(), Fail> {
-    let mut shelf = fitted(rt.alloc(), &[], 2)?;
-    make_fail(&mut shelf, 1, true);
-    assert!(rt; write(&mut shelf, 1, 0, 1) == Err(ShelfError::Fault { disk: 1 }));
-    assert!(rt; last_byte(&mut shelf, 1, 0) == Err(ShelfError::Fault { disk: 1 }));
-    assert!(rt; write(&mut shelf, 0, 0, 1) == Ok(()));
-    make_fail(&mut shelf, 1, false);
-    assert!(rt; last_byte(&mut shelf, 1, 0) == Ok(0));
-    assert!(rt; faults(&shelf, 1) == 2);
     Ok(())
 }
 
