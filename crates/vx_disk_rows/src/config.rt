@@ -40,19 +40,18 @@ const FAILED: DiskEntry = DiskEntry {
     failed: true,
 };
 
-fn run(disk: u8, start: u64, blocks: u64) -> Subdisk {
-    Subdisk {
-        disk,
-        start,
-        blocks,
-    }
-}
+// A subdisk: its disk, start and blocks.
+type Run = (u8, u64, u64);
 
-fn plex(alloc: Global, state: PlexState, runs: &[Subdisk]) -> Result<PlexEntry, OutOfMemory> {
+fn plex(alloc: Global, state: PlexState, runs: &[Run]) -> Result<PlexEntry, OutOfMemory> {
     let mut subdisks = Subdisks::new(alloc);
-    for run in runs {
+    for (disk, start, blocks) in runs {
         if subdisks.as_slice().len() < 255 {
-            subdisks.push(*run)?;
+            subdisks.push(Subdisk {
+                disk: *disk,
+                start: *start,
+                blocks: *blocks,
+            })?;
         }
     }
     Ok(PlexEntry {
@@ -77,8 +76,8 @@ fn group(
     ncol: u8,
     width: u32,
     drl: u64,
-    first: &[Subdisk],
-    second: &[Subdisk],
+    first: &[Run],
+    second: &[Run],
 ) -> Result<Config, OutOfMemory>
     ensures { IfOk result CanSpell }
 {
@@ -111,7 +110,7 @@ fn group(
 fn mirror(alloc: Global) -> Result<Config, OutOfMemory>
     ensures { IfOk result CanSpell }
 {
-    group(alloc, 1, 0, 576, &[run(0, 512, 64)], &[run(1, 512, 64)])
+    group(alloc, 1, 0, 576, &[(0, 512, 64)], &[(1, 512, 64)])
 }
 
 #[test]
@@ -233,46 +232,81 @@ fn finds_the_first_missing_field(rt: HostRuntime) {
     }
 }
 
-#[test]
-fn tests_where_blocks_lie(rt: HostRuntime) -> Result<(), Fail> {
-    for (first, second, drl, wanted) in [
-        (run(0, 512, 64), run(1, 512, 64), 576, true),
-        (run(0, 512, 64), run(0, 577, 64), 576, true),
-        (run(0, 512, 64), run(0, 576, 64), 576, false),
-        (run(0, 512, 64), run(0, 575, 64), 700, false),
-        (run(0, 511, 64), run(1, 512, 64), 576, false),
-        (run(0, 512, 64), run(1, 961, 64), 576, false),
-        (run(0, 512, 64), run(1, 960, 64), 576, true),
-        (run(0, 512, 64), run(2, 512, 64), 576, false),
-        (run(0, 512, 63), run(1, 512, 64), 576, false),
-        (run(0, 512, 64), run(1, 512, 64), 1024, false),
-    ] {
-        let config = group(rt.alloc(), 1, 0, drl, &[first], &[second])?;
-        assert!(rt; check(&config) == wanted);
-    }
-    Ok(())
-}
+// The columns and the width, the block of the DRL, the subdisks of both plexes, and whether the group is sound: where blocks lie, and
+// columns of the plexes.
+const LAYOUTS: &[(u8, u32, u64, &[Run], &[Run], bool)] = &[
+    (1, 0, 576, &[(0, 512, 64)], &[(1, 512, 64)], true),
+    (1, 0, 576, &[(0, 512, 64)], &[(0, 577, 64)], true),
+    (1, 0, 576, &[(0, 512, 64)], &[(0, 576, 64)], false),
+    (1, 0, 700, &[(0, 512, 64)], &[(0, 575, 64)], false),
+    (1, 0, 576, &[(0, 511, 64)], &[(1, 512, 64)], false),
+    (1, 0, 576, &[(0, 512, 64)], &[(1, 961, 64)], false),
+    (1, 0, 576, &[(0, 512, 64)], &[(1, 960, 64)], true),
+    (1, 0, 576, &[(0, 512, 64)], &[(2, 512, 64)], false),
+    (1, 0, 576, &[(0, 512, 63)], &[(1, 512, 64)], false),
+    (1, 0, 1024, &[(0, 512, 64)], &[(1, 512, 64)], false),
+    (
+        2,
+        16,
+        1000,
+        &[(0, 512, 32), (1, 512, 32)],
+        &[(0, 700, 32), (1, 700, 32)],
+        true,
+    ),
+    (
+        2,
+        16,
+        1000,
+        &[(0, 512, 16), (1, 512, 48)],
+        &[(0, 700, 16), (1, 700, 48)],
+        false,
+    ),
+    (
+        2,
+        5,
+        1000,
+        &[(0, 512, 35), (1, 512, 35)],
+        &[(0, 700, 35), (1, 700, 35)],
+        true,
+    ),
+    (
+        2,
+        0,
+        1000,
+        &[(0, 512, 32), (1, 512, 32)],
+        &[(0, 700, 32), (1, 700, 32)],
+        false,
+    ),
+    (
+        9,
+        16,
+        1000,
+        &[(0, 512, 32), (1, 512, 32)],
+        &[(0, 700, 32), (1, 700, 32)],
+        false,
+    ),
+    (
+        1,
+        0,
+        1000,
+        &[(0, 512, 32), (1, 512, 32)],
+        &[(0, 700, 32), (1, 700, 32)],
+        true,
+    ),
+];
 
 #[test]
-fn tests_columns(rt: HostRuntime) -> Result<(), Fail> {
-    for (ncol, width, runs, wanted) in [
-        (2, 16, [run(0, 512, 32), run(1, 512, 32)], true),
-        (2, 16, [run(0, 512, 16), run(1, 512, 48)], false),
-        (2, 5, [run(0, 512, 35), run(1, 512, 35)], true),
-        (2, 0, [run(0, 512, 32), run(1, 512, 32)], false),
-        (9, 16, [run(0, 512, 32), run(1, 512, 32)], false),
-        (1, 0, [run(0, 512, 32), run(1, 512, 32)], true),
-    ] {
-        let other = [run(0, 700, runs[0].blocks), run(1, 700, runs[1].blocks)];
-        let config = group(rt.alloc(), ncol, width, 1000, &runs, &other)?;
-        assert!(rt; check(&config) == wanted);
+fn tests_layouts(rt: HostRuntime) -> Result<(), Fail> {
+    for (at, (ncol, width, drl, first, second, wanted)) in LAYOUTS.iter().enumerate() {
+        let config = group(rt.alloc(), *ncol, *width, *drl, first, second)?;
+        assert!(rt; check(&config) == *wanted, "layout {at}");
     }
     Ok(())
 }
 
 #[test]
 fn refuses_too_many_subdisks(rt: HostRuntime) -> Result<(), Fail> {
-    let runs = [run(0, 512, 0); 255];
+    let runs = [(0, 512, 0); 255];
     let mut config = group(rt.alloc(), 1, 0, 576, &runs, &runs)?;
     let mut volumes = Volumes::new(rt.alloc());
     for _ in 0..3 {
