@@ -47,35 +47,31 @@ fn made(alloc: Global, shelf: MemShelf) -> Told {
 #[test]
 fn each_call_of_a_new_group_fails(rt: HostRuntime) -> Result<(), Fail> {
     let alloc = rt.alloc();
-    // Three calls clear the headers of a disk, two write its label, and six commit to it, of which two are reads.
-    for (call, wanted) in [
-        (0, Told::Made(1, 3)),
-        (1, Told::Device(0)),
-        (3, Told::Device(0)),
-        (4, Told::Device(1)),
-        (6, Told::Device(1)),
-        (7, Told::Device(0)),
-        (8, Told::Device(0)),
-        (9, Told::Device(1)),
-        (10, Told::Device(1)),
-        (11, Told::Made(2, 2)),
-        (16, Told::Made(2, 2)),
-        (17, Told::Made(2, 1)),
-        (22, Told::Made(2, 1)),
-        (23, Told::Other),
+    // Three calls clear the headers of a disk, two write its label, and six commit to it, of which two are reads. Where no call fails, disks of
+    // 1,023 blocks are refused.
+    for (call, blocks, wanted) in [
+        (0, 1024, Told::Made(1, 3)),
+        (1, 1024, Told::Device(0)),
+        (3, 1024, Told::Device(0)),
+        (4, 1024, Told::Device(1)),
+        (6, 1024, Told::Device(1)),
+        (7, 1024, Told::Device(0)),
+        (8, 1024, Told::Device(0)),
+        (9, 1024, Told::Device(1)),
+        (10, 1024, Told::Device(1)),
+        (11, 1024, Told::Made(2, 2)),
+        (16, 1024, Told::Made(2, 2)),
+        (17, 1024, Told::Made(2, 1)),
+        (22, 1024, Told::Made(2, 1)),
+        (23, 1024, Told::Other),
+        (0, 1023, Told::Small),
     ] {
         let mut shelf = MemShelf::new(alloc, &[call])?;
-        assert!(rt; shelf.fit(alloc, None, 7, 2, 1024).is_ok());
-        assert!(rt; made(alloc, shelf) == wanted);
+        assert!(rt; shelf.fit(alloc, None, 7, 2, blocks).is_ok());
+        assert!(rt;
+            made(alloc, shelf) == wanted,
+            "call {call}, {blocks} blocks"
+        );
     }
-    Ok(())
-}
-
-#[test]
-fn small_disks_are_refused(rt: HostRuntime) -> Result<(), Fail> {
-    let alloc = rt.alloc();
-    let mut shelf = MemShelf::new(alloc, &[])?;
-    assert!(rt; shelf.fit(alloc, None, 7, 2, 1023).is_ok());
-    assert!(rt; made(alloc, shelf) == Told::Small);
     Ok(())
 }

@@ -1,140 +1,219 @@
-// Writes, detaches and attaches with each of their device calls failing, and what a crash and an import then give.
-use crate::attaches::att;
-use crate::cuts::{behind, volume};
-use crate::imports::{again, disks_of, group_on};
-use crate::regains::failing;
-use crate::rows::{Call, first_wrong};
-use crate::volumes::{Told, det, flush, get, make, plain, put, state};
-use std::test::*;
-use vx_config::PlexState;
-use vx_layout::Shape;
+// Writes, detaches and attaches with each of their device calls failing, and what a crash and an import then give. The crash keeps all that was
+// written where the number of the call is odd, and nothing that no flush made durable where it is even.
+use crate::cuts::{BEFORE, KEPT, LOST, NEW_OFF, NEW_ON, OLD_OFF, OLD_ON, VOLUME};
+use crate::rows::{Call, Case, NONE, OFF, ON, Row, Trouble};
+use crate::volumes::Told;
 
-// More writes and flushes than a test makes.
-const ALL: u64 = 100;
+// A write that fails on the first plex, or on the second one.
+const FIRST_FAILS: &[Row] = &[
+    (Call::Put(0, 3, 0x22), Told::Done),
+    (Call::State(0, 0), OFF),
+    (Call::State(0, 1), ON),
+    (Call::Flush(0), Told::Done),
+];
 
-// What the crash behind it keeps: all that was written, or nothing that no flush made durable.
-fn pick_of(call: u64) -> u64 {
-    if call % 2 == 0 { 0 } else { u64::MAX }
-}
+const SECOND_FAILS: &[Row] = &[
+    (Call::Put(0, 3, 0x22), Told::Done),
+    (Call::State(0, 0), ON),
+    (Call::State(0, 1), OFF),
+    (Call::Flush(0), Told::Done),
+];
 
-#[test]
-fn each_call_of_a_write_fails(rt: HostRuntime) -> Result<(), Fail> {
-    let alloc = rt.alloc();
-    let block = Told::Block(0x22);
+const DETACHED: &[Row] = &[(Call::Det(0, 1), Told::Done)];
+
+const ATTACHED: &[Row] = &[(Call::Att(0, 1), Told::Attached(1))];
+
+const ATTACH_CUT: &[Row] = &[(Call::Att(0, 1), Told::Down)];
+
+pub const CASES: &[Case] = &[
     // A volume with one block that was written and flushed has had 42 calls. The write to the first plex or to the second one fails, and a
     // commit follows with six calls on each disk, of which one more fails.
-    for (first, on) in [(43, false), (44, true)] {
-        for second in 45..57 {
-            let pick = pick_of(second);
-            let mut group = volume(alloc, &[first, second], ALL, pick)?;
-            assert!(rt; put(&mut group, 0, 3, 0x22) == Told::Done);
-            let states = (
-                state(group.config(), 0, 0) == Some(PlexState::Active),
-                state(group.config(), 0, 1) == Some(PlexState::Active),
-            );
-            assert!(rt; states == (on, !on));
-            assert!(rt; flush(&mut group, 0) == Told::Done);
-            assert!(rt; behind(alloc, group, pick) == (block, block, !on));
-        }
-    }
-    Ok(())
-}
-
-#[test]
-fn each_call_of_a_detach_fails(rt: HostRuntime) -> Result<(), Fail> {
-    let alloc = rt.alloc();
-    let block = Told::Block(0x11);
-    for call in 43..55 {
-        let pick = pick_of(call);
-        let mut group = volume(alloc, &[call], ALL, pick)?;
-        assert!(rt; det(&mut group, 0, 1) == Told::Done);
-        assert!(rt; behind(alloc, group, pick) == (block, block, false));
-    }
-    Ok(())
-}
-
-#[test]
-fn each_call_of_an_attach_fails(rt: HostRuntime) -> Result<(), Fail> {
-    let alloc = rt.alloc();
-    let block = Told::Block(0x11);
+    (
+        "a write fails on the first plex, and a call of its commit, and what was written is kept",
+        2,
+        Trouble::Fails(&[
+            &[43, 45],
+            &[43, 47],
+            &[43, 49],
+            &[43, 51],
+            &[43, 53],
+            &[43, 55],
+        ]),
+        &[VOLUME, FIRST_FAILS, KEPT, NEW_ON],
+        &[],
+    ),
+    (
+        "a write fails on the first plex, and a call of its commit, and what was written is lost",
+        2,
+        Trouble::Fails(&[
+            &[43, 46],
+            &[43, 48],
+            &[43, 50],
+            &[43, 52],
+            &[43, 54],
+            &[43, 56],
+        ]),
+        &[VOLUME, FIRST_FAILS, LOST, NEW_ON],
+        &[],
+    ),
+    (
+        "a write fails on the second plex, and a call of its commit, and what was written is kept",
+        2,
+        Trouble::Fails(&[
+            &[44, 45],
+            &[44, 47],
+            &[44, 49],
+            &[44, 51],
+            &[44, 53],
+            &[44, 55],
+        ]),
+        &[VOLUME, SECOND_FAILS, KEPT, NEW_OFF],
+        &[],
+    ),
+    (
+        "a write fails on the second plex, and a call of its commit, and what was written is lost",
+        2,
+        Trouble::Fails(&[
+            &[44, 46],
+            &[44, 48],
+            &[44, 50],
+            &[44, 52],
+            &[44, 54],
+            &[44, 56],
+        ]),
+        &[VOLUME, SECOND_FAILS, LOST, NEW_OFF],
+        &[],
+    ),
+    (
+        "a call of a detach fails, and what was written is kept",
+        2,
+        Trouble::Fails(&[&[43], &[45], &[47], &[49], &[51], &[53]]),
+        &[VOLUME, DETACHED, KEPT, OLD_OFF],
+        &[],
+    ),
+    (
+        "a call of a detach fails, and what was written is lost",
+        2,
+        Trouble::Fails(&[&[44], &[46], &[48], &[50], &[52], &[54]]),
+        &[VOLUME, DETACHED, LOST, OLD_OFF],
+        &[],
+    ),
     // A detach has 12 calls. The first plex is read, and the second one written and flushed; the commit behind it does without a disk.
-    for call in 55..70 {
-        let (answer, on) = match call {
-            55 => (Told::Device(0), false),
-            56 | 57 => (Told::Device(1), false),
-            _ => (Told::Attached(1), true),
-        };
-        let pick = pick_of(call);
-        let mut group = volume(alloc, &[call], ALL, pick)?;
-        assert!(rt; det(&mut group, 0, 1) == Told::Done);
-        assert!(rt; att(&mut group, 0, 1) == answer);
-        assert!(rt; behind(alloc, group, pick) == (block, block, on));
-    }
-    Ok(())
-}
-
-#[test]
-fn each_call_of_an_attach_is_cut(rt: HostRuntime) -> Result<(), Fail> {
-    let alloc = rt.alloc();
-    let block = Told::Block(0x11);
+    (
+        "the read of an attach fails",
+        2,
+        Trouble::Fails(&[&[55]]),
+        &[
+            VOLUME,
+            DETACHED,
+            &[(Call::Att(0, 1), Told::Device(0))],
+            KEPT,
+            OLD_OFF,
+        ],
+        &[],
+    ),
+    (
+        "the write of an attach fails",
+        2,
+        Trouble::Fails(&[&[56]]),
+        &[
+            VOLUME,
+            DETACHED,
+            &[(Call::Att(0, 1), Told::Device(1))],
+            LOST,
+            OLD_OFF,
+        ],
+        &[],
+    ),
+    (
+        "the flush of an attach fails",
+        2,
+        Trouble::Fails(&[&[57]]),
+        &[
+            VOLUME,
+            DETACHED,
+            &[(Call::Att(0, 1), Told::Device(1))],
+            KEPT,
+            OLD_OFF,
+        ],
+        &[],
+    ),
+    (
+        "a call of the commit of an attach fails, and what was written is lost",
+        2,
+        Trouble::Fails(&[&[58], &[60], &[62], &[64], &[66], &[68]]),
+        &[VOLUME, DETACHED, ATTACHED, LOST, OLD_ON],
+        &[],
+    ),
+    (
+        "a call of the commit of an attach fails, and what was written is kept",
+        2,
+        Trouble::Fails(&[&[59], &[61], &[63], &[65], &[67], &[69]]),
+        &[VOLUME, DETACHED, ATTACHED, KEPT, OLD_ON],
+        &[],
+    ),
     // A detach has eight writes and flushes, an attach two and the eight of its commit. The configuration counts once the first header is
     // durable, or kept.
-    for (pick, header) in [(0, 6), (u64::MAX, 5)] {
-        for calls in 0..11 {
-            let mut group = volume(alloc, &[], 8 + calls, pick)?;
-            assert!(rt; det(&mut group, 0, 1) == Told::Done);
-            let answer = if calls < 10 {
-                Told::Down
-            } else {
-                Told::Attached(1)
-            };
-            assert!(rt; att(&mut group, 0, 1) == answer);
-            assert!(rt; behind(alloc, group, pick) == (block, block, calls >= header));
-        }
-    }
-    Ok(())
-}
-
-const STRIPED: Shape = Shape {
-    blocks: 100,
-    mirrors: 1,
-    ncol: 2,
-    width: 16,
-    drl: false,
-    fmr: false,
-    prefer: None,
-};
-
-#[test]
-fn a_disk_is_away_over_a_deport(rt: HostRuntime) -> Result<(), Fail> {
-    let alloc = rt.alloc();
-    let mut group = group_on(alloc, disks_of(alloc, &[], 3, 1024)?)?;
-    assert!(rt; make(alloc, &mut group, b"v", &plain(256, 2)) == Told::Volume(0));
-    let mut group = failing(group, 1, true);
-    assert!(rt; put(&mut group, 0, 70, 0xbb) == Told::Done);
-    let group = failing(group, 1, false);
-    let found = match group.deport() {
-        Ok(shelf) => again(alloc, shelf),
-        Err(_) => None,
-    };
-    let mut group = match found {
-        Some(group) => group,
-        None => {
-            assert!(rt; false);
-            return Ok(());
-        }
-    };
-    let rows = [
-        (Call::Att(0, 1), Told::Attached(4)),
-        (Call::Att(0, 1), Told::Attached(0)),
-        (Call::Get(0, 70), Told::Block(0xbb)),
-        (Call::Get(0, 70), Told::Block(0xbb)),
-        (Call::Make(b"w", 2000, 1), Told::Space(2000, 1024)),
-    ];
-    assert!(rt; first_wrong(alloc, &mut group, &rows) == None);
-    assert!(rt; make(alloc, &mut group, b"s", &STRIPED) == Told::Volume(1));
-    assert!(rt; put(&mut group, 1, 40, 0x77) == Told::Done);
-    let (mut shelf, _core) = group.apart();
-    assert!(rt; get(&mut shelf, 0, 792) == Told::Block(0x77));
-    Ok(())
-}
+    (
+        "an attach is cut and what was written is lost: down, STALE",
+        2,
+        Trouble::Cut(BEFORE + 8, &[0, 1, 2, 3, 4, 5], 0, 0),
+        &[VOLUME, DETACHED, ATTACH_CUT, LOST, OLD_OFF],
+        &[],
+    ),
+    (
+        "an attach is cut and what was written is lost: down, ACTIVE",
+        2,
+        Trouble::Cut(BEFORE + 8, &[6, 7, 8, 9], 0, 0),
+        &[VOLUME, DETACHED, ATTACH_CUT, LOST, OLD_ON],
+        &[],
+    ),
+    (
+        "an attach is cut and what was written is lost: done, ACTIVE",
+        2,
+        Trouble::Cut(BEFORE + 8, &[10], 0, 0),
+        &[VOLUME, DETACHED, ATTACHED, LOST, OLD_ON],
+        &[],
+    ),
+    (
+        "an attach is cut and what was written is kept: down, STALE",
+        2,
+        Trouble::Cut(BEFORE + 8, &[0, 1, 2, 3, 4], u64::MAX, 0),
+        &[VOLUME, DETACHED, ATTACH_CUT, KEPT, OLD_OFF],
+        &[],
+    ),
+    (
+        "an attach is cut and what was written is kept: down, ACTIVE",
+        2,
+        Trouble::Cut(BEFORE + 8, &[5, 6, 7, 8, 9], u64::MAX, 0),
+        &[VOLUME, DETACHED, ATTACH_CUT, KEPT, OLD_ON],
+        &[],
+    ),
+    (
+        "an attach is cut and what was written is kept: done, ACTIVE",
+        2,
+        Trouble::Cut(BEFORE + 8, &[10], u64::MAX, 0),
+        &[VOLUME, DETACHED, ATTACHED, KEPT, OLD_ON],
+        &[],
+    ),
+    (
+        "a disk is away over a deport",
+        3,
+        NONE,
+        &[&[
+            (Call::Make(b"v", 256, 2), Told::Volume(0)),
+            (Call::Fail(1, true), Told::Done),
+            (Call::Put(0, 70, 0xbb), Told::Done),
+            (Call::Fail(1, false), Told::Done),
+            (Call::Deport, Told::Done),
+            (Call::Att(0, 1), Told::Attached(4)),
+            (Call::Att(0, 1), Told::Attached(0)),
+            (Call::Get(0, 70), Told::Block(0xbb)),
+            (Call::Get(0, 70), Told::Block(0xbb)),
+            (Call::Make(b"w", 2000, 1), Told::Space(2000, 1024)),
+            (Call::Striped(b"s"), Told::Volume(1)),
+            (Call::Put(1, 40, 0x77), Told::Done),
+        ]],
+        &[(0, 792, 0x77)],
+    ),
+];

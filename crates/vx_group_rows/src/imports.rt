@@ -1,9 +1,9 @@
 // Groups that are imported over a shelf in memory behind crashes and deports, with each device call of an import failing or cut in turn.
-use crate::rows::{Call, first_wrong};
-use crate::volumes::{Told, get, make, plain, put, state, told_of};
+use crate::rows::{Call, Case, NONE, OFF, ON, Row, Trouble, went};
+use crate::volumes::{Told, told_of};
 use std::alloc::Global;
 use std::test::*;
-use vx_config::{Config, PlexState};
+use vx_config::Config;
 use vx_disk::{MemShelf, Rack, Shelf};
 use vx_group::Group;
 use vx_model::OutOfMemory;
@@ -11,37 +11,6 @@ use vx_model::limits::{LEAST_BLOCKS, MOST_DISKS};
 use vx_untold::Untold;
 
 pub type Disks = Untold<MemShelf>;
-
-const ON: Option<PlexState> = Some(PlexState::Active);
-
-const OFF: Option<PlexState> = Some(PlexState::Stale);
-
-// What an import gave: its answer, the states of the first two plexes of a volume, and the first disk that is held as failed.
-#[derive(Clone, Copy, PartialEq, Eq)]
-struct Given {
-    told: Told,
-    first: Option<PlexState>,
-    second: Option<PlexState>,
-    failed: Option<usize>,
-}
-
-fn done_with(first: Option<PlexState>, second: Option<PlexState>, failed: Option<usize>) -> Given {
-    Given {
-        told: Told::Done,
-        first,
-        second,
-        failed,
-    }
-}
-
-fn refused(told: Told) -> Given {
-    Given {
-        told,
-        first: None,
-        second: None,
-        failed: None,
-    }
-}
 
 pub fn failed_disk(config: &Config) -> Option<usize> {
     let disks = config.disks.as_slice();
@@ -97,7 +66,8 @@ pub fn crashed(group: Group<Disks>, pick: u64) -> Disks {
     revived(disks)
 }
 
-fn fail(shelf: Disks, disk: u32, on: bool) -> Disks {
+/// The disks with one of them made to fail, or working again.
+pub fn fail(shelf: Disks, disk: u32, on: bool) -> Disks {
     let mut disks = shelf.shelf;
     if disk < disks.units() {
         disks.fail(disk, on);
@@ -105,159 +75,257 @@ fn fail(shelf: Disks, disk: u32, on: bool) -> Disks {
     Untold { shelf: disks }
 }
 
-// What an import gives, and the disks behind a crash that keeps what was written.
-fn import(alloc: Global, shelf: Disks, volume: usize) -> (Disks, Given) {
+/// The group that an import gives, and its answer; where it is refused, what one more import gives, before which this disk works again.
+pub fn brought(alloc: Global, shelf: Disks, disk: u32) -> (Option<Group<Disks>>, Told) {
     match Group::import(alloc, shelf) {
-        Ok(group) => {
-            let config = group.config();
-            let was = done_with(
-                state(config, volume, 0),
-                state(config, volume, 1),
-                failed_disk(config),
-            );
-            (crashed(group, u64::MAX), was)
-        }
-        Err((shelf, stop)) => (revived(shelf.shelf), refused(told_of(stop))),
+        Ok(group) => (Some(group), Told::Done),
+        Err((shelf, stop)) => (
+            again(alloc, fail(revived(shelf.shelf), disk, false)),
+            told_of(stop),
+        ),
     }
 }
 
-/// The group that an import gives, where it gives one.
-pub fn again(alloc: Global, shelf: Disks) -> Option<Group<Disks>> {
+// The group that an import gives, where it gives one.
+fn again(alloc: Global, shelf: Disks) -> Option<Group<Disks>> {
     match Group::import(alloc, shelf) {
         Ok(group) => Some(group),
         Err(_) => None,
     }
 }
 
-/// What two reads of a block give behind an import.
-pub fn reads(alloc: Global, shelf: Disks, volume: u32, block: u64) -> (Told, Told) {
-    match Group::import(alloc, shelf) {
-        Ok(group) => {
-            let mut group = group;
-            let first = get(&mut group, volume, block);
-            (first, get(&mut group, volume, block))
-        }
-        Err((_shelf, stop)) => (told_of(stop), Told::Other),
-    }
-}
+// A volume of 16 blocks on two disks. A crash keeps a write on the first plex alone; so far the disks have had 40 calls, of which 32 were
+// writes and flushes.
+const TORN: &[Row] = &[
+    (Call::Make(b"v", 16, 2), Told::Volume(0)),
+    (Call::Put(0, 3, 0x11), Told::Done),
+];
 
-// A volume of 16 blocks on two disks, of which a crash kept a write on the first plex alone. So far the disks have had 40 calls.
-fn torn(alloc: Global, fails: &[u64]) -> Result<Disks, OutOfMemory> {
-    let mut group = group_on(alloc, disks_of(alloc, fails, 2, 1024)?)?;
-    if make(alloc, &mut group, b"v", &plain(16, 2)) != Told::Volume(0)
-        || put(&mut group, 0, 3, 0x11) != Told::Done
-    {
-        return Err(OutOfMemory);
-    }
-    Ok(crashed(group, 1))
-}
+const BROUGHT: &[Row] = &[(Call::Crash(1), Told::Done)];
 
-#[test]
-fn each_call_of_an_import_fails(rt: HostRuntime) -> Result<(), Fail> {
-    let alloc = rt.alloc();
+// Both plexes are ACTIVE, and no disk is held as failed.
+const WHOLE: &[Row] = &[
+    (Call::State(0, 0), ON),
+    (Call::State(0, 1), ON),
+    (Call::Failed, Told::Failed(None)),
+];
+
+// The second plex is STALE.
+const SECOND_STALE: &[Row] = &[
+    (Call::State(0, 0), ON),
+    (Call::State(0, 1), OFF),
+    (Call::Failed, Told::Failed(None)),
+];
+
+const FIRST_FAILED: &[Row] = &[
+    (Call::State(0, 0), ON),
+    (Call::State(0, 1), ON),
+    (Call::Failed, Told::Failed(Some(0))),
+];
+
+const SECOND_FAILED: &[Row] = &[
+    (Call::State(0, 0), ON),
+    (Call::State(0, 1), ON),
+    (Call::Failed, Told::Failed(Some(1))),
+];
+
+// Behind a crash that keeps what was written an import is done, and two reads give the block.
+const AGAIN: &[Row] = &[
+    (Call::Crash(u64::MAX), Told::Done),
+    (Call::Get(0, 3), Told::Block(0x11)),
+    (Call::Get(0, 3), Told::Block(0x11)),
+];
+
+// The import behind one that was refused is done, and two reads give the block.
+const READ: &[Row] = &[
+    (Call::Get(0, 3), Told::Block(0x11)),
+    (Call::Get(0, 3), Told::Block(0x11)),
+];
+
+pub const CASES: &[Case] = &[
     // Five calls read each disk, and five write its headers back. The first plex is read, both are written and flushed, and a commit has six
     // calls on each disk.
-    for (call, wanted) in [
-        (40, done_with(ON, OFF, None)),
-        (41, refused(Told::Missing(0))),
-        (45, refused(Told::Missing(0))),
-        (46, refused(Told::Missing(1))),
-        (50, refused(Told::Missing(1))),
-        (51, done_with(ON, ON, Some(0))),
-        (55, done_with(ON, ON, Some(0))),
-        (56, done_with(ON, ON, Some(1))),
-        (60, done_with(ON, ON, Some(1))),
-        (61, refused(Told::Device(0))),
-        (62, refused(Told::Device(0))),
-        (63, done_with(ON, OFF, None)),
-        (64, done_with(OFF, ON, None)),
-        (65, done_with(ON, OFF, None)),
-        (66, done_with(ON, ON, Some(0))),
-        (71, done_with(ON, ON, Some(0))),
-        (72, done_with(ON, ON, Some(1))),
-        (77, done_with(ON, ON, Some(1))),
-    ] {
-        let (shelf, was) = import(alloc, torn(alloc, &[call])?, 0);
-        assert!(rt; was == wanted);
-        assert!(rt; reads(alloc, shelf, 0, 3) == (Told::Block(0x11), Told::Block(0x11)));
-    }
-    Ok(())
-}
+    (
+        "the write to the second plex fails",
+        2,
+        Trouble::Fails(&[&[40]]),
+        &[TORN, BROUGHT, SECOND_STALE, AGAIN],
+        &[],
+    ),
+    (
+        "an import is refused that cannot read the first disk",
+        2,
+        Trouble::Fails(&[&[41], &[45]]),
+        &[TORN, &[(Call::Crash(1), Told::Missing(0))], READ],
+        &[],
+    ),
+    (
+        "an import is refused that cannot read the second disk",
+        2,
+        Trouble::Fails(&[&[46], &[50]]),
+        &[TORN, &[(Call::Crash(1), Told::Missing(1))], READ],
+        &[],
+    ),
+    (
+        "an import holds the first disk as failed that fails in the writing of headers",
+        2,
+        Trouble::Fails(&[&[51], &[55]]),
+        &[TORN, BROUGHT, FIRST_FAILED, AGAIN],
+        &[],
+    ),
+    (
+        "an import holds the second disk as failed that fails in the writing of headers",
+        2,
+        Trouble::Fails(&[&[56], &[60]]),
+        &[TORN, BROUGHT, SECOND_FAILED, AGAIN],
+        &[],
+    ),
+    (
+        "an import is refused that cannot read or write the first plex",
+        2,
+        Trouble::Fails(&[&[61], &[62]]),
+        &[TORN, &[(Call::Crash(1), Told::Device(0))], READ],
+        &[],
+    ),
+    (
+        "an import holds a plex as STALE that fails in the copy: the second one",
+        2,
+        Trouble::Fails(&[&[63], &[65]]),
+        &[TORN, BROUGHT, SECOND_STALE, AGAIN],
+        &[],
+    ),
+    (
+        "an import holds a plex as STALE that fails in the copy: the first one",
+        2,
+        Trouble::Fails(&[&[64]]),
+        &[
+            TORN,
+            BROUGHT,
+            &[
+                (Call::State(0, 0), OFF),
+                (Call::State(0, 1), ON),
+                (Call::Failed, Told::Failed(None)),
+            ],
+            AGAIN,
+        ],
+        &[],
+    ),
+    (
+        "an import holds the first disk as failed that fails in the commit",
+        2,
+        Trouble::Fails(&[&[66], &[71]]),
+        &[TORN, BROUGHT, FIRST_FAILED, AGAIN],
+        &[],
+    ),
+    (
+        "an import holds the second disk as failed that fails in the commit",
+        2,
+        Trouble::Fails(&[&[72], &[77]]),
+        &[TORN, BROUGHT, SECOND_FAILED, AGAIN],
+        &[],
+    ),
+    (
+        "a group behind a crash",
+        2,
+        NONE,
+        &[
+            &[
+                (Call::Make(b"log1", 64, 2), Told::Volume(0)),
+                (Call::Make(b"maps", 8, 2), Told::Volume(1)),
+                (Call::Make(b"v", 256, 2), Told::Volume(2)),
+                (Call::Put(2, 0, 0x11), Told::Done),
+                (Call::Flush(2), Told::Done),
+                (Call::Crash(0), Told::Done),
+            ],
+            WHOLE,
+            &[
+                (Call::Crash(u64::MAX), Told::Done),
+                (Call::State(1, 0), ON),
+                (Call::State(1, 1), ON),
+                (Call::Failed, Told::Failed(None)),
+                (Call::Crash(u64::MAX), Told::Done),
+                (Call::State(2, 0), ON),
+                (Call::State(2, 1), ON),
+                (Call::Failed, Told::Failed(None)),
+                (Call::Crash(u64::MAX), Told::Done),
+                (Call::Get(2, 0), Told::Block(0x11)),
+                (Call::Get(2, 0), Told::Block(0x11)),
+            ],
+        ],
+        &[],
+    ),
+    // Call 87 is the write to the second plex.
+    (
+        "a group behind a deport",
+        3,
+        Trouble::Fails(&[&[87]]),
+        &[
+            &[
+                (Call::Make(b"v", 256, 2), Told::Volume(0)),
+                (Call::Put(0, 70, 0xbb), Told::Done),
+                (Call::Deport, Told::Done),
+            ],
+            SECOND_STALE,
+            &[
+                (Call::Crash(u64::MAX), Told::Done),
+                (Call::Get(0, 70), Told::Block(0xbb)),
+                (Call::Get(0, 70), Told::Block(0xbb)),
+            ],
+        ],
+        &[],
+    ),
+    // Of the calls above 18 are writes and flushes.
+    (
+        "an import is cut behind its last write, and what was written is lost",
+        2,
+        NONE,
+        &[TORN, &[(Call::Cut(1, 18, 0), Told::Done)], WHOLE, AGAIN],
+        &[],
+    ),
+    (
+        "an import is cut behind its last write, and what was written is kept",
+        2,
+        NONE,
+        &[
+            TORN,
+            &[(Call::Cut(1, 18, u64::MAX), Told::Done)],
+            WHOLE,
+            AGAIN,
+        ],
+        &[],
+    ),
+    // Behind a new group and a volume of 64 blocks, which have 36 writes and flushes, the commit comes to the first disk.
+    (
+        "a detach that was cut",
+        2,
+        Trouble::Cut(36, &[4], 0, 0),
+        &[
+            &[
+                (Call::Make(b"v", 64, 2), Told::Volume(0)),
+                (Call::Det(0, 1), Told::Down),
+                (Call::Without(0, 0), Told::Missing(0)),
+            ],
+            SECOND_STALE,
+        ],
+        &[],
+    ),
+];
 
 #[test]
 fn each_call_of_an_import_is_cut(rt: HostRuntime) -> Result<(), Fail> {
     let alloc = rt.alloc();
-    // Of the calls above 18 are writes and flushes.
     for pick in [0, u64::MAX] {
-        for calls in 0..19 {
-            let mut disks = torn(alloc, &[])?.shelf;
-            disks.fuse(calls, pick);
-            let (shelf, was) = import(alloc, Untold { shelf: disks }, 0);
-            let wanted = if calls < 18 {
-                refused(Told::Down)
-            } else {
-                done_with(ON, ON, None)
-            };
-            assert!(rt; was == wanted);
-            assert!(rt; reads(alloc, shelf, 0, 3) == (Told::Block(0x11), Told::Block(0x11)));
+        for calls in 0..18 {
+            let group = group_on(alloc, disks_of(alloc, &[], 2, 1024)?)?;
+            let rows = [
+                (Call::Make(b"v", 16, 2), Told::Volume(0)),
+                (Call::Put(0, 3, 0x11), Told::Done),
+                (Call::Cut(1, calls, pick), Told::Down),
+                (Call::Get(0, 3), Told::Block(0x11)),
+                (Call::Get(0, 3), Told::Block(0x11)),
+            ];
+            assert!(rt; went(alloc, group, &rows).is_some(), "{calls}, {pick}");
         }
-    }
-    Ok(())
-}
-
-#[test]
-fn a_group_behind_a_crash(rt: HostRuntime) -> Result<(), Fail> {
-    let alloc = rt.alloc();
-    let mut group = group_on(alloc, disks_of(alloc, &[], 2, 1024)?)?;
-    let rows = [
-        (Call::Make(b"log1", 64, 2), Told::Volume(0)),
-        (Call::Make(b"maps", 8, 2), Told::Volume(1)),
-        (Call::Make(b"v", 256, 2), Told::Volume(2)),
-        (Call::Put(2, 0, 0x11), Told::Done),
-        (Call::Flush(2), Told::Done),
-    ];
-    assert!(rt; first_wrong(alloc, &mut group, &rows) == None);
-    let mut shelf = crashed(group, 0);
-    for volume in 0..3 {
-        let (behind, was) = import(alloc, shelf, volume);
-        assert!(rt; was == done_with(ON, ON, None));
-        shelf = behind;
-    }
-    assert!(rt; reads(alloc, shelf, 2, 0) == (Told::Block(0x11), Told::Block(0x11)));
-    Ok(())
-}
-
-#[test]
-fn a_detach_that_was_cut(rt: HostRuntime) -> Result<(), Fail> {
-    let alloc = rt.alloc();
-    // Behind a new group and a volume of 64 blocks, which have 36 writes and flushes, the commit comes to the first disk.
-    let mut disks = disks_of(alloc, &[], 2, 1024)?.shelf;
-    disks.fuse(40, 0);
-    let mut group = group_on(alloc, Untold { shelf: disks })?;
-    assert!(rt; make(alloc, &mut group, b"v", &plain(64, 2)) == Told::Volume(0));
-    assert!(rt; group.det(0, 1).is_err());
-    let shelf = fail(crashed(group, 0), 0, true);
-    let (shelf, was) = import(alloc, shelf, 0);
-    assert!(rt; was == refused(Told::Missing(0)));
-    let (_, was) = import(alloc, fail(shelf, 0, false), 0);
-    assert!(rt; was == done_with(ON, OFF, None));
-    Ok(())
-}
-
-#[test]
-fn a_group_behind_a_deport(rt: HostRuntime) -> Result<(), Fail> {
-    let alloc = rt.alloc();
-    // Call 87 is the write to the second plex.
-    let mut group = group_on(alloc, disks_of(alloc, &[87], 3, 1024)?)?;
-    assert!(rt; make(alloc, &mut group, b"v", &plain(256, 2)) == Told::Volume(0));
-    assert!(rt; put(&mut group, 0, 70, 0xbb) == Told::Done);
-    match group.deport() {
-        Ok(shelf) => {
-            let (shelf, was) = import(alloc, shelf, 0);
-            assert!(rt; was == done_with(ON, OFF, None));
-            assert!(rt; reads(alloc, shelf, 0, 70) == (Told::Block(0xbb), Told::Block(0xbb)));
-        }
-        Err(_) => assert!(rt; false),
     }
     Ok(())
 }
@@ -266,8 +334,8 @@ fn a_group_behind_a_deport(rt: HostRuntime) -> Result<(), Fail> {
 fn no_group_is_found(rt: HostRuntime) -> Result<(), Fail> {
     let alloc = rt.alloc();
     for blocks in [1023, 1024] {
-        let (_, was) = import(alloc, disks_of(alloc, &[], 2, blocks)?, 0);
-        assert!(rt; was == refused(Told::NoConfig));
+        let (_, told) = brought(alloc, disks_of(alloc, &[], 2, blocks)?, 0);
+        assert!(rt; told == Told::NoConfig, "{blocks}");
     }
     Ok(())
 }

@@ -1,6 +1,0 @@
--- `import`: what `import` asks.
-use Rattle.vx_group_rows.proofs.UntoldLemmas.{untold_can}
-use Rattle.vx_group_rows.proofs.imports.import.Goals as goal
-
-pub import-requires : goal.import-requires
-import-requires c = record { can = untold_can _ (λ u b v left. left) }
