@@ -54,7 +54,17 @@ fn byte_of(shelf: &mut MemShelf, block: u64, place: usize) -> u8 {
     }
 }
 
-// Region r is bit r mod 8, from the lowest, of byte (r / 8) mod 512 of block r / 4096.
+// Bytes 511 of block 3, and 0 and 1 of block 4.
+fn bytes_of(shelf: &mut MemShelf) -> [u8; 3] {
+    [
+        byte_of(shelf, 3, 511),
+        byte_of(shelf, 4, 0),
+        byte_of(shelf, 4, 1),
+    ]
+}
+
+// Region r is bit r mod 8, from the lowest, of byte (r / 8) mod 512 of block r / 4096. What was marked is marked behind a crash, and what was taken
+// off is off.
 #[test]
 fn a_region_is_its_bit(rt: HostRuntime) -> Result<(), Fail> {
     let alloc = rt.alloc();
@@ -62,37 +72,14 @@ fn a_region_is_its_bit(rt: HostRuntime) -> Result<(), Fail> {
     match loaded(alloc, &mut shelf) {
         Ok(mut map) => {
             assert!(rt; mark(&mut map, &mut shelf, 70, 70, true) == Ok(()));
-            assert!(rt; (map.test(70), map.test(69), map.test(71)) == (true, false, false));
+            assert!(rt; map.test(70) && !map.test(69) && !map.test(71));
             assert!(rt; byte_of(&mut shelf, 3, 8) == 0x40);
             assert!(rt; mark(&mut map, &mut shelf, 4090, 4105, true) == Ok(()));
-            assert!(rt; byte_of(&mut shelf, 3, 511) == 0xfc);
-            assert!(rt; byte_of(&mut shelf, 4, 0) == 0xff);
-            assert!(rt; byte_of(&mut shelf, 4, 1) == 0x03);
+            assert!(rt; bytes_of(&mut shelf) == [0xfc, 0xff, 0x03]);
             assert!(rt; mark(&mut map, &mut shelf, 4095, 4103, false) == Ok(()));
-            assert!(rt; byte_of(&mut shelf, 3, 511) == 0x7c);
-            assert!(rt; byte_of(&mut shelf, 4, 0) == 0x00);
-            assert!(rt; byte_of(&mut shelf, 4, 1) == 0x03);
+            assert!(rt; bytes_of(&mut shelf) == [0x7c, 0x00, 0x03]);
         }
-        Err(_) => {
-            assert!(rt; false);
-        }
-    }
-    Ok(())
-}
-
-// What was marked is marked behind a crash, and what was taken off is off.
-#[test]
-fn marks_are_there_behind_a_crash(rt: HostRuntime) -> Result<(), Fail> {
-    let alloc = rt.alloc();
-    let mut shelf = fitted(alloc)?;
-    match loaded(alloc, &mut shelf) {
-        Ok(mut map) => {
-            assert!(rt; mark(&mut map, &mut shelf, 4090, 4105, true) == Ok(()));
-            assert!(rt; mark(&mut map, &mut shelf, 4095, 4103, false) == Ok(()));
-        }
-        Err(_) => {
-            assert!(rt; false);
-        }
+        Err(_) => assert!(rt; false),
     }
     shelf.crash(0);
     if shelf.is_down() {
@@ -100,11 +87,9 @@ fn marks_are_there_behind_a_crash(rt: HostRuntime) -> Result<(), Fail> {
     }
     match loaded(alloc, &mut shelf) {
         Ok(map) => {
-            assert!(rt; (map.test(4094), map.test(4095), map.test(4104)) == (true, false, true));
+            assert!(rt; map.test(4094) && !map.test(4095) && map.test(4104));
         }
-        Err(_) => {
-            assert!(rt; false);
-        }
+        Err(_) => assert!(rt; false),
     }
     Ok(())
 }

@@ -174,26 +174,6 @@ fn marks_are_counted(rt: HostRuntime) -> Result<(), Fail> {
     Ok(())
 }
 
-// The second call, the write of a mark, fails, or the third, its flush: refusal 7 names the disk of the maps. So does a load.
-#[test]
-fn a_failing_disk_is_named(rt: HostRuntime) -> Result<(), Fail> {
-    let alloc = rt.alloc();
-    for (call, wanted) in [
-        (1, Told::Other),
-        (2, Told::Device(3)),
-        (3, Told::Device(3)),
-        (4, Told::Done),
-    ] {
-        let mut shelf = fitted(alloc, &[call])?;
-        assert!(rt; marked(alloc, &mut shelf, 2, 1, 0, true) == wanted);
-    }
-    let mut shelf = fitted(alloc, &[1])?;
-    assert!(rt;
-        loaded(alloc, &mut shelf, &units()).err() == Some(Stop::No(No::Device { disk: 3 }))
-    );
-    Ok(())
-}
-
 // Changes the mark of a region twice.
 fn marked_twice<S: Shelf>(alloc: Global, shelf: &mut S, first: bool, second: bool) -> Told {
     match loaded(alloc, shelf, &units()) {
@@ -211,16 +191,36 @@ fn marked_twice<S: Shelf>(alloc: Global, shelf: &mut S, first: bool, second: boo
     }
 }
 
-// The first three calls read the maps, write a mark and flush it; each call behind them would fail.
+// The first three calls read the maps, write a mark and flush it: refusal 7 names the disk of the maps. So does a load. A mark that stands makes no
+// call: each behind those would fail.
 #[test]
-fn a_mark_that_stands_makes_no_call(rt: HostRuntime) -> Result<(), Fail> {
+fn a_failing_disk_is_named(rt: HostRuntime) -> Result<(), Fail> {
     let alloc = rt.alloc();
-    let mut shelf = fitted(alloc, &[4, 5, 6, 7])?;
-    assert!(rt; marked_twice(alloc, &mut shelf, true, true) == Told::Done);
-    let mut shelf = fitted(alloc, &[4, 5, 6, 7])?;
-    assert!(rt; marked_twice(alloc, &mut shelf, true, false) == Told::Device(3));
-    let mut shelf = fitted(alloc, &[2, 3])?;
-    assert!(rt; marked_twice(alloc, &mut shelf, false, false) == Told::Done);
+    for (call, wanted) in [
+        (1, Told::Other),
+        (2, Told::Device(3)),
+        (3, Told::Device(3)),
+        (4, Told::Done),
+    ] {
+        let mut shelf = fitted(alloc, &[call])?;
+        assert!(rt;
+            marked(alloc, &mut shelf, 2, 1, 0, true) == wanted,
+            "{call}"
+        );
+    }
+    let mut shelf = fitted(alloc, &[1])?;
+    assert!(rt;
+        loaded(alloc, &mut shelf, &units()).err() == Some(Stop::No(No::Device { disk: 3 }))
+    );
+    for (fails, first, second, wanted) in [
+        ([4, 5, 6, 7], true, true, Told::Done),
+        ([4, 5, 6, 7], true, false, Told::Device(3)),
+        ([2, 3, 0, 0], false, false, Told::Done),
+    ] {
+        let mut shelf = fitted(alloc, &fails)?;
+        let told = marked_twice(alloc, &mut shelf, first, second);
+        assert!(rt; told == wanted, "{first}, {second}");
+    }
     Ok(())
 }
 

@@ -134,39 +134,6 @@ fn is_dirty<S: Shelf>(alloc: Global, shelf: &mut S, config: &Config, region: u64
     }
 }
 
-// Marks of 100 regions are there behind a crash, and the first that are flushed behind a load are taken off.
-#[test]
-fn marks_are_there_behind_a_crash(rt: HostRuntime) -> Result<(), Fail> {
-    let alloc = rt.alloc();
-    let config = group(alloc)?;
-    let mut shelf = fitted(alloc, &[])?;
-    assert!(rt; marked(alloc, &mut shelf, &config, 5, 104) == Told::Done);
-    shelf.crash(0);
-    if shelf.is_down() {
-        shelf.revive();
-    }
-    assert!(rt; is_dirty(alloc, &mut shelf, &config, 4) == Some(false));
-    assert!(rt; is_dirty(alloc, &mut shelf, &config, 5) == Some(true));
-    assert!(rt; is_dirty(alloc, &mut shelf, &config, 104) == Some(true));
-    assert!(rt; is_dirty(alloc, &mut shelf, &config, 105) == Some(false));
-    assert!(rt; is_dirty(alloc, &mut shelf, &config, 128) == None);
-    assert!(rt; cleared(alloc, &mut shelf, &config) == Told::Done);
-    assert!(rt; is_dirty(alloc, &mut shelf, &config, 5) == Some(false));
-    assert!(rt; is_dirty(alloc, &mut shelf, &config, 104) == Some(false));
-    Ok(())
-}
-
-// The second call, the write of the mark, fails: refusal 7 names the log's disk.
-#[test]
-fn a_failing_disk_is_named(rt: HostRuntime) -> Result<(), Fail> {
-    let alloc = rt.alloc();
-    let config = group(alloc)?;
-    let mut shelf = fitted(alloc, &[2])?;
-    assert!(rt; marked(alloc, &mut shelf, &config, 7, 7) == Told::Device(1));
-    assert!(rt; is_dirty(alloc, &mut shelf, &config, 7) == Some(false));
-    Ok(())
-}
-
 // Marks a run of regions twice, and takes marks off between where the caller says so.
 fn marked_twice<S: Shelf>(
     alloc: Global,
@@ -203,16 +170,6 @@ fn marked_twice<S: Shelf>(
     }
 }
 
-// The first three calls read the log, write a mark and flush it; each call behind them would fail.
-#[test]
-fn a_mark_of_what_is_marked_makes_no_call(rt: HostRuntime) -> Result<(), Fail> {
-    let alloc = rt.alloc();
-    let config = group(alloc)?;
-    let mut shelf = fitted(alloc, &[4, 5, 6, 7])?;
-    assert!(rt; marked_twice(alloc, &mut shelf, &config, 5, 9, false) == Told::Done);
-    Ok(())
-}
-
 // What a load answers.
 fn load_said<S: Shelf>(alloc: Global, shelf: &mut S, config: &Config) -> Told {
     match loaded(alloc, shelf, config) {
@@ -222,29 +179,63 @@ fn load_said<S: Shelf>(alloc: Global, shelf: &mut S, config: &Config) -> Told {
     }
 }
 
+// Marks of 100 regions are there behind a crash, and the first that are flushed behind a load are taken off.
 #[test]
-fn a_load_that_fails_names_the_disk(rt: HostRuntime) -> Result<(), Fail> {
+fn marks_are_there_behind_a_crash(rt: HostRuntime) -> Result<(), Fail> {
     let alloc = rt.alloc();
     let config = group(alloc)?;
-    let mut shelf = fitted(alloc, &[1])?;
-    assert!(rt; load_said(alloc, &mut shelf, &config) == Told::Device(1));
-    assert!(rt; load_said(alloc, &mut shelf, &config) == Told::Done);
+    let mut shelf = fitted(alloc, &[])?;
+    assert!(rt; marked(alloc, &mut shelf, &config, 5, 104) == Told::Done);
+    shelf.crash(0);
+    if shelf.is_down() {
+        shelf.revive();
+    }
+    for (region, is) in [
+        (4, Some(false)),
+        (5, Some(true)),
+        (104, Some(true)),
+        (105, Some(false)),
+        (128, None),
+    ] {
+        assert!(rt;
+            is_dirty(alloc, &mut shelf, &config, region) == is,
+            "{region}"
+        );
+    }
+    assert!(rt; cleared(alloc, &mut shelf, &config) == Told::Done);
+    for region in [5, 104] {
+        assert!(rt;
+            is_dirty(alloc, &mut shelf, &config, region) == Some(false),
+            "{region}"
+        );
+    }
     Ok(())
 }
 
-// Marks are taken off in two calls, the fourth and the fifth, and set again in two more.
+// The first three calls read the log, write a mark and flush it. A mark of what is marked makes no call: each behind them would fail. Marks are
+// taken off in two calls, the fourth and the fifth, and set again in two more.
 #[test]
-fn marks_are_taken_off_in_two_calls(rt: HostRuntime) -> Result<(), Fail> {
+fn a_failing_disk_is_named(rt: HostRuntime) -> Result<(), Fail> {
     let alloc = rt.alloc();
     let config = group(alloc)?;
-    for (call, wanted) in [
-        (4, Told::Device(1)),
-        (5, Told::Device(1)),
-        (7, Told::Device(1)),
-        (8, Told::Done),
+    for (fails, is_cleared, wanted) in [
+        ([4, 5, 6, 7], false, Told::Done),
+        ([4, 0, 0, 0], true, Told::Device(1)),
+        ([5, 0, 0, 0], true, Told::Device(1)),
+        ([7, 0, 0, 0], true, Told::Device(1)),
+        ([8, 0, 0, 0], true, Told::Done),
     ] {
-        let mut shelf = fitted(alloc, &[call])?;
-        assert!(rt; marked_twice(alloc, &mut shelf, &config, 5, 9, true) == wanted);
+        let mut shelf = fitted(alloc, &fails)?;
+        let told = marked_twice(alloc, &mut shelf, &config, 5, 9, is_cleared);
+        assert!(rt; told == wanted, "{fails:?}");
     }
+    // The second call, the write of the mark, fails: refusal 7 names the log's disk.
+    let mut shelf = fitted(alloc, &[2])?;
+    assert!(rt; marked(alloc, &mut shelf, &config, 7, 7) == Told::Device(1));
+    assert!(rt; is_dirty(alloc, &mut shelf, &config, 7) == Some(false));
+    // So it does where the load fails.
+    let mut shelf = fitted(alloc, &[1])?;
+    assert!(rt; load_said(alloc, &mut shelf, &config) == Told::Device(1));
+    assert!(rt; load_said(alloc, &mut shelf, &config) == Told::Done);
     Ok(())
 }

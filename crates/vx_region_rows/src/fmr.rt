@@ -164,33 +164,34 @@ fn has_missed<S: Shelf>(
     }
 }
 
-// Notes are there behind a crash, and the map of one plex is emptied without that of the other.
+// Notes are there behind a crash, and the map of one plex is emptied without that of the other. Where the second call, the write of a note, fails,
+// refusal 7 names the log's disk.
 #[test]
 fn each_plex_has_its_map(rt: HostRuntime) -> Result<(), Fail> {
     let alloc = rt.alloc();
     let config = group(alloc)?;
     let mut shelf = fitted(alloc, &[])?;
-    assert!(rt; noted(alloc, &mut shelf, &config, 0, 5, 104) == Told::Done);
-    assert!(rt; noted(alloc, &mut shelf, &config, 1, 7, 7) == Told::Done);
+    for (plex, first, last) in [(0, 5, 104), (1, 7, 7)] {
+        assert!(rt;
+            noted(alloc, &mut shelf, &config, plex, first, last) == Told::Done,
+            "{plex}"
+        );
+    }
     shelf.crash(0);
     if shelf.is_down() {
         shelf.revive();
     }
-    assert!(rt; has_missed(alloc, &mut shelf, &config, 0, 104) == Some(true));
-    assert!(rt; has_missed(alloc, &mut shelf, &config, 0, 105) == Some(false));
-    assert!(rt; has_missed(alloc, &mut shelf, &config, 1, 7) == Some(true));
-    assert!(rt; has_missed(alloc, &mut shelf, &config, 1, 8) == Some(false));
+    for (plex, region, is) in [(0, 104, true), (0, 105, false), (1, 7, true), (1, 8, false)] {
+        let missed = has_missed(alloc, &mut shelf, &config, plex, region);
+        assert!(rt; missed == Some(is), "{plex}, {region}");
+    }
     assert!(rt; begun(alloc, &mut shelf, &config, 0) == Told::Done);
-    assert!(rt; has_missed(alloc, &mut shelf, &config, 0, 7) == Some(false));
-    assert!(rt; has_missed(alloc, &mut shelf, &config, 1, 7) == Some(true));
-    Ok(())
-}
-
-// The second call, the write of the note, fails: refusal 7 names the log's disk.
-#[test]
-fn a_failing_disk_is_named(rt: HostRuntime) -> Result<(), Fail> {
-    let alloc = rt.alloc();
-    let config = group(alloc)?;
+    for (plex, is) in [(0, false), (1, true)] {
+        assert!(rt;
+            has_missed(alloc, &mut shelf, &config, plex, 7) == Some(is),
+            "{plex}"
+        );
+    }
     let mut shelf = fitted(alloc, &[2])?;
     assert!(rt; noted(alloc, &mut shelf, &config, 1, 7, 7) == Told::Device(1));
     assert!(rt; has_missed(alloc, &mut shelf, &config, 1, 7) == Some(false));

@@ -91,36 +91,47 @@ fn three_calls<S: Shelf>(alloc: Global, shelf: &mut S, config: &Config) -> [Told
     }
 }
 
+fn is_lost(volumes: &[VolumeEntry]) -> bool {
+    match volumes.first() {
+        Some(volume) => match volume.drl {
+            Some(entry) => entry.lost,
+            None => false,
+        },
+        None => false,
+    }
+}
+
+const KEPT: [Told; 4] = [Told::Kept, Told::Kept, Told::Kept, Told::Kept];
+
+const LOST_FIRST: [Told; 4] = [Told::Lost, Told::Kept, Told::Kept, Told::Kept];
+
+const LOST_SECOND: [Told; 4] = [Told::Kept, Told::Lost, Told::Kept, Told::Kept];
+
+const LOST_LAST: [Told; 4] = [Told::Kept, Told::Kept, Told::Kept, Told::Lost];
+
 // The log is read in one call and a region is marked by a write and a flush, once; the marks go by a write and a flush too. A log whose disk
-// fails in one of these calls is lost, and no call is made on it from then on.
+// fails in one of these calls is lost, and no call is made on it from then on. A log on a failed disk is lost too, and one that is lost is read no more.
 #[test]
 fn a_log_is_lost_at_each_call(rt: HostRuntime) -> Result<(), Fail> {
     let alloc = rt.alloc();
-    let kept = Told::Kept;
-    let lost = Told::Lost;
-    let config = marking(alloc, false)?;
-    for (fails, told) in [
-        ([6, 7], [kept, kept, kept, kept]),
-        ([1, 2], [lost, kept, kept, kept]),
-        ([2, 4], [kept, lost, kept, kept]),
-        ([3, 4], [kept, lost, kept, kept]),
-        ([4, 6], [kept, kept, kept, lost]),
-        ([5, 6], [kept, kept, kept, lost]),
+    let good = marking(alloc, false)?;
+    let failed = marking(alloc, true)?;
+    let mut was_lost = marking(alloc, false)?;
+    was_lost.set_lost(0, VolumeLog::Drl, true);
+    assert!(rt; is_lost(was_lost.volumes.as_slice()));
+    for (name, config, fails, told) in [
+        ("no call fails", &good, [6, 7], KEPT),
+        ("the reading", &good, [1, 2], LOST_FIRST),
+        ("the write of a mark", &good, [2, 4], LOST_SECOND),
+        ("the flush of a mark", &good, [3, 4], LOST_SECOND),
+        ("the write without marks", &good, [4, 6], LOST_LAST),
+        ("the flush without marks", &good, [5, 6], LOST_LAST),
+        ("a failed disk", &failed, [1, 0], LOST_FIRST),
+        ("a lost log", &was_lost, [1, 0], KEPT),
     ] {
         let mut shelf = fitted(alloc, &fails)?;
-        assert!(rt; three_calls(alloc, &mut shelf, &config) == told);
+        assert!(rt; three_calls(alloc, &mut shelf, config) == told, "{name}");
     }
-    Ok(())
-}
-
-#[test]
-fn a_log_on_a_failed_disk_is_lost(rt: HostRuntime) -> Result<(), Fail> {
-    let alloc = rt.alloc();
-    let config = marking(alloc, true)?;
-    let mut shelf = fitted(alloc, &[1])?;
-    assert!(rt;
-        three_calls(alloc, &mut shelf, &config) == [Told::Lost, Told::Kept, Told::Kept, Told::Kept]
-    );
     Ok(())
 }
 
@@ -157,26 +168,5 @@ fn a_mark_is_there_behind_a_crash(rt: HostRuntime) -> Result<(), Fail> {
     assert!(rt; marks(alloc, &mut shelf, &config) == [false, true, false, false]);
     assert!(rt; three_calls(alloc, &mut shelf, &config) == [Told::Kept; 4]);
     assert!(rt; marks(alloc, &mut shelf, &config) == [false; 4]);
-    Ok(())
-}
-
-fn is_lost(volumes: &[VolumeEntry]) -> bool {
-    match volumes.first() {
-        Some(volume) => match volume.drl {
-            Some(entry) => entry.lost,
-            None => false,
-        },
-        None => false,
-    }
-}
-
-#[test]
-fn a_lost_log_is_read_no_more(rt: HostRuntime) -> Result<(), Fail> {
-    let alloc = rt.alloc();
-    let mut config = marking(alloc, false)?;
-    config.set_lost(0, VolumeLog::Drl, true);
-    assert!(rt; is_lost(config.volumes.as_slice()));
-    let mut shelf = fitted(alloc, &[1])?;
-    assert!(rt; three_calls(alloc, &mut shelf, &config) == [Told::Kept; 4]);
     Ok(())
 }

@@ -105,36 +105,33 @@ fn three_calls<S: Shelf>(alloc: Global, shelf: &mut S, config: &Config) -> [Told
     }
 }
 
+const KEPT: [Told; 4] = [Told::Kept, Told::Kept, Told::Kept, Told::Kept];
+
+const LOST_FIRST: [Told; 4] = [Told::Lost, Told::Kept, Told::Kept, Told::Kept];
+
+const LOST_SECOND: [Told; 4] = [Told::Kept, Told::Lost, Told::Kept, Told::Kept];
+
+const LOST_LAST: [Told; 4] = [Told::Kept, Told::Kept, Told::Kept, Told::Lost];
+
 // The log is read in one call and a region is noted by a write and a flush, once; a map is emptied by a write and a flush too. A log whose disk
-// fails in one of these calls is lost, and no call is made on it from then on.
+// fails in one of these calls is lost, and no call is made on it from then on. A log on a failed disk is lost too.
 #[test]
 fn a_log_of_maps_is_lost_at_each_call(rt: HostRuntime) -> Result<(), Fail> {
     let alloc = rt.alloc();
-    let kept = Told::Kept;
-    let lost = Told::Lost;
-    let config = mapping(alloc, false, PlexState::Stale)?;
-    for (fails, told) in [
-        ([6, 7], [kept, kept, kept, kept]),
-        ([1, 2], [lost, kept, kept, kept]),
-        ([2, 4], [kept, lost, kept, kept]),
-        ([3, 4], [kept, lost, kept, kept]),
-        ([4, 6], [kept, kept, kept, lost]),
-        ([5, 6], [kept, kept, kept, lost]),
+    let good = mapping(alloc, false, PlexState::Stale)?;
+    let failed = mapping(alloc, true, PlexState::Stale)?;
+    for (name, config, fails, told) in [
+        ("no call fails", &good, [6, 7], KEPT),
+        ("the reading", &good, [1, 2], LOST_FIRST),
+        ("the write of a note", &good, [2, 4], LOST_SECOND),
+        ("the flush of a note", &good, [3, 4], LOST_SECOND),
+        ("the write of an empty map", &good, [4, 6], LOST_LAST),
+        ("the flush of an empty map", &good, [5, 6], LOST_LAST),
+        ("a failed disk", &failed, [1, 0], LOST_FIRST),
     ] {
         let mut shelf = fitted(alloc, &fails)?;
-        assert!(rt; three_calls(alloc, &mut shelf, &config) == told);
+        assert!(rt; three_calls(alloc, &mut shelf, config) == told, "{name}");
     }
-    Ok(())
-}
-
-#[test]
-fn a_log_of_maps_on_a_failed_disk_is_lost(rt: HostRuntime) -> Result<(), Fail> {
-    let alloc = rt.alloc();
-    let config = mapping(alloc, true, PlexState::Stale)?;
-    let mut shelf = fitted(alloc, &[1])?;
-    assert!(rt;
-        three_calls(alloc, &mut shelf, &config) == [Told::Lost, Told::Kept, Told::Kept, Told::Kept]
-    );
     Ok(())
 }
 

@@ -5,7 +5,6 @@ ghost use Rattle.vx_layout.specs.Space.{IsShape};
 
 use crate::mirrors::{good, run};
 use std::alloc::Global;
-use std::process::Abort;
 use std::test::Fail;
 use vx_config::{Config, Disks, PlexEntry, Plexes, Subdisk, Subdisks, VolumeEntry, Volumes, check};
 use vx_layout::{Shape, find_space, place};
@@ -80,18 +79,6 @@ fn units_go_by_turns(rt: HostRuntime) -> Result<(), Fail> {
     Ok(())
 }
 
-fn shape(blocks: u64, mirrors: u32, ncol: u32, width: u32, drl: bool, fmr: bool) -> Shape {
-    Shape {
-        blocks,
-        mirrors,
-        ncol,
-        width,
-        drl,
-        fmr,
-        prefer: None,
-    }
-}
-
 // Whether a shape is one that space can be looked for.
 fn is_shape(want: &Shape) -> bool
     ensures { IsTrue result → IsShape want.now }
@@ -128,84 +115,93 @@ fn found(
     }
 }
 
-// Of three places each is of these runs, or of none where there are fewer.
-fn are_runs(rt: &impl Abort, runs: &[Subdisk], wanted: &[Subdisk; 3]) {
-    for (k, run) in wanted.iter().enumerate() {
-        if run.blocks > 0 {
-            assert!(rt; runs.get(k).copied() == Some(*run));
-        } else {
-            assert!(rt; runs.get(k).is_none());
+// Whether these are the runs: the disk, the first block, and how many there are.
+fn are_runs(runs: &[Subdisk], wanted: &[(u8, u64, u64)]) -> bool {
+    if runs.len() != wanted.len() {
+        return false;
+    }
+    for at in 0..runs.len() {
+        let (disk, start, blocks) = wanted[at];
+        if at >= runs.len() || runs[at] != run(disk, start, blocks) {
+            return false;
         }
     }
+    true
 }
 
-#[test]
-fn the_lowest_blocks_are_taken(rt: HostRuntime) -> Result<(), Fail> {
-    let config = striped(rt.alloc())?;
-    let none = run(0, 0, 0);
-    for (want, wanted) in [
-        (
-            shape(192, 1, 1, 0, false, false),
-            [run(0, 512, 256 - 64), none, none],
-        ),
-        (
-            shape(300, 1, 1, 0, false, false),
-            [run(0, 512, 256), run(0, 832, 44), none],
-        ),
-        (
-            shape(449, 1, 1, 0, false, false),
-            [run(2, 512, 449), none, none],
-        ),
-        (
-            shape(256, 2, 1, 0, false, false),
-            [run(0, 512, 256), run(1, 512, 256), none],
-        ),
-        (
-            shape(40, 1, 2, 16, false, false),
-            [run(0, 512, 32), run(1, 512, 32), none],
-        ),
-        (
-            shape(256, 1, 1, 0, true, true),
-            [run(0, 512, 256), run(0, 832, 1), run(0, 833, 1)],
-        ),
-    ] {
-        let (runs, refused) = found(rt.alloc(), &config, &want)?;
-        assert!(rt; refused.is_none());
-        are_runs(&rt, runs.as_slice(), &wanted);
-    }
-    Ok(())
-}
+// The blocks, plexes, columns, unit and logs of a volume, and the runs that it gets, or what is needed and what is there.
+type Case = (
+    (u64, u32, u32, u32, bool, bool),
+    &'static [(u8, u64, u64)],
+    Option<(u64, u64)>,
+);
+
+// The lowest blocks are taken, and a plex that no disk holds is spread.
+const FOUND: &[Case] = &[
+    ((192, 1, 1, 0, false, false), &[(0, 512, 192)], None),
+    (
+        (300, 1, 1, 0, false, false),
+        &[(0, 512, 256), (0, 832, 44)],
+        None,
+    ),
+    ((449, 1, 1, 0, false, false), &[(2, 512, 449)], None),
+    (
+        (256, 2, 1, 0, false, false),
+        &[(0, 512, 256), (1, 512, 256)],
+        None,
+    ),
+    (
+        (40, 1, 2, 16, false, false),
+        &[(0, 512, 32), (1, 512, 32)],
+        None,
+    ),
+    (
+        (256, 1, 1, 0, true, true),
+        &[(0, 512, 256), (0, 832, 1), (0, 833, 1)],
+        None,
+    ),
+    (
+        (1000, 1, 1, 0, false, false),
+        &[
+            (0, 512, 256),
+            (0, 832, 192),
+            (1, 512, 256),
+            (1, 832, 192),
+            (2, 512, 104),
+        ],
+        None,
+    ),
+];
+
+const REFUSED: &[Case] = &[
+    ((2000, 1, 1, 0, false, false), &[], Some((2000, 1408))),
+    ((513, 2, 1, 0, false, false), &[], Some((513, 512))),
+    ((1000, 2, 1, 0, false, false), &[], Some((1000, 0))),
+    ((900, 1, 2, 16, false, false), &[], Some((464, 448))),
+    ((16, 4, 1, 0, false, false), &[], Some((16, 0))),
+    ((1408, 1, 1, 0, true, false), &[], Some((1, 0))),
+    ((1407, 1, 1, 0, true, true), &[], Some((1, 0))),
+];
 
 #[test]
-fn a_plex_that_no_disk_holds_is_spread(rt: HostRuntime) -> Result<(), Fail> {
+fn says_what_is_found_or_needed(rt: HostRuntime) -> Result<(), Fail> {
     let config = striped(rt.alloc())?;
-    let (runs, refused) = found(rt.alloc(), &config, &shape(1000, 1, 1, 0, false, false))?;
-    assert!(rt; refused.is_none());
-    let wanted = [
-        run(0, 512, 256),
-        run(0, 832, 192),
-        run(1, 512, 256),
-        run(1, 832, 192),
-        run(2, 512, 104),
-    ];
-    assert!(rt; runs.as_slice() == wanted.as_slice());
-    Ok(())
-}
-
-#[test]
-fn says_what_is_needed_and_there(rt: HostRuntime) -> Result<(), Fail> {
-    let config = striped(rt.alloc())?;
-    for (want, wanted) in [
-        (shape(2000, 1, 1, 0, false, false), (2000, 1408)),
-        (shape(513, 2, 1, 0, false, false), (513, 512)),
-        (shape(1000, 2, 1, 0, false, false), (1000, 0)),
-        (shape(900, 1, 2, 16, false, false), (464, 448)),
-        (shape(16, 4, 1, 0, false, false), (16, 0)),
-        (shape(1408, 1, 1, 0, true, false), (1, 0)),
-        (shape(1407, 1, 1, 0, true, true), (1, 0)),
-    ] {
-        let (_, refused) = found(rt.alloc(), &config, &want)?;
-        assert!(rt; refused == Some(wanted));
+    for cases in [FOUND, REFUSED] {
+        for (want, wanted, needed) in cases {
+            let (blocks, mirrors, ncol, width, drl, fmr) = *want;
+            let shape = Shape {
+                blocks,
+                mirrors,
+                ncol,
+                width,
+                drl,
+                fmr,
+                prefer: None,
+            };
+            let (runs, refused) = found(rt.alloc(), &config, &shape)?;
+            assert!(rt; refused == *needed, "{want:?}");
+            assert!(rt; are_runs(runs.as_slice(), wanted), "{want:?}");
+        }
     }
     Ok(())
 }

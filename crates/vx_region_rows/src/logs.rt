@@ -93,46 +93,37 @@ fn written_twice<S: Shelf>(alloc: Global, shelf: &mut S, config: &Config) -> (To
 }
 
 // The first write marks its region by a write and a flush, the third and the fourth call, and writes two plexes; the second one writes the
-// plexes alone. Where a plex fails, its map gets the region in two calls more.
+// plexes alone. Where a plex fails, its map gets the region in two calls more. With a plex that is STALE the region is noted too, in the fifth and
+// the sixth call.
 #[test]
-fn a_region_is_marked_once(rt: HostRuntime) -> Result<(), Fail> {
+fn a_region_is_marked_and_noted_once(rt: HostRuntime) -> Result<(), Fail> {
     let alloc = rt.alloc();
-    let config = both(alloc, PlexState::Active)?;
+    let active = both(alloc, PlexState::Active)?;
+    let stale = both(alloc, PlexState::Stale)?;
     let done = Told::Stored(0, false);
-    for (fails, first, second) in [
-        ([0, 0], done, done),
-        ([9, 10], done, done),
-        ([3, 0], Told::Lost(true, false), done),
-        ([4, 0], Told::Lost(true, false), done),
-        ([5, 0], Told::Stored(1, false), done),
-        ([6, 0], Told::Stored(2, false), done),
-        ([5, 7], Told::Stored(1, true), done),
-        ([5, 8], Told::Stored(1, true), done),
-        ([5, 6], Told::Device(1), done),
-        ([7, 0], done, Told::Stored(1, false)),
+    for (config, fails, first, second) in [
+        (&active, [0, 0], done, done),
+        (&active, [9, 10], done, done),
+        (&active, [3, 0], Told::Lost(true, false), done),
+        (&active, [4, 0], Told::Lost(true, false), done),
+        (&active, [5, 0], Told::Stored(1, false), done),
+        (&active, [6, 0], Told::Stored(2, false), done),
+        (&active, [5, 7], Told::Stored(1, true), done),
+        (&active, [5, 8], Told::Stored(1, true), done),
+        (&active, [5, 6], Told::Device(1), done),
+        (&active, [7, 0], done, Told::Stored(1, false)),
+        (&stale, [9, 10], done, done),
+        (&stale, [3, 0], Told::Lost(true, false), done),
+        (&stale, [5, 0], Told::Lost(false, true), done),
+        (&stale, [6, 0], Told::Lost(false, true), done),
+        (&stale, [3, 4], Told::Lost(true, true), done),
+        (&stale, [7, 0], Told::Device(0), done),
     ] {
         let mut shelf = fitted(alloc, &fails)?;
-        assert!(rt; written_twice(alloc, &mut shelf, &config) == (first, second));
-    }
-    Ok(())
-}
-
-// With a plex that is STALE the region is noted too, in the fifth and the sixth call.
-#[test]
-fn a_missed_region_is_noted_once(rt: HostRuntime) -> Result<(), Fail> {
-    let alloc = rt.alloc();
-    let config = both(alloc, PlexState::Stale)?;
-    let done = Told::Stored(0, false);
-    for (fails, first, second) in [
-        ([9, 10], done, done),
-        ([3, 0], Told::Lost(true, false), done),
-        ([5, 0], Told::Lost(false, true), done),
-        ([6, 0], Told::Lost(false, true), done),
-        ([3, 4], Told::Lost(true, true), done),
-        ([7, 0], Told::Device(0), done),
-    ] {
-        let mut shelf = fitted(alloc, &fails)?;
-        assert!(rt; written_twice(alloc, &mut shelf, &config) == (first, second));
+        assert!(rt;
+            written_twice(alloc, &mut shelf, config) == (first, second),
+            "{fails:?}"
+        );
     }
     Ok(())
 }

@@ -194,7 +194,10 @@ fn attached_all<S: Shelf>(shelf: &mut S, config: &Config) -> Told {
     }
 }
 
-// A write to block 70 marks region 1, which is blocks 64 to 127: these alone are written, and are there behind a crash.
+const FIRST: [Option<u8>; 4] = [Some(1), Some(2), Some(3), Some(4)];
+
+// A write to block 70 marks region 1, which is blocks 64 to 127: these alone are written, and are there behind a crash. Without a log all regions
+// are copied.
 #[test]
 fn a_marked_region_alone_is_copied(rt: HostRuntime) -> Result<(), Fail> {
     let alloc = rt.alloc();
@@ -206,58 +209,46 @@ fn a_marked_region_alone_is_copied(rt: HostRuntime) -> Result<(), Fail> {
     if shelf.is_down() {
         shelf.revive();
     }
-    assert!(rt; has_all(&mut shelf, 0) == [Some(1), Some(2), Some(3), Some(4)]);
+    assert!(rt; has_all(&mut shelf, 0) == FIRST);
     assert!(rt; has_all(&mut shelf, 1) == [Some(9), Some(2), Some(9), Some(9)]);
-    Ok(())
-}
-
-#[test]
-fn all_regions_are_copied_without_a_log(rt: HostRuntime) -> Result<(), Fail> {
-    let alloc = rt.alloc();
-    let config = both(alloc)?;
     let mut shelf = filled(alloc, &[])?;
     assert!(rt; recovered_all(&mut shelf, &config) == Told::Copied(4));
-    assert!(rt; has_all(&mut shelf, 0) == [Some(1), Some(2), Some(3), Some(4)]);
-    assert!(rt; has_all(&mut shelf, 1) == [Some(1), Some(2), Some(3), Some(4)]);
-    Ok(())
-}
-
-// Behind the eight calls that fill the plexes and the three of the mark come that which reads the log, a read of the source, a write of
-// each plex and a flush of each.
-#[test]
-fn a_failing_plex_is_named(rt: HostRuntime) -> Result<(), Fail> {
-    let alloc = rt.alloc();
-    let config = both(alloc)?;
-    for (call, disk) in [(13, 0), (14, 0), (15, 1), (16, 0), (17, 1)] {
-        let mut shelf = filled(alloc, &[call])?;
-        mark(alloc, &mut shelf, &config, 1);
-        assert!(rt; recovered(alloc, &mut shelf, &config) == Told::Device(disk));
-    }
-    Ok(())
-}
-
-#[test]
-fn missed_regions_alone_are_attached(rt: HostRuntime) -> Result<(), Fail> {
-    let alloc = rt.alloc();
-    let config = both(alloc)?;
+    assert!(rt; has_all(&mut shelf, 0) == FIRST);
+    assert!(rt; has_all(&mut shelf, 1) == FIRST);
     let mut shelf = filled(alloc, &[])?;
     note(alloc, &mut shelf, &config, 2);
     assert!(rt; attached(alloc, &mut shelf, &config) == Told::Copied(1));
     assert!(rt; has_all(&mut shelf, 1) == [Some(9), Some(9), Some(3), Some(9)]);
     assert!(rt; attached_all(&mut shelf, &config) == Told::Copied(4));
-    assert!(rt; has_all(&mut shelf, 1) == [Some(1), Some(2), Some(3), Some(4)]);
+    assert!(rt; has_all(&mut shelf, 1) == FIRST);
     Ok(())
 }
 
-// A read of the first plex, a write of the second and its flush.
+// Behind the eight calls that fill the plexes and the three of the mark come that which reads the log, a read of the source, a write of
+// each plex and a flush of each. An attach has a read of the first plex, a write of the second and its flush.
 #[test]
-fn a_failing_call_of_an_attach_is_named(rt: HostRuntime) -> Result<(), Fail> {
+fn a_failing_plex_is_named(rt: HostRuntime) -> Result<(), Fail> {
     let alloc = rt.alloc();
     let config = both(alloc)?;
-    for (call, disk) in [(13, 0), (14, 1), (15, 1)] {
+    for (is_recovery, call, disk) in [
+        (true, 13, 0),
+        (true, 14, 0),
+        (true, 15, 1),
+        (true, 16, 0),
+        (true, 17, 1),
+        (false, 13, 0),
+        (false, 14, 1),
+        (false, 15, 1),
+    ] {
         let mut shelf = filled(alloc, &[call])?;
-        note(alloc, &mut shelf, &config, 2);
-        assert!(rt; attached(alloc, &mut shelf, &config) == Told::Device(disk));
+        let told = if is_recovery {
+            mark(alloc, &mut shelf, &config, 1);
+            recovered(alloc, &mut shelf, &config)
+        } else {
+            note(alloc, &mut shelf, &config, 2);
+            attached(alloc, &mut shelf, &config)
+        };
+        assert!(rt; told == Told::Device(disk), "{is_recovery}, {call}");
     }
     Ok(())
 }
