@@ -1,6 +1,4 @@
 // What a plex of a volume misses while it is detached, and what an attach of it copies.
-ghost use Rattle.std.specs.Prelude.{◌≡◌, None};
-
 use std::alloc::Global;
 use std::test::*;
 use vx_config::{Config, PlexState};
@@ -50,9 +48,10 @@ pub fn group_of(
     alloc: Global,
     fails: &[u64],
     want: &Shape,
-) -> Result<LoggedGroup<Disks>, OutOfMemory>
-    requires { want.now.prefer ≡ None }
-{
+) -> Result<LoggedGroup<Disks>, OutOfMemory> {
+    if want.prefer.is_some() {
+        return Err(OutOfMemory);
+    }
     let mut shelf = match MemShelf::new(alloc, fails) {
         Ok(shelf) => shelf,
         Err(_) => return Err(OutOfMemory),
@@ -131,93 +130,6 @@ pub fn is_lost(config: &Config) -> Option<bool> {
     }
 }
 
-#[test]
-fn maps_are_trusted_behind_the_first_detach(rt: HostRuntime) -> Result<(), Fail> {
-    let alloc = rt.alloc();
-    let mut group = group_of(alloc, &[], &MAPPED)?;
-    assert!(rt; is_lost(group.config()) == Some(true));
-    assert!(rt; det(&mut group, 1));
-    assert!(rt; is_lost(group.config()) == Some(false));
-    Ok(())
-}
-
-#[test]
-fn an_attach_copies_the_regions_that_were_written(rt: HostRuntime) -> Result<(), Fail> {
-    let alloc = rt.alloc();
-    let mut group = group_of(alloc, &[], &MAPPED)?;
-    assert!(rt; put(&mut group, 10, 0xaa));
-    assert!(rt; det(&mut group, 1));
-    assert!(rt; put(&mut group, 70, 0xbb));
-    assert!(rt; put(&mut group, 71, 0xbb));
-    assert!(rt; put(&mut group, 200, 0xcc));
-    assert!(rt; att(&mut group, 1) == Some(2));
-    assert!(rt; att(&mut group, 1) == Some(0));
-    assert!(rt; det(&mut group, 0));
-    assert!(rt; read(&mut group, 10) == Some(0xaa));
-    assert!(rt; read(&mut group, 70) == Some(0xbb));
-    assert!(rt; read(&mut group, 200) == Some(0xcc));
-    Ok(())
-}
-
-#[test]
-fn without_maps_an_attach_copies_all(rt: HostRuntime) -> Result<(), Fail> {
-    let alloc = rt.alloc();
-    let mut group = group_of(alloc, &[], &PLAIN)?;
-    assert!(rt; det(&mut group, 1));
-    assert!(rt; put(&mut group, 70, 0xbb));
-    assert!(rt; att(&mut group, 1) == Some(4));
-    Ok(())
-}
-
-#[test]
-fn a_plex_that_fails_in_a_write_misses_it(rt: HostRuntime) -> Result<(), Fail> {
-    let alloc = rt.alloc();
-    let mut seen: u64 = 0;
-    for call in 100..120 {
-        let mut group = group_of(alloc, &[call], &MAPPED)?;
-        if put(&mut group, 70, 0xbb) && !is_active(group.config(), 1) {
-            seen = seen.wrapping_add(1);
-            assert!(rt; read(&mut group, 70) == Some(0xbb));
-            assert!(rt; att(&mut group, 1) == Some(1));
-        }
-    }
-    assert!(rt; seen == 1);
-    Ok(())
-}
-
-// Attaches the second plex behind a write that it missed, and writes another block, as this call fails. Answers how many regions an attach of it
-// copies then, where it failed in that write.
-fn missed_anew(alloc: Global, call: u64) -> Result<Option<u64>, OutOfMemory> {
-    let mut group = group_of(alloc, &[call], &MAPPED)?;
-    if !det(&mut group, 1) || !put(&mut group, 70, 0xbb) {
-        return Ok(None);
-    }
-    if att(&mut group, 1) != Some(1) || !is_active(group.config(), 1) {
-        return Ok(None);
-    }
-    if !put(&mut group, 10, 0xcc) || is_active(group.config(), 1) {
-        return Ok(None);
-    }
-    Ok(att(&mut group, 1))
-}
-
-#[test]
-fn a_plex_that_fails_behind_an_attach_misses_that_write_alone(rt: HostRuntime) -> Result<(), Fail> {
-    let alloc = rt.alloc();
-    let mut seen: u64 = 0;
-    for call in 120..180 {
-        match missed_anew(alloc, call)? {
-            Some(copied) => {
-                seen = seen.wrapping_add(1);
-                assert!(rt; copied == 1);
-            }
-            None => {}
-        }
-    }
-    assert!(rt; seen == 1);
-    Ok(())
-}
-
 // Flushes behind a write of one block, and answers whether that is done.
 fn settle(group: &mut LoggedGroup<Disks>, block: u64) -> bool {
     if group.units() == 0 || block >= group.size(0) {
@@ -226,33 +138,236 @@ fn settle(group: &mut LoggedGroup<Disks>, block: u64) -> bool {
     group.flush_run(0, block, 1).is_ok()
 }
 
-// Writes a block and flushes behind it, as this call fails. Answers how many regions an attach of the second plex copies then, where it failed in
-// the flush alone.
-fn missed_behind(alloc: Global, call: u64) -> Result<Option<u64>, OutOfMemory> {
-    let mut group = group_of(alloc, &[call], &MAPPED)?;
-    if !put(&mut group, 70, 0xbb) || !is_active(group.config(), 1) {
-        return Ok(None);
-    }
-    if !settle(&mut group, 70) || is_active(group.config(), 1) {
-        return Ok(None);
-    }
-    Ok(att(&mut group, 1))
+/// A call of a group with one volume, or a look at it: whether a plex is ACTIVE, and whether the maps are held as lost.
+#[derive(Clone, Copy)]
+pub enum Call {
+    Put(u64, u8),
+    Get(u64),
+    Flush(u64),
+    Det(u32),
+    Att(u32),
+    Active(usize),
+    Lost,
 }
 
-#[test]
-fn a_plex_that_fails_in_the_flush_behind_a_write_misses_it(rt: HostRuntime) -> Result<(), Fail> {
-    let alloc = rt.alloc();
-    let mut seen: u64 = 0;
-    for call in 100..140 {
-        match missed_behind(alloc, call)? {
-            Some(copied) => {
-                seen = seen.wrapping_add(1);
-                assert!(rt; copied == 1);
-            }
-            None => {}
+#[derive(Clone, Copy, PartialEq, Eq)]
+pub enum Told {
+    Done,
+    Byte(u8),
+    Copied(u64),
+    Is(bool),
+    Refused,
+}
+
+pub type Row = (Call, Told);
+
+fn done(is: bool) -> Told {
+    if is { Told::Done } else { Told::Refused }
+}
+
+fn tell(group: &mut LoggedGroup<Disks>, call: Call) -> Told {
+    match call {
+        Call::Put(block, byte) => done(put(group, block, byte)),
+        Call::Get(block) => match read(group, block) {
+            Some(byte) => Told::Byte(byte),
+            None => Told::Refused,
+        },
+        Call::Flush(block) => done(settle(group, block)),
+        Call::Det(plex) => done(det(group, plex)),
+        Call::Att(plex) => match att(group, plex) {
+            Some(copied) => Told::Copied(copied),
+            None => Told::Refused,
+        },
+        Call::Active(plex) => Told::Is(is_active(group.config(), plex)),
+        Call::Lost => match is_lost(group.config()) {
+            Some(lost) => Told::Is(lost),
+            None => Told::Refused,
+        },
+    }
+}
+
+/// How many rows from the first one on are answered as they say, up to one that is not.
+pub fn held(group: &mut LoggedGroup<Disks>, rows: &[Row]) -> usize {
+    for at in 0..rows.len() {
+        let (call, wanted) = rows[at];
+        if tell(group, call) != wanted {
+            return at;
         }
     }
-    assert!(rt; seen == 1);
+    rows.len()
+}
+
+// What it shows, the volume, and its calls.
+const CASES: &[(&str, &Shape, &[Row])] = &[
+    (
+        "maps are trusted behind the first detach",
+        &MAPPED,
+        &[
+            (Call::Lost, Told::Is(true)),
+            (Call::Det(1), Told::Done),
+            (Call::Lost, Told::Is(false)),
+        ],
+    ),
+    (
+        "an attach copies the regions that were written",
+        &MAPPED,
+        &[
+            (Call::Put(10, 0xaa), Told::Done),
+            (Call::Det(1), Told::Done),
+            (Call::Put(70, 0xbb), Told::Done),
+            (Call::Put(71, 0xbb), Told::Done),
+            (Call::Put(200, 0xcc), Told::Done),
+            (Call::Att(1), Told::Copied(2)),
+            (Call::Att(1), Told::Copied(0)),
+            (Call::Det(0), Told::Done),
+            (Call::Get(10), Told::Byte(0xaa)),
+            (Call::Get(70), Told::Byte(0xbb)),
+            (Call::Get(200), Told::Byte(0xcc)),
+        ],
+    ),
+    (
+        "without maps an attach copies all",
+        &PLAIN,
+        &[
+            (Call::Det(1), Told::Done),
+            (Call::Put(70, 0xbb), Told::Done),
+            (Call::Att(1), Told::Copied(4)),
+        ],
+    ),
+    (
+        "a detach begins the map anew",
+        &MAPPED,
+        &[
+            (Call::Det(1), Told::Done),
+            (Call::Put(10, 0xaa), Told::Done),
+            (Call::Att(1), Told::Copied(1)),
+            (Call::Det(1), Told::Done),
+            (Call::Put(70, 0xbb), Told::Done),
+            (Call::Att(1), Told::Copied(1)),
+            (Call::Det(0), Told::Done),
+            (Call::Get(10), Told::Byte(0xaa)),
+            (Call::Get(70), Told::Byte(0xbb)),
+        ],
+    ),
+];
+
+// What it shows, the first call that fails in turn and the one behind the last, whether the next call fails too, the rows, by how many of these it is the
+// case that is looked for, in which all hold, and how many such calls there are.
+type Search = (&'static str, u64, u64, bool, &'static [Row], usize, u64);
+
+const REFUSED: &[Row] = &[
+    (Call::Det(1), Told::Done),
+    (Call::Put(70, 0xbb), Told::Refused),
+    (Call::Put(200, 0xcc), Told::Done),
+    (Call::Att(1), Told::Copied(2)),
+];
+
+const SEARCHES: &[Search] = &[
+    (
+        "a plex that fails in a write misses it",
+        100,
+        120,
+        false,
+        &[
+            (Call::Put(70, 0xbb), Told::Done),
+            (Call::Active(1), Told::Is(false)),
+            (Call::Get(70), Told::Byte(0xbb)),
+            (Call::Att(1), Told::Copied(1)),
+        ],
+        2,
+        1,
+    ),
+    (
+        "a plex that fails behind an attach misses that write alone",
+        120,
+        180,
+        false,
+        &[
+            (Call::Det(1), Told::Done),
+            (Call::Put(70, 0xbb), Told::Done),
+            (Call::Att(1), Told::Copied(1)),
+            (Call::Active(1), Told::Is(true)),
+            (Call::Put(10, 0xcc), Told::Done),
+            (Call::Active(1), Told::Is(false)),
+            (Call::Att(1), Told::Copied(1)),
+        ],
+        6,
+        1,
+    ),
+    (
+        "a plex that fails in the flush behind a write misses it",
+        100,
+        140,
+        false,
+        &[
+            (Call::Put(70, 0xbb), Told::Done),
+            (Call::Active(1), Told::Is(true)),
+            (Call::Flush(70), Told::Done),
+            (Call::Active(1), Told::Is(false)),
+            (Call::Att(1), Told::Copied(1)),
+        ],
+        4,
+        1,
+    ),
+    // The calls of the detach that write its commit, and those of both writes. That of the first write to the one plex that is ACTIVE is the 128th.
+    (
+        "a refused write is noted: before",
+        120,
+        128,
+        false,
+        REFUSED,
+        3,
+        0,
+    ),
+    ("a refused write is noted", 128, 129, false, REFUSED, 3, 1),
+    (
+        "a refused write is noted: behind",
+        129,
+        132,
+        false,
+        REFUSED,
+        3,
+        0,
+    ),
+    (
+        "a refused write leaves its own regions alone",
+        130,
+        180,
+        true,
+        &[
+            (Call::Det(1), Told::Done),
+            (Call::Put(10, 0xaa), Told::Done),
+            (Call::Att(1), Told::Copied(1)),
+            (Call::Active(1), Told::Is(true)),
+            (Call::Put(70, 0xbb), Told::Refused),
+            (Call::Det(1), Told::Done),
+            (Call::Att(1), Told::Copied(1)),
+        ],
+        6,
+        1,
+    ),
+];
+
+#[test]
+fn calls_are_answered_as_their_rows_say(rt: HostRuntime) -> Result<(), Fail> {
+    let alloc = rt.alloc();
+    for (name, want, rows) in CASES {
+        let mut group = group_of(alloc, &[], want)?;
+        assert!(rt; held(&mut group, rows) == rows.len(), "{name}");
+    }
+    for (name, from, to, both, rows, least, wanted) in SEARCHES {
+        let mut seen: u64 = 0;
+        for call in *from..*to {
+            let next = if *both { call.wrapping_add(1) } else { 0 };
+            let mut group = group_of(alloc, &[call, next], &MAPPED)?;
+            let count = held(&mut group, rows);
+            if count >= *least {
+                seen = seen.wrapping_add(1);
+                assert!(rt; count == rows.len(), "{name}: {call}");
+            }
+        }
+        assert!(rt; seen == *wanted, "{name}");
+    }
     Ok(())
 }
 
@@ -284,54 +399,14 @@ fn a_write_is_done_whichever_of_its_calls_fails(rt: HostRuntime) -> Result<(), F
         // Where the log of missed regions is lost all regions are copied.
         let is_lost = call == 167 || call == 168;
         let wanted = if is_lost { Some(4) } else { Some(1) };
-        assert!(rt; failing(alloc, call)? == wanted);
+        assert!(rt; failing(alloc, call)? == wanted, "{call}");
     }
     // The read, and the calls of the attach.
     for call in 171..193 {
         match failing(alloc, call)? {
-            Some(copied) => assert!(rt; copied == 1),
+            Some(copied) => assert!(rt; copied == 1, "{call}"),
             None => {}
         }
-    }
-    Ok(())
-}
-
-#[test]
-fn a_detach_begins_the_map_anew(rt: HostRuntime) -> Result<(), Fail> {
-    let alloc = rt.alloc();
-    let mut group = group_of(alloc, &[], &MAPPED)?;
-    assert!(rt; det(&mut group, 1));
-    assert!(rt; put(&mut group, 10, 0xaa));
-    assert!(rt; att(&mut group, 1) == Some(1));
-    assert!(rt; det(&mut group, 1));
-    assert!(rt; put(&mut group, 70, 0xbb));
-    assert!(rt; att(&mut group, 1) == Some(1));
-    assert!(rt; det(&mut group, 0));
-    assert!(rt; read(&mut group, 10) == Some(0xaa));
-    assert!(rt; read(&mut group, 70) == Some(0xbb));
-    Ok(())
-}
-
-// Writes two blocks while the second plex is detached, as this call fails, and attaches the plex then. Answers how many regions were copied, where
-// the first write was refused and the second one done.
-fn refused(alloc: Global, call: u64) -> Result<Option<u64>, OutOfMemory> {
-    let mut group = group_of(alloc, &[call], &MAPPED)?;
-    if !det(&mut group, 1) || put(&mut group, 70, 0xbb) {
-        return Ok(None);
-    }
-    if !put(&mut group, 200, 0xcc) {
-        return Ok(None);
-    }
-    Ok(att(&mut group, 1))
-}
-
-#[test]
-fn a_refused_write_is_noted(rt: HostRuntime) -> Result<(), Fail> {
-    let alloc = rt.alloc();
-    // The calls of the detach that write its commit, and those of both writes. That of the first write to the one plex that is ACTIVE is the 128th.
-    for call in 120..132 {
-        let wanted = if call == 128 { Some(2) } else { None };
-        assert!(rt; refused(alloc, call)? == wanted);
     }
     Ok(())
 }
@@ -354,18 +429,24 @@ fn moved(alloc: Global, group: LoggedGroup<Disks>) -> Option<LoggedGroup<Disks>>
 fn an_attach_behind_a_deport_goes_by_the_map(rt: HostRuntime) -> Result<(), Fail> {
     let alloc = rt.alloc();
     let mut group = group_of(alloc, &[], &MAPPED)?;
-    assert!(rt; put(&mut group, 10, 0xaa));
-    assert!(rt; det(&mut group, 1));
-    assert!(rt; put(&mut group, 70, 0xbb));
+    let rows = [
+        (Call::Put(10, 0xaa), Told::Done),
+        (Call::Det(1), Told::Done),
+        (Call::Put(70, 0xbb), Told::Done),
+    ];
+    assert!(rt; held(&mut group, &rows) == 3);
+    let rows = [
+        (Call::Get(70), Told::Byte(0xbb)),
+        (Call::Det(0), Told::Refused),
+        (Call::Att(1), Told::Copied(1)),
+        (Call::Det(0), Told::Done),
+        (Call::Get(10), Told::Byte(0xaa)),
+        (Call::Get(70), Told::Byte(0xbb)),
+    ];
     match moved(alloc, group) {
         Some(group) => {
             let mut group = group;
-            assert!(rt; read(&mut group, 70) == Some(0xbb));
-            assert!(rt; !det(&mut group, 0));
-            assert!(rt; att(&mut group, 1) == Some(1));
-            assert!(rt; det(&mut group, 0));
-            assert!(rt; read(&mut group, 10) == Some(0xaa));
-            assert!(rt; read(&mut group, 70) == Some(0xbb));
+            assert!(rt; held(&mut group, &rows) == 6);
         }
         None => assert!(rt; false),
     }

@@ -142,21 +142,14 @@ const KEPT: Option<u8> = Some(0xee);
 
 const COPIED: Option<u8> = Some(0);
 
+// A log is trusted behind the first write, and an import copies the regions of writes.
 #[test]
-fn a_log_is_trusted_behind_the_first_write(rt: HostRuntime) -> Result<(), Fail> {
+fn an_import_copies_the_regions_of_writes(rt: HostRuntime) -> Result<(), Fail> {
     let alloc = rt.alloc();
     let mut group = group_on(alloc, &[])?;
     assert!(rt; is_lost(group.config()) == Some(true));
     assert!(rt; put(&mut group, 70, 0x11));
     assert!(rt; is_lost(group.config()) == Some(false));
-    Ok(())
-}
-
-#[test]
-fn an_import_copies_the_regions_of_writes(rt: HostRuntime) -> Result<(), Fail> {
-    let alloc = rt.alloc();
-    let mut group = group_on(alloc, &[])?;
-    assert!(rt; put(&mut group, 70, 0x11));
     let (disks, run) = crashed(group);
     assert!(rt;
         again(alloc, disks, run) == ([KEPT, KEPT, COPIED, COPIED, KEPT, KEPT], Some(false))
@@ -218,20 +211,6 @@ fn losing(alloc: Global, from: u64, to: u64) -> u64 {
     seen
 }
 
-#[test]
-fn a_log_that_does_not_begin_stays_lost(rt: HostRuntime) -> Result<(), Fail> {
-    // The writing of its block, the flush behind it, and its reading: the first calls behind the 85 of the making.
-    assert!(rt; losing(rt.alloc(), 86, 89) == 3);
-    Ok(())
-}
-
-#[test]
-fn a_log_that_a_write_loses_is_not_used(rt: HostRuntime) -> Result<(), Fail> {
-    // The writing of the mark, and the flush behind it, between the commit by which the log is trusted and the writing of the plexes.
-    assert!(rt; losing(rt.alloc(), 107, 109) == 2);
-    Ok(())
-}
-
 // How many of these calls the write is done behind, with the log trusted, where they fail, and behind a crash an import leaves this.
 fn trusting(alloc: Global, from: u64, to: u64, want: ([Option<u8>; 6], Option<bool>)) -> u64 {
     let mut seen: u64 = 0;
@@ -253,16 +232,19 @@ fn trusting(alloc: Global, from: u64, to: u64, want: ([Option<u8>; 6], Option<bo
 }
 
 #[test]
-fn a_log_is_used_whose_commit_fails_on_another_disk(rt: HostRuntime) -> Result<(), Fail> {
-    // The calls of the commit by which the log is trusted on the disk of the second plex, and on the one that has nothing: six on each.
+fn a_log_is_lost_or_used(rt: HostRuntime) -> Result<(), Fail> {
+    let alloc = rt.alloc();
+    // A log that does not begin stays lost: the writing of its block, the flush behind it, and its reading are the first calls behind the 85 of the
+    // making.
+    assert!(rt; losing(alloc, 86, 89) == 3);
+    // A log that a write loses is not used: the writing of the mark, and the flush behind it, between the commit by which the log is trusted and the
+    // writing of the plexes.
+    assert!(rt; losing(alloc, 107, 109) == 2);
+    // A log is used whose commit fails on another disk: the calls of that commit on the disk of the second plex, and on the one that has nothing, six
+    // on each.
     let want = ([KEPT, KEPT, COPIED, COPIED, KEPT, KEPT], Some(false));
-    assert!(rt; trusting(rt.alloc(), 95, 107, want) == 12);
-    Ok(())
-}
-
-#[test]
-fn a_log_is_lost_whose_disk_fails_in_its_commit(rt: HostRuntime) -> Result<(), Fail> {
-    // The calls of that commit on the disk of the log: the plex on it is copied whole from the one on a disk that did not fail.
-    assert!(rt; trusting(rt.alloc(), 89, 95, ([KEPT; 6], Some(true))) == 6);
+    assert!(rt; trusting(alloc, 95, 107, want) == 12);
+    // A log is lost whose disk fails in its commit, by the calls on that disk: the plex on it is copied whole from the one on a disk that did not fail.
+    assert!(rt; trusting(alloc, 89, 95, ([KEPT; 6], Some(true))) == 6);
     Ok(())
 }

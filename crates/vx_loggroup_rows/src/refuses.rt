@@ -1,117 +1,11 @@
 // What the map of a plex has behind a write that was refused.
-use crate::misses::{Disks, MAPPED, att, group_of, is_active, is_lost, put};
+use crate::misses::{Call, Disks, MAPPED, Row, Told, group_of, held, is_active, is_lost};
 use std::alloc::Global;
 use std::test::*;
 use vx_disk::{MemShelf, Rack, Shelf};
 use vx_group::Group;
 use vx_group_rows::Untold;
 use vx_loggroup::LoggedGroup;
-use vx_model::OutOfMemory;
-
-// Attaches the second plex behind a write that it missed, and writes another block, as this call fails and the next one. Answers how many regions
-// an attach of it copies once it is detached, where that write was refused.
-fn refused_anew(alloc: Global, call: u64) -> Result<Option<u64>, OutOfMemory> {
-    let mut group = group_of(alloc, &[call, call.wrapping_add(1)], &MAPPED)?;
-    if group.det(0, 1).is_err() || !put(&mut group, 10, 0xaa) {
-        return Ok(None);
-    }
-    if att(&mut group, 1) != Some(1) || !is_active(group.config(), 1) {
-        return Ok(None);
-    }
-    if put(&mut group, 70, 0xbb) || group.det(0, 1).is_err() {
-        return Ok(None);
-    }
-    Ok(att(&mut group, 1))
-}
-
-#[test]
-fn a_refused_write_leaves_its_own_regions_alone(rt: HostRuntime) -> Result<(), Fail> {
-    let alloc = rt.alloc();
-    let mut seen: u64 = 0;
-    for call in 130..180 {
-        match refused_anew(alloc, call)? {
-            Some(copied) => {
-                seen = seen.wrapping_add(1);
-                assert!(rt; copied == 1);
-            }
-            None => {}
-        }
-    }
-    assert!(rt; seen == 1);
-    Ok(())
-}
-
-// Whether a write is refused as this call fails and the next one.
-fn refuses(alloc: Global, call: u64) -> Result<bool, OutOfMemory> {
-    let mut group = group_of(alloc, &[call, call.wrapping_add(1)], &MAPPED)?;
-    if !put(&mut group, 10, 0xaa) {
-        return Ok(false);
-    }
-    Ok(!put(&mut group, 70, 0xbb))
-}
-
-// Behind such a write detaches the second plex, writes a block that it misses, attaches it, and writes another one, as this later call fails. Answers
-// how many regions an attach of the plex copies then, where it fell out of use in that.
-fn refused_before(alloc: Global, call: u64, later: u64) -> Result<Option<u64>, OutOfMemory> {
-    let mut group = group_of(alloc, &[call, call.wrapping_add(1), later], &MAPPED)?;
-    if !put(&mut group, 10, 0xaa) || put(&mut group, 70, 0xbb) {
-        return Ok(None);
-    }
-    if group.det(0, 1).is_err() || !put(&mut group, 10, 0xcc) {
-        return Ok(None);
-    }
-    if att(&mut group, 1) != Some(2) || !is_active(group.config(), 1) {
-        return Ok(None);
-    }
-    if !put(&mut group, 200, 0xdd) || is_active(group.config(), 1) {
-        return Ok(None);
-    }
-    Ok(att(&mut group, 1))
-}
-
-#[test]
-fn an_attach_leaves_the_regions_of_refused_writes_alone(rt: HostRuntime) -> Result<(), Fail> {
-    let alloc = rt.alloc();
-    let mut seen: u64 = 0;
-    for call in 105..115 {
-        if refuses(alloc, call)? {
-            for later in 150..180 {
-                match refused_before(alloc, call, later)? {
-                    Some(copied) => {
-                        seen = seen.wrapping_add(1);
-                        assert!(rt; copied == 2);
-                    }
-                    None => {}
-                }
-            }
-        }
-    }
-    assert!(rt; seen > 0);
-    Ok(())
-}
-
-// Behind such a write detaches the second plex, writes a block that it misses, and attaches it, as this later call fails. Answers the group, where the
-// map was trusted before the attach, which is done, and is held as lost behind it.
-fn lost_in(
-    alloc: Global,
-    call: u64,
-    later: u64,
-) -> Result<Option<LoggedGroup<Disks>>, OutOfMemory> {
-    let mut group = group_of(alloc, &[call, call.wrapping_add(1), later], &MAPPED)?;
-    if !put(&mut group, 10, 0xaa) || put(&mut group, 70, 0xbb) {
-        return Ok(None);
-    }
-    if group.det(0, 1).is_err() || !put(&mut group, 10, 0xcc) {
-        return Ok(None);
-    }
-    if is_lost(group.config()) != Some(false) || att(&mut group, 1) != Some(2) {
-        return Ok(None);
-    }
-    if is_lost(group.config()) == Some(true) {
-        return Ok(Some(group));
-    }
-    Ok(None)
-}
 
 // The group that an import without logs gives.
 fn brought(alloc: Global, disks: MemShelf) -> Option<Group<Disks>> {
@@ -135,24 +29,64 @@ fn lost_behind(alloc: Global, group: LoggedGroup<Disks>) -> Option<bool> {
     }
 }
 
+// A write is refused, as a call fails and the next one.
+const REFUSED: &[Row] = &[
+    (Call::Put(10, 0xaa), Told::Done),
+    (Call::Put(70, 0xbb), Told::Refused),
+];
+
+// Behind such a write the second plex is detached, a block written that it misses, it is attached, and another one is written, as a later call fails.
+// Where it falls out of use in that, by eight rows, an attach of it copies two regions.
+const BEFORE: &[Row] = &[
+    (Call::Put(10, 0xaa), Told::Done),
+    (Call::Put(70, 0xbb), Told::Refused),
+    (Call::Det(1), Told::Done),
+    (Call::Put(10, 0xcc), Told::Done),
+    (Call::Att(1), Told::Copied(2)),
+    (Call::Active(1), Told::Is(true)),
+    (Call::Put(200, 0xdd), Told::Done),
+    (Call::Active(1), Told::Is(false)),
+    (Call::Att(1), Told::Copied(2)),
+];
+
+// The same up to the attach, as the later call fails: the map was trusted before it, which is done, and is held as lost behind it.
+const LOST_IN: &[Row] = &[
+    (Call::Put(10, 0xaa), Told::Done),
+    (Call::Put(70, 0xbb), Told::Refused),
+    (Call::Det(1), Told::Done),
+    (Call::Put(10, 0xcc), Told::Done),
+    (Call::Lost, Told::Is(false)),
+    (Call::Att(1), Told::Copied(2)),
+    (Call::Lost, Told::Is(true)),
+];
+
+// An attach leaves the regions of refused writes alone, and a map that it loses is lost before the answer.
 #[test]
-fn a_map_that_an_attach_loses_is_lost_before_the_answer(rt: HostRuntime) -> Result<(), Fail> {
+fn an_attach_comes_behind_refused_writes(rt: HostRuntime) -> Result<(), Fail> {
     let alloc = rt.alloc();
-    let mut seen: u64 = 0;
+    let mut left: u64 = 0;
+    let mut lost: u64 = 0;
     for call in 105..115 {
-        if refuses(alloc, call)? {
+        let next = call + 1;
+        let mut group = group_of(alloc, &[call, next], &MAPPED)?;
+        if held(&mut group, REFUSED) == 2 {
             for later in 150..180 {
-                match lost_in(alloc, call, later)? {
-                    Some(group) => {
-                        seen = seen.wrapping_add(1);
-                        assert!(rt; is_active(group.config(), 1));
-                        assert!(rt; lost_behind(alloc, group) == Some(true));
-                    }
-                    None => {}
+                let mut group = group_of(alloc, &[call, next, later], &MAPPED)?;
+                let count = held(&mut group, BEFORE);
+                if count >= 8 {
+                    left = left.wrapping_add(1);
+                    assert!(rt; count == 9, "{call}, {later}");
+                }
+                let mut group = group_of(alloc, &[call, next, later], &MAPPED)?;
+                if held(&mut group, LOST_IN) == 7 {
+                    lost = lost.wrapping_add(1);
+                    assert!(rt; is_active(group.config(), 1), "{call}, {later}");
+                    assert!(rt; lost_behind(alloc, group) == Some(true), "{call}, {later}");
                 }
             }
         }
     }
-    assert!(rt; seen > 0);
+    assert!(rt; left > 0);
+    assert!(rt; lost > 0);
     Ok(())
 }
