@@ -1,41 +1,12 @@
 // A replicated volume group whose disks return in the files of an earlier run.
 use std::fs;
-use std::sync::Wait;
 use std::test::Fail;
-use std::thread::Threads;
 use vx_runs::{OpenGate, Status, fresh_racks, vx_main};
 use vx_stream::{MemSink, MemSource};
 
 fn remove(rt: &HostRuntime) {
     let _ = fs::remove_file(rt, "./0-0.vxd");
     let _ = fs::remove_file(rt, "./0-1.vxd");
-}
-
-// Whether a run of the script over the files of this folder is answered so.
-fn is_answered<H: Threads + Wait + Sync>(
-    handle: &H,
-    rt: HostRuntime,
-    script: &[u8],
-    replies: &[u8],
-) -> Result<bool, Fail> {
-    let alloc = rt.alloc();
-    let mut words = Vec::new(alloc);
-    for word in ["run", "--dir", "."] {
-        words.push(String::from_str(alloc, word)?)?;
-    }
-    let mut source = MemSource::new(alloc, script, &[])?;
-    let mut sink = MemSink::new(alloc, 4096, &[])?;
-    let mut racks = fresh_racks(rt, alloc)?;
-    let status = vx_main(
-        handle,
-        alloc,
-        &words,
-        &mut source,
-        &mut sink,
-        &mut racks,
-        &OpenGate,
-    );
-    Ok(status == Status::Done && sink.written() == replies)
 }
 
 // A write before the group is made, and two behind it.
@@ -58,15 +29,41 @@ const THIRD: &[u8] =
 const AGAIN: &[u8] =
     b"done\nrecovered 3\nsite a up\ndisk 0 ok\ndisk 1 ok\nvol log1 64 none off\nplex 0 ACTIVE\nplex 1 ACTIVE\nvol maps 8 none off\nplex 0 ACTIVE\nplex 1 ACTIVE\nvol v 64 none off\nplex 0 ACTIVE\nplex 1 ACTIVE\nrvg primary 1 a head 3 mark consistent session 3\n6b\n7c\ndone\nrecovered 3\nsite a up\ndisk 0 ok\ndisk 1 ok\nvol log1 64 none off\nplex 0 ACTIVE\nplex 1 ACTIVE\nvol maps 8 none off\nplex 0 ACTIVE\nplex 1 ACTIVE\nvol v 64 none off\nplex 0 ACTIVE\nplex 1 ACTIVE\nrvg primary 1 a head 3 mark consistent session 4\n6b\n7c\n";
 
+// The runs, one behind the other, each with its replies.
+const RUNS: [(&str, &[u8], &[u8]); 3] = [
+    ("the group is made", FIRST, MADE),
+    ("the group and its log are found", SECOND, FOUND),
+    ("they are found again", THIRD, AGAIN),
+];
+
 #[test]
 fn later_runs_find_the_log(rt: HostRuntime) -> Result<(), Fail> {
+    let alloc = rt.alloc();
     remove(&rt);
-    let is_made = is_answered(&rt, rt, FIRST, MADE)?;
-    let is_found = is_answered(&rt, rt, SECOND, FOUND)?;
-    let is_again = is_answered(&rt, rt, THIRD, AGAIN)?;
-    remove(&rt);
-    assert!(rt; is_made);
-    assert!(rt; is_found);
-    assert!(rt; is_again);
+    let mut words = Vec::new(alloc);
+    for word in ["run", "--dir", "."] {
+        words.push(String::from_str(alloc, word)?)?;
+    }
+    let mut count = 0_usize;
+    for (name, script, wanted) in RUNS {
+        let mut source = MemSource::new(alloc, script, &[])?;
+        let mut sink = MemSink::new(alloc, 4096, &[])?;
+        let mut racks = fresh_racks(rt, alloc)?;
+        let status = vx_main(
+            &rt,
+            alloc,
+            &words,
+            &mut source,
+            &mut sink,
+            &mut racks,
+            &OpenGate,
+        );
+        count = count.wrapping_add(1);
+        let is_so = status == Status::Done && sink.written() == wanted;
+        if !is_so || count == RUNS.len() {
+            remove(&rt);
+        }
+        assert!(rt; is_so, "{name}");
+    }
     Ok(())
 }

@@ -8,8 +8,6 @@ mod cut;
 #[cfg(test)]
 mod deports;
 #[cfg(test)]
-mod done;
-#[cfg(test)]
 mod failing;
 #[cfg(test)]
 mod imports;
@@ -23,6 +21,8 @@ mod open;
 mod over_groups;
 #[cfg(test)]
 mod plexes;
+#[cfg(test)]
+mod scripts;
 #[cfg(test)]
 mod vols;
 #[cfg(test)]

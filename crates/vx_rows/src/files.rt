@@ -219,89 +219,83 @@ fn a_write_that_is_answered_is_in_the_files(rt: HostRuntime) -> Result<(), Fail>
     Ok(())
 }
 
-// Each site takes up what stands in files of its own.
-#[test]
-fn sites_have_files_of_their_own(rt: HostRuntime) -> Result<(), Fail> {
-    let alloc = rt.alloc();
-    remove(&rt);
-    let script =
-        b"site a 3 64\nraw a\nwrite a d1 0 1 11\nsite b 3 64\nraw b\nwrite b d1 0 1 22\nwrite b d1 1 1 33\n";
-    let mut first = MemSink::new(alloc, 4096, &[])?;
-    let status = run_in_files(&rt, rt, ".", script, &mut first)?;
-    let later = b"site a 3 64\nsite b 3 64\nrecover a\nrecover b\nread a d1 0 2\nread b d1 0 2\n";
-    let mut second = MemSink::new(alloc, 4096, &[])?;
-    let later_status = run_in_files(&rt, rt, ".", later, &mut second)?;
-    remove(&rt);
-    assert!(rt; status == Status::Done);
-    assert!(rt; first.written() == b"done\ndone\ndone 1\ndone\ndone\ndone 1\ndone 2\n".as_slice());
-    assert!(rt; later_status == Status::Done);
-    assert!(rt;
-        second.written()
-            == b"done\ndone\nrecovered 1\nsite a up\nrvg primary 1 a head 1 mark consistent session 2\nrecovered 2\nsite b up\nrvg primary 1 b head 2 mark consistent session 2\n11\n00\n22\n33\n".as_slice()
-    );
-    Ok(())
+// What two runs show, the folder of their files, and whether the receiver's files are taken away between them; then both scripts, each with its
+// replies.
+type Runs = (
+    &'static str,
+    &'static str,
+    bool,
+    &'static str,
+    &'static str,
+    &'static str,
+    &'static str,
+);
+
+const RUNS: &[Runs] = &[
+    // Each site takes up what stands in files of its own.
+    (
+        "sites have files of their own",
+        ".",
+        false,
+        "site a 3 64\nraw a\nwrite a d1 0 1 11\nsite b 3 64\nraw b\nwrite b d1 0 1 22\nwrite b d1 1 1 33\n",
+        "done\ndone\ndone 1\ndone\ndone\ndone 1\ndone 2\n",
+        "site a 3 64\nsite b 3 64\nrecover a\nrecover b\nread a d1 0 2\nread b d1 0 2\n",
+        "done\ndone\nrecovered 1\nsite a up\nrvg primary 1 a head 1 mark consistent session 2\nrecovered 2\nsite b up\nrvg primary 1 b head 2 mark consistent session 2\n11\n00\n22\n33\n",
+    ),
+    // The files are looked for in the folder that the words name.
+    (
+        "a folder that is not there has no disks",
+        "./not-there",
+        false,
+        "site a 3 64\n",
+        "no 7 device 0\n",
+        "",
+        "",
+    ),
+    // A later run takes up the link and its receiver, each as the header of its log has it.
+    (
+        "a link stands in the files",
+        ".",
+        false,
+        "site a 3 64\nraw a\nsite b 3 64\nraw b\nlink a b synchronous=off srlprot=fail\nconnect a b\nwrite a d1 0 1 11\nsettle a b\nwrite a d1 1 1 22\n",
+        "done\ndone\ndone\ndone\ndone\ndone sent 1 1\ndone 1\nsettled 1 sent 2 5\ndone 2\n",
+        "site a 3 64\nsite b 3 64\nrecover a\nrecover b\nconnect a b\nsettle a b\nshow b d1 0 2\n",
+        "done\ndone\nrecovered 2\nsite a up\nrvg primary 1 a head 2 mark consistent session 2\nlink b attached cut running log net 1 stored 1\nrecovered 1 sent 1 1\nsite b up\nrvg secondary 1 a head 1 mark consistent session 2\ndone sent 2 2\nsettled 2 sent 3 6\n11\n22\n",
+    ),
+    // The disks of the receiver are new in the later run: so it is a primary of its own, and the link to it stays.
+    (
+        "a link to a site that is no secondary is not settled",
+        ".",
+        true,
+        "site a 3 64\nraw a\nsite b 3 64\nraw b\nlink a b synchronous=off srlprot=fail\nconnect a b\nwrite a d1 0 1 11\nsettle a b\nwrite a d1 1 1 22\n",
+        "done\ndone\ndone\ndone\ndone\ndone sent 1 1\ndone 1\nsettled 1 sent 2 5\ndone 2\n",
+        "site a 3 64\nsite b 3 64\nrecover a\nraw b\nsettle a b\nconnect a b\nsettle a b\nsettle a c\nread b d1 0 2\nstatus a\nstatus b\n",
+        "done\ndone\nrecovered 2\nsite a up\nrvg primary 1 a head 2 mark consistent session 2\nlink b attached cut running log net 1 stored 1\ndone\nno 5 role\ndone\nno 5 role\nno 1 unknown c\n00\n00\nsite a up\nrvg primary 1 a head 2 mark consistent session 2\nlink b attached connected running log net 1 stored 1\nsite b up\nrvg primary 1 b head 0 mark consistent session 1\n",
+    ),
+];
+
+// Whether the run was done, with these replies.
+fn is_done(status: Status, sink: &MemSink, wanted: &str) -> bool {
+    status == Status::Done && sink.written() == wanted.as_bytes()
 }
 
-// The files are looked for in the folder that the words name.
 #[test]
-fn a_folder_that_is_not_there_has_no_disks(rt: HostRuntime) -> Result<(), Fail> {
+fn later_runs_take_up_what_is_in_the_files(rt: HostRuntime) -> Result<(), Fail> {
     let alloc = rt.alloc();
-    let mut sink = MemSink::new(alloc, 64, &[])?;
-    let status = run_in_files(&rt, rt, "./not-there", b"site a 3 64\n", &mut sink)?;
-    assert!(rt; status == Status::Done);
-    assert!(rt; sink.written() == b"no 7 device 0\n".as_slice());
-    Ok(())
-}
-
-// A later run takes up the link and its receiver, each as the header of its log has it.
-#[test]
-fn a_link_stands_in_the_files(rt: HostRuntime) -> Result<(), Fail> {
-    let alloc = rt.alloc();
-    remove(&rt);
-    let script =
-        b"site a 3 64\nraw a\nsite b 3 64\nraw b\nlink a b synchronous=off srlprot=fail\nconnect a b\nwrite a d1 0 1 11\nsettle a b\nwrite a d1 1 1 22\n";
-    let mut first = MemSink::new(alloc, 4096, &[])?;
-    let status = run_in_files(&rt, rt, ".", script, &mut first)?;
-    let later =
-        b"site a 3 64\nsite b 3 64\nrecover a\nrecover b\nconnect a b\nsettle a b\nshow b d1 0 2\n";
-    let mut second = MemSink::new(alloc, 4096, &[])?;
-    let later_status = run_in_files(&rt, rt, ".", later, &mut second)?;
-    remove(&rt);
-    assert!(rt; (status, later_status) == (Status::Done, Status::Done));
-    assert!(rt;
-        first.written()
-            == b"done\ndone\ndone\ndone\ndone\ndone sent 1 1\ndone 1\nsettled 1 sent 2 5\ndone 2\n".as_slice()
-    );
-    assert!(rt;
-        second.written()
-            == b"done\ndone\nrecovered 2\nsite a up\nrvg primary 1 a head 2 mark consistent session 2\nlink b attached cut running log net 1 stored 1\nrecovered 1 sent 1 1\nsite b up\nrvg secondary 1 a head 1 mark consistent session 2\ndone sent 2 2\nsettled 2 sent 3 6\n11\n22\n".as_slice()
-    );
-    Ok(())
-}
-
-// The disks of the receiver are new in the later run: so it is a primary of its own, and the link to it stays.
-#[test]
-fn a_link_to_a_site_that_is_no_secondary_is_not_settled(rt: HostRuntime) -> Result<(), Fail> {
-    let alloc = rt.alloc();
-    remove(&rt);
-    let script =
-        b"site a 3 64\nraw a\nsite b 3 64\nraw b\nlink a b synchronous=off srlprot=fail\nconnect a b\nwrite a d1 0 1 11\nsettle a b\nwrite a d1 1 1 22\n";
-    let mut first = MemSink::new(alloc, 4096, &[])?;
-    let status = run_in_files(&rt, rt, ".", script, &mut first)?;
-    remove_receiver(&rt);
-    let later =
-        b"site a 3 64\nsite b 3 64\nrecover a\nraw b\nsettle a b\nconnect a b\nsettle a b\nsettle a c\nread b d1 0 2\nstatus a\nstatus b\n";
-    let mut second = MemSink::new(alloc, 4096, &[])?;
-    let later_status = run_in_files(&rt, rt, ".", later, &mut second)?;
-    remove(&rt);
-    assert!(rt; (status, later_status) == (Status::Done, Status::Done));
-    assert!(rt;
-        first.written()
-            == b"done\ndone\ndone\ndone\ndone\ndone sent 1 1\ndone 1\nsettled 1 sent 2 5\ndone 2\n".as_slice()
-    );
-    assert!(rt;
-        second.written()
-            == b"done\ndone\nrecovered 2\nsite a up\nrvg primary 1 a head 2 mark consistent session 2\nlink b attached cut running log net 1 stored 1\ndone\nno 5 role\ndone\nno 5 role\nno 1 unknown c\n00\n00\nsite a up\nrvg primary 1 a head 2 mark consistent session 2\nlink b attached connected running log net 1 stored 1\nsite b up\nrvg primary 1 b head 0 mark consistent session 1\n".as_slice()
-    );
+    for (name, dir, takes, script, wanted, later, later_wanted) in RUNS {
+        remove(&rt);
+        let mut first = MemSink::new(alloc, 4096, &[])?;
+        let status = run_in_files(&rt, rt, dir, script.as_bytes(), &mut first)?;
+        if *takes {
+            remove_receiver(&rt);
+        }
+        let mut second = MemSink::new(alloc, 4096, &[])?;
+        let later_status = run_in_files(&rt, rt, dir, later.as_bytes(), &mut second)?;
+        remove(&rt);
+        assert!(rt;
+            is_done(status, &first, wanted) && is_done(later_status, &second, later_wanted),
+            "{name}"
+        );
+    }
     Ok(())
 }

@@ -6,8 +6,6 @@ mod bytes;
 #[cfg(test)]
 mod disks;
 #[cfg(test)]
-mod done;
-#[cfg(test)]
 mod ends;
 #[cfg(test)]
 mod files;
@@ -33,6 +31,8 @@ mod recovery;
 mod replies;
 #[cfg(test)]
 mod row;
+#[cfg(test)]
+mod scripts;
 #[cfg(test)]
 mod sessions;
 #[cfg(test)]
