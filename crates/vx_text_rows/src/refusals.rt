@@ -68,6 +68,10 @@ const NAMELESS: [(No, &str); 22] = [
     (No::Format { version: 2 }, "no 25 format 2\n"),
 ];
 
+fn link() -> SiteName {
+    SiteName::Known(Name::new(b"b"))
+}
+
 #[test]
 fn prints_each_refusal(rt: HostRuntime) -> Result<(), Fail> {
     for (no, wanted) in NAMELESS {
@@ -76,14 +80,13 @@ fn prints_each_refusal(rt: HostRuntime) -> Result<(), Fail> {
     }
     let name = Name::new(b"d2");
     let what = Named::Of(name);
-    let link = SiteName::Known(Name::new(b"b"));
     for (no, wanted) in [
         (No::Unknown { what }, "no 1 unknown d2\n"),
         (No::Exists { name }, "no 2 exists d2\n"),
-        (No::LogFull { link }, "no 12 logfull b\n"),
-        (No::Stalled { link }, "no 13 stalled b\n"),
-        (No::LinkDown { link }, "no 14 linkdown b\n"),
-        (No::Replaying { link }, "no 18 replaying b\n"),
+        (No::LogFull { link: link() }, "no 12 logfull b\n"),
+        (No::Stalled { link: link() }, "no 13 stalled b\n"),
+        (No::LinkDown { link: link() }, "no 14 linkdown b\n"),
+        (No::Replaying { link: link() }, "no 18 replaying b\n"),
     ] {
         let text = refusal(rt.alloc(), &no)?;
         assert!(rt; text.as_slice() == wanted.as_bytes(), "{wanted}");
