@@ -1,9 +1,10 @@
 // What no clause says: a group that is made over a shelf in memory, with each of its device calls failing in turn.
+use crate::imports::disks_of;
 use std::alloc::Global;
 use std::test::*;
 use vx_copies::import;
 use vx_copyio::are_large;
-use vx_disk::{MemShelf, Rack, Shelf};
+use vx_disk::{MemShelf, Shelf};
 use vx_group::Group;
 use vx_model::limits::MOST_DISKS;
 use vx_model::{No, Stop};
@@ -66,10 +67,9 @@ fn each_call_of_a_new_group_fails(rt: HostRuntime) -> Result<(), Fail> {
         (23, 1024, Told::Other),
         (0, 1023, Told::Small),
     ] {
-        let mut shelf = MemShelf::new(alloc, &[call])?;
-        assert!(rt; shelf.fit(alloc, None, 7, 2, blocks).is_ok());
+        let disks = disks_of(alloc, &[call], 2, blocks)?;
         assert!(rt;
-            made(alloc, shelf) == wanted,
+            made(alloc, disks.shelf) == wanted,
             "call {call}, {blocks} blocks"
         );
     }

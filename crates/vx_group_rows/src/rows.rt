@@ -112,15 +112,11 @@ pub fn went(alloc: Global, group: Group<Disks>, rows: &[Row]) -> Option<Group<Di
     let mut group = group;
     for at in 0..rows.len() {
         let (call, wanted) = rows[at];
-        group = match called(alloc, group, call) {
-            (Some(group), told) => {
-                if told != wanted {
-                    return None;
-                }
-                group
-            }
-            (None, _) => return None,
-        };
+        let (next, told) = called(alloc, group, call);
+        if told != wanted {
+            return None;
+        }
+        group = next?;
     }
     Some(group)
 }
@@ -161,6 +157,34 @@ fn holds(
     Ok(true)
 }
 
+// The number of the first of these sets of failing calls with which the rows of a case do not hold.
+fn first_wrong(alloc: Global, case: &Case, sets: &[&[u64]]) -> Result<Option<usize>, OutOfMemory> {
+    for at in 0..sets.len() {
+        if !holds(alloc, case, sets[at], None)? {
+            return Ok(Some(at));
+        }
+    }
+    Ok(None)
+}
+
+// The same of the calls after which the disks fall.
+fn first_wrong_cut(
+    alloc: Global,
+    case: &Case,
+    before: u64,
+    cuts: &[u64],
+    pick: u64,
+    fail: u64,
+) -> Result<Option<usize>, OutOfMemory> {
+    for at in 0..cuts.len() {
+        let fuse = Some((before.saturating_add(cuts[at]), pick));
+        if !holds(alloc, case, &[fail], fuse)? {
+            return Ok(Some(at));
+        }
+    }
+    Ok(None)
+}
+
 #[test]
 fn calls_are_answered_as_their_rows_say(rt: HostRuntime) -> Result<(), Fail> {
     let alloc = rt.alloc();
@@ -179,15 +203,12 @@ fn calls_are_answered_as_their_rows_say(rt: HostRuntime) -> Result<(), Fail> {
             let name = case.0;
             match case.2 {
                 Trouble::Fails(sets) => {
-                    for fails in sets {
-                        assert!(rt; holds(alloc, case, fails, None)?, "{name}: {fails:?}");
-                    }
+                    let wrong = first_wrong(alloc, case, sets)?;
+                    assert!(rt; wrong == None, "{name}: {wrong:?}");
                 }
                 Trouble::Cut(before, cuts, pick, fail) => {
-                    for calls in cuts {
-                        let fuse = Some((before.saturating_add(*calls), pick));
-                        assert!(rt; holds(alloc, case, &[fail], fuse)?, "{name}: {calls}");
-                    }
+                    let wrong = first_wrong_cut(alloc, case, before, cuts, pick, fail)?;
+                    assert!(rt; wrong == None, "{name}: {wrong:?}");
                 }
             }
         }

@@ -2,7 +2,9 @@
 use crate::mirrors::{Kind, LINES, LOGGED, MADE, Mirror, PLAIN, STEPS, push_closing, push_line};
 use std::alloc::Global;
 use std::str::from_utf8;
+use std::sync::Wait;
 use std::test::Fail;
+use std::thread::Threads;
 use vx_model::OutOfMemory;
 use vx_runs::{Status, answers};
 
@@ -45,33 +47,82 @@ fn may_come(text: &str, kind: Kind, place: usize) -> bool {
     may && replies.ends()
 }
 
-// What a crash keeps of what is not settled: nothing, all of it, or every other block of it.
-const PICKS: [(&str, u64); 3] = [
-    ("nothing is kept", 0),
-    ("all is kept", u64::MAX),
-    ("half is kept", 0x5555_5555_5555_5555),
-];
+fn are_right<H: Threads + Wait + Sync>(
+    handle: &H,
+    alloc: Global,
+    kind: Kind,
+    place: usize,
+    pick: u64,
+) -> Result<bool, OutOfMemory> {
+    let mut right = true;
+    for calls in 0..kind.lengths {
+        let script = script(alloc, kind, place, calls, pick)?;
+        let answer = answers(handle, alloc, script.as_bytes())?;
+        let is_right = match from_utf8(&answer.text) {
+            Ok(text) => may_come(text, kind, place),
+            Err(_) => false,
+        };
+        if answer.status != Status::Done || !is_right {
+            right = false;
+        }
+    }
+    Ok(right)
+}
+
+// Of what is not settled the crash keeps none.
+#[test]
+fn fuses_that_keep_nothing(rt: HostRuntime) -> Result<(), Fail> {
+    let alloc = rt.alloc();
+    for place in 0..LINES {
+        assert!(rt; are_right(&rt, alloc, PLAIN, place, 0)?);
+    }
+    Ok(())
+}
+
+// It keeps all of it.
+#[test]
+fn fuses_that_keep_all(rt: HostRuntime) -> Result<(), Fail> {
+    let alloc = rt.alloc();
+    for place in 0..LINES {
+        assert!(rt; are_right(&rt, alloc, PLAIN, place, u64::MAX)?);
+    }
+    Ok(())
+}
+
+// It keeps every other block of it.
+#[test]
+fn fuses_that_keep_half(rt: HostRuntime) -> Result<(), Fail> {
+    let alloc = rt.alloc();
+    for place in 0..LINES {
+        assert!(rt; are_right(&rt, alloc, PLAIN, place, 0x5555_5555_5555_5555)?);
+    }
+    Ok(())
+}
+
+// The same of a volume with logs.
+#[test]
+fn logs_are_cut_and_nothing_kept(rt: HostRuntime) -> Result<(), Fail> {
+    let alloc = rt.alloc();
+    for place in 0..LINES {
+        assert!(rt; are_right(&rt, alloc, LOGGED, place, 0)?);
+    }
+    Ok(())
+}
 
 #[test]
-fn lines_are_cut_anywhere(rt: HostRuntime) -> Result<(), Fail> {
+fn logs_are_cut_and_all_kept(rt: HostRuntime) -> Result<(), Fail> {
     let alloc = rt.alloc();
-    for kind in [PLAIN, LOGGED] {
-        for (name, pick) in PICKS {
-            for place in 0..LINES {
-                for calls in 0..kind.lengths {
-                    let script = script(alloc, kind, place, calls, pick)?;
-                    let answer = answers(&rt, alloc, script.as_bytes())?;
-                    let is_right = match from_utf8(&answer.text) {
-                        Ok(text) => may_come(text, kind, place),
-                        Err(_) => false,
-                    };
-                    assert!(rt;
-                        is_right && answer.status == Status::Done,
-                        "{calls} calls behind {place} lines, and {name}"
-                    );
-                }
-            }
-        }
+    for place in 0..LINES {
+        assert!(rt; are_right(&rt, alloc, LOGGED, place, u64::MAX)?);
+    }
+    Ok(())
+}
+
+#[test]
+fn logs_are_cut_and_half_kept(rt: HostRuntime) -> Result<(), Fail> {
+    let alloc = rt.alloc();
+    for place in 0..LINES {
+        assert!(rt; are_right(&rt, alloc, LOGGED, place, 0x5555_5555_5555_5555)?);
     }
     Ok(())
 }

@@ -47,6 +47,10 @@ const WHOLE: Replies = Replies {
     new: "bb",
 };
 
+const DEVICES: [&str; 3] = ["no 7 device 0", "no 7 device 1", "no 7 device 2"];
+
+const BLOCKS: [&str; 2] = ["00", "bb"];
+
 // Whether the text is these replies.
 fn are(text: &str, replies: &Replies) -> bool {
     let lines = [
@@ -83,213 +87,118 @@ fn are(text: &str, replies: &Replies) -> bool {
     rest.is_empty()
 }
 
-// What the run may be answered where one call fails.
-const MAY_COME: [Replies; 22] = [
-    // Where nothing is known of the map, all four regions are copied; where the plex missed the first write too, two.
-    Replies {
-        attach: "done 1",
-        ..WHOLE
-    },
-    Replies {
-        attach: "done 2",
-        ..WHOLE
-    },
-    Replies {
-        attach: "done 4",
-        ..WHOLE
-    },
-    // An attach that is refused leaves its map to the next one.
-    Replies {
-        attach: "no 7 device 0",
-        retry: "done 1",
-        ..WHOLE
-    },
-    Replies {
-        attach: "no 7 device 1",
-        retry: "done 1",
-        ..WHOLE
-    },
-    // The first plex is read alone, and its disk fails in that.
-    Replies {
-        read: "no 7 device 0",
-        ..WHOLE
-    },
-    // No other disk than that of the second plex was held as failed.
-    Replies {
-        import: "no 8 missing 0",
-        read: "no 6 down",
-        detach: "no 6 down",
-        attach: "no 6 down",
-        space: "no 6 down",
-        again: "done",
-        retry: "done 1",
-        ..WHOLE
-    },
-    Replies {
-        import: "no 8 missing 2",
-        read: "no 6 down",
-        detach: "no 6 down",
-        attach: "no 6 down",
-        space: "no 6 down",
-        again: "done",
-        retry: "done 1",
-        ..WHOLE
-    },
-    // Both plexes failed the second write, or the one that was left did: the block is old or new on all that go on. A plex that does not is
-    // copied whole.
-    Replies {
-        second: "no 7 device 0",
-        read: "00",
-        detach: "done",
-        attach: "done 0",
-        new: "00",
-        ..WHOLE
-    },
-    Replies {
-        second: "no 7 device 0",
-        read: "00",
-        attach: "done 4",
-        new: "00",
-        ..WHOLE
-    },
-    Replies {
-        second: "no 7 device 0",
-        read: "bb",
-        detach: "done",
-        attach: "done 0",
-        new: "bb",
-        ..WHOLE
-    },
-    Replies {
-        second: "no 7 device 0",
-        read: "bb",
-        attach: "done 4",
-        new: "bb",
-        ..WHOLE
-    },
-    Replies {
-        second: "no 7 device 1",
-        read: "00",
-        detach: "done",
-        attach: "done 0",
-        new: "00",
-        ..WHOLE
-    },
-    Replies {
-        second: "no 7 device 1",
-        read: "00",
-        attach: "done 4",
-        new: "00",
-        ..WHOLE
-    },
-    Replies {
-        second: "no 7 device 1",
-        read: "bb",
-        detach: "done",
-        attach: "done 0",
-        new: "bb",
-        ..WHOLE
-    },
-    Replies {
-        second: "no 7 device 1",
-        read: "bb",
-        attach: "done 4",
-        new: "bb",
-        ..WHOLE
-    },
-    // There is no group, or no volume.
-    Replies {
-        init: "no 7 device 0",
-        make: "no 6 down",
-        first: "no 1 unknown v",
-        second: "no 1 unknown v",
-        deport: "no 6 down",
-        import: "no 5 role",
-        read: "no 1 unknown v",
-        detach: "no 6 down",
-        attach: "no 6 down",
-        space: "no 6 down",
-        again: "no 5 role",
-        retry: "no 6 down",
-        old: "no 1 unknown v",
-        new: "no 1 unknown v",
-    },
-    Replies {
-        make: "no 7 device 0",
-        first: "no 1 unknown v",
-        second: "no 1 unknown v",
-        read: "no 1 unknown v",
-        detach: "no 1 unknown v",
-        attach: "no 1 unknown v",
-        space: "no 11 space 2000 1536",
-        retry: "no 1 unknown v",
-        old: "no 1 unknown v",
-        new: "no 1 unknown v",
-        ..WHOLE
-    },
-    Replies {
-        init: "no 7 device 1",
-        make: "no 6 down",
-        first: "no 1 unknown v",
-        second: "no 1 unknown v",
-        deport: "no 6 down",
-        import: "no 5 role",
-        read: "no 1 unknown v",
-        detach: "no 6 down",
-        attach: "no 6 down",
-        space: "no 6 down",
-        again: "no 5 role",
-        retry: "no 6 down",
-        old: "no 1 unknown v",
-        new: "no 1 unknown v",
-    },
-    Replies {
-        make: "no 7 device 1",
-        first: "no 1 unknown v",
-        second: "no 1 unknown v",
-        read: "no 1 unknown v",
-        detach: "no 1 unknown v",
-        attach: "no 1 unknown v",
-        space: "no 11 space 2000 1536",
-        retry: "no 1 unknown v",
-        old: "no 1 unknown v",
-        new: "no 1 unknown v",
-        ..WHOLE
-    },
-    Replies {
-        init: "no 7 device 2",
-        make: "no 6 down",
-        first: "no 1 unknown v",
-        second: "no 1 unknown v",
-        deport: "no 6 down",
-        import: "no 5 role",
-        read: "no 1 unknown v",
-        detach: "no 6 down",
-        attach: "no 6 down",
-        space: "no 6 down",
-        again: "no 5 role",
-        retry: "no 6 down",
-        old: "no 1 unknown v",
-        new: "no 1 unknown v",
-    },
-    Replies {
-        make: "no 7 device 2",
-        first: "no 1 unknown v",
-        second: "no 1 unknown v",
-        read: "no 1 unknown v",
-        detach: "no 1 unknown v",
-        attach: "no 1 unknown v",
-        space: "no 11 space 2000 1536",
-        retry: "no 1 unknown v",
-        old: "no 1 unknown v",
-        new: "no 1 unknown v",
-        ..WHOLE
-    },
-];
+// Where nothing is known of the map, all four regions are copied; where the plex missed the first write too, two. An attach that is refused
+// leaves its map to the next one.
+fn may_attach(text: &str) -> bool {
+    for attach in ["done 1", "done 2", "done 4"] {
+        if are(text, &Replies { attach, ..WHOLE }) {
+            return true;
+        }
+    }
+    for attach in ["no 7 device 0", "no 7 device 1"] {
+        let retry = "done 1";
+        if are(
+            text,
+            &Replies {
+                attach,
+                retry,
+                ..WHOLE
+            },
+        ) {
+            return true;
+        }
+    }
+    false
+}
 
-fn may_come(text: &str) -> bool {
-    for replies in MAY_COME {
-        if are(text, &replies) {
+// The first plex is read alone, and its disk fails in that.
+fn may_read(text: &str) -> bool {
+    let read = "no 7 device 0";
+    are(text, &Replies { read, ..WHOLE })
+}
+
+// No other disk than that of the second plex was held as failed.
+fn may_import(text: &str) -> bool {
+    let off = "no 6 down";
+    for import in ["no 8 missing 0", "no 8 missing 2"] {
+        let missed = Replies {
+            import,
+            read: off,
+            detach: off,
+            attach: off,
+            space: off,
+            again: "done",
+            retry: "done 1",
+            ..WHOLE
+        };
+        if are(text, &missed) {
+            return true;
+        }
+    }
+    false
+}
+
+// Both plexes failed the second write, or the one that was left did: the block is old or new on all that go on. A plex that does not is copied
+// whole.
+fn may_fail_second(text: &str) -> bool {
+    for second in ["no 7 device 0", "no 7 device 1"] {
+        for block in BLOCKS {
+            let both = Replies {
+                second,
+                read: block,
+                detach: "done",
+                attach: "done 0",
+                new: block,
+                ..WHOLE
+            };
+            let one = Replies {
+                detach: WHOLE.detach,
+                attach: "done 4",
+                ..both
+            };
+            if are(text, &both) || are(text, &one) {
+                return true;
+            }
+        }
+    }
+    false
+}
+
+// There is no group, or no volume.
+fn may_make(text: &str) -> bool {
+    let off = "no 6 down";
+    let gone = "no 1 unknown v";
+    for device in DEVICES {
+        let bare = Replies {
+            init: device,
+            make: off,
+            first: gone,
+            second: gone,
+            deport: off,
+            import: "no 5 role",
+            read: gone,
+            detach: off,
+            attach: off,
+            space: off,
+            again: "no 5 role",
+            retry: off,
+            old: gone,
+            new: gone,
+        };
+        let empty = Replies {
+            make: device,
+            first: gone,
+            second: gone,
+            read: gone,
+            detach: gone,
+            attach: gone,
+            space: "no 11 space 2000 1536",
+            retry: gone,
+            old: gone,
+            new: gone,
+            ..WHOLE
+        };
+        if are(text, &bare) || are(text, &empty) {
             return true;
         }
     }
@@ -304,12 +213,24 @@ fn each_call_fails_once(rt: HostRuntime) -> Result<(), Fail> {
     let alloc = rt.alloc();
     for call in 1..MANY + 1 {
         let answer = answers_with(&rt, alloc, &[call], SCRIPT)?;
-        let is_so = match from_utf8(&answer.text) {
-            Ok(text) if call < MANY => may_come(text),
-            Ok(text) => are(text, &WHOLE),
+        assert!(rt; answer.status == Status::Done);
+        let may = match from_utf8(&answer.text) {
+            Ok(text) => {
+                may_attach(text)
+                    || may_read(text)
+                    || may_import(text)
+                    || may_fail_second(text)
+                    || may_make(text)
+            }
             Err(_) => false,
         };
-        assert!(rt; is_so && answer.status == Status::Done, "call {call} fails");
+        assert!(rt; may, "call {call} fails");
     }
+    let answer = answers_with(&rt, alloc, &[MANY], SCRIPT)?;
+    let is_whole = match from_utf8(&answer.text) {
+        Ok(text) => are(text, &WHOLE),
+        Err(_) => false,
+    };
+    assert!(rt; is_whole);
     Ok(())
 }

@@ -1,7 +1,9 @@
 // A fuse of each length before each line of two scripts on a volume of two plexes, with both picks.
 use std::alloc::Global;
 use std::str::from_utf8;
+use std::sync::Wait;
 use std::test::Fail;
+use std::thread::Threads;
 use vx_model::OutOfMemory;
 use vx_runs::{Status, answers};
 
@@ -99,22 +101,26 @@ fn script(alloc: Global, lines: &[&str], fuse: Fuse) -> Result<String, OutOfMemo
     Ok(script)
 }
 
+// The text behind this line of it.
+fn behind<'a>(text: &'a str, reply: &str) -> Option<&'a str> {
+    text.strip_prefix(reply)?.strip_prefix("\n")
+}
+
 // Whether the text is these replies, with that of the fuse among them.
 fn are(text: &str, place: usize, fuse: &str, replies: &[&str]) -> bool {
     let mut rest = text;
     let mut count = 0_usize;
     for reply in replies {
-        for (is_here, line) in [(count == place, fuse), (true, *reply)] {
-            if is_here {
-                let Some(later) = rest.strip_prefix(line) else {
-                    return false;
-                };
-                let Some(later) = later.strip_prefix("\n") else {
-                    return false;
-                };
-                rest = later;
-            }
+        if count == place {
+            let Some(later) = behind(rest, fuse) else {
+                return false;
+            };
+            rest = later;
         }
+        let Some(later) = behind(rest, reply) else {
+            return false;
+        };
+        rest = later;
         count = count.wrapping_add(1);
     }
     rest.is_empty()
@@ -200,31 +206,50 @@ fn may_write(text: &str, fuse: Fuse) -> bool {
     is_none || is_all
 }
 
-#[test]
-fn lines_are_cut_anywhere(rt: HostRuntime) -> Result<(), Fail> {
-    let alloc = rt.alloc();
-    for (name, lines, is_write) in [
-        ("detach", &DETACH as &[&str], false),
-        ("write", &WRITE, true),
-    ] {
-        for place in 0..lines.len() {
-            for calls in 0..MANY + 1 {
-                for pick in [0, u64::MAX] {
-                    let fuse = Fuse { place, calls, pick };
-                    let script = script(alloc, lines, fuse)?;
-                    let answer = answers(&rt, alloc, script.as_bytes())?;
-                    let may = match from_utf8(&answer.text) {
-                        Ok(text) if is_write => may_write(text, fuse),
-                        Ok(text) => may_detach(text, fuse),
-                        Err(_) => false,
-                    };
-                    assert!(rt;
-                        may && answer.status == Status::Done,
-                        "the {name}, with {calls} calls behind {place} lines, and {pick}"
-                    );
+// Whether the replies to the lines of one of the two are right with each fuse before this line.
+fn are_right<H: Threads + Wait + Sync>(
+    handle: &H,
+    alloc: Global,
+    lines: &[&str],
+    place: usize,
+    is_write: bool,
+) -> Result<bool, OutOfMemory> {
+    let mut right = true;
+    for calls in 0..MANY + 1 {
+        for pick in [0, u64::MAX] {
+            let fuse = Fuse { place, calls, pick };
+            let script = script(alloc, lines, fuse)?;
+            let answer = answers(handle, alloc, script.as_bytes())?;
+            let may = match from_utf8(&answer.text) {
+                Ok(text) => {
+                    if is_write {
+                        may_write(text, fuse)
+                    } else {
+                        may_detach(text, fuse)
+                    }
                 }
+                Err(_) => false,
+            };
+            if answer.status != Status::Done || !may {
+                right = false;
             }
         }
+    }
+    Ok(right)
+}
+
+#[test]
+fn a_detach_is_cut_anywhere(rt: HostRuntime) -> Result<(), Fail> {
+    for place in 0..9 {
+        assert!(rt; are_right(&rt, rt.alloc(), &DETACH, place, false)?);
+    }
+    Ok(())
+}
+
+#[test]
+fn a_write_is_cut_anywhere(rt: HostRuntime) -> Result<(), Fail> {
+    for place in 0..8 {
+        assert!(rt; are_right(&rt, rt.alloc(), &WRITE, place, true)?);
     }
     Ok(())
 }

@@ -1,12 +1,41 @@
 // A group whose disks return in the files of an earlier run.
 use std::fs;
+use std::sync::Wait;
 use std::test::Fail;
+use std::thread::Threads;
 use vx_runs::{OpenGate, Status, fresh_racks, vx_main};
 use vx_stream::{MemSink, MemSource};
 
 fn remove(rt: &HostRuntime) {
     let _ = fs::remove_file(rt, "./0-0.vxd");
     let _ = fs::remove_file(rt, "./0-1.vxd");
+}
+
+// Whether a run of the script over the files of this folder is answered so.
+fn is_answered<H: Threads + Wait + Sync>(
+    handle: &H,
+    rt: HostRuntime,
+    script: &[u8],
+    replies: &[u8],
+) -> Result<bool, Fail> {
+    let alloc = rt.alloc();
+    let mut words = Vec::new(alloc);
+    for word in ["run", "--dir", "."] {
+        words.push(String::from_str(alloc, word)?)?;
+    }
+    let mut source = MemSource::new(alloc, script, &[])?;
+    let mut sink = MemSink::new(alloc, 4096, &[])?;
+    let mut racks = fresh_racks(rt, alloc)?;
+    let status = vx_main(
+        handle,
+        alloc,
+        &words,
+        &mut source,
+        &mut sink,
+        &mut racks,
+        &OpenGate,
+    );
+    Ok(status == Status::Done && sink.written() == replies)
 }
 
 // A volume of which one plex missed a write.
@@ -26,45 +55,15 @@ const THIRD: &[u8] = b"site a 2 1024\nrecover a\nread a v 3 2\nread a v 3 2\n";
 const AGAIN: &[u8] =
     b"done\nrecovered\nsite a up\ndisk 0 ok\ndisk 1 ok\nvol v 64 none off\nplex 0 ACTIVE\nplex 1 ACTIVE\n5a\n6b\n5a\n6b\n";
 
-// The runs, one behind the other, each with its replies.
-const RUNS: [(&str, &[u8], &[u8]); 3] = [
-    (
-        "the group is made",
-        FIRST,
-        b"done\ndone\ndone\ndone\ndone\ndone\n",
-    ),
-    ("the group is found", SECOND, FOUND),
-    ("the group is found again", THIRD, AGAIN),
-];
-
 #[test]
 fn later_runs_find_the_group(rt: HostRuntime) -> Result<(), Fail> {
-    let alloc = rt.alloc();
     remove(&rt);
-    let mut words = Vec::new(alloc);
-    for word in ["run", "--dir", "."] {
-        words.push(String::from_str(alloc, word)?)?;
-    }
-    let mut count = 0_usize;
-    for (name, script, wanted) in RUNS {
-        let mut source = MemSource::new(alloc, script, &[])?;
-        let mut sink = MemSink::new(alloc, 4096, &[])?;
-        let mut racks = fresh_racks(rt, alloc)?;
-        let status = vx_main(
-            &rt,
-            alloc,
-            &words,
-            &mut source,
-            &mut sink,
-            &mut racks,
-            &OpenGate,
-        );
-        count = count.wrapping_add(1);
-        let is_so = status == Status::Done && sink.written() == wanted;
-        if !is_so || count == RUNS.len() {
-            remove(&rt);
-        }
-        assert!(rt; is_so, "{name}");
-    }
+    let is_made = is_answered(&rt, rt, FIRST, b"done\ndone\ndone\ndone\ndone\ndone\n")?;
+    let is_found = is_answered(&rt, rt, SECOND, FOUND)?;
+    let is_again = is_answered(&rt, rt, THIRD, AGAIN)?;
+    remove(&rt);
+    assert!(rt; is_made);
+    assert!(rt; is_found);
+    assert!(rt; is_again);
     Ok(())
 }
