@@ -2,6 +2,7 @@
 ghost use Rattle.std.specs.Prelude.{◌≡◌, ◌≤◌, take};
 ghost use Rattle.vx_config.specs.Configs.{CanSpell, subdisk_count};
 
+use crate::steps::STEPS;
 use std::alloc::Global;
 use std::test::*;
 use vx_config::{Config, DiskEntry, Disks, Volumes};
@@ -22,11 +23,11 @@ const BODY: [u8; 37] = [
 ];
 
 // The places of the last byte of the serial, and of the states of the disks.
-const SERIAL: usize = 11;
+pub const SERIAL: usize = 11;
 
-const FIRST: usize = 25;
+pub const FIRST: usize = 25;
 
-const SECOND: usize = 34;
+pub const SECOND: usize = 34;
 
 // A shelf in memory of two labelled disks.
 pub fn labelled(alloc: Global) -> Result<MemShelf, OutOfMemory> {
@@ -99,7 +100,7 @@ fn both_good(config: &Config) -> bool {
 }
 
 // What is done to a shelf of two labelled disks, or what an import finds there.
-enum Step {
+pub enum Step {
     // A copy of the body on a disk, with this serial in its header, and with bytes of its own at places.
     Copy(u32, u64, &'static [(usize, u8)]),
     // The same of the body with a volume, on the first disk.
@@ -113,69 +114,6 @@ enum Step {
     FindsNone,
     Misses(u32),
 }
-
-const STEPS: &[(&str, &[Step])] = &[
-    (
-        "the newest copy is found",
-        &[
-            Step::FindsNone,
-            Step::Copy(0, 1, &[]),
-            Step::Copy(1, 1, &[]),
-            Step::Finds(1, 3, true),
-            // The first disk fails: the second one has serial 3, which holds it so.
-            Step::Copy(1, 3, &[(SERIAL, 3), (FIRST, 1)]),
-            Step::Finds(3, 2, true),
-            Step::Fails(0),
-            Step::Finds(3, 2, false),
-            Step::Fails(1),
-            Step::FindsNone,
-            Step::Works(0),
-            Step::Misses(1),
-            Step::Works(1),
-            Step::Finds(3, 2, true),
-        ],
-    ),
-    (
-        "a copy goes over the lesser one",
-        &[
-            Step::Copy(0, 1, &[(SERIAL, 1)]),
-            Step::Finds(1, 3, true),
-            Step::Copy(0, 2, &[(SERIAL, 2)]),
-            Step::Finds(2, 3, true),
-            Step::Copy(0, 3, &[(SERIAL, 3)]),
-            Step::Finds(3, 3, true),
-            Step::Copy(0, 4, &[(SERIAL, 4)]),
-            Step::Finds(4, 3, true),
-            Step::Copy(0, 5, &[(SERIAL, 5)]),
-            Step::Finds(5, 3, true),
-            // Serial 5 stands in the first area and serial 4 in the second.
-            Step::Zeros(1),
-            Step::Finds(4, 3, true),
-        ],
-    ),
-    (
-        "a body that is no configuration does not count",
-        &[
-            // A state that is neither 0 nor 1, and a disk of another size.
-            Step::Copy(0, 1, &[(SECOND, 2)]),
-            Step::FindsNone,
-            Step::Copy(0, 2, &[(SECOND - 1, 1), (SERIAL, 2)]),
-            Step::FindsNone,
-        ],
-    ),
-    (
-        "a configuration that is not sound does not count",
-        &[
-            Step::CopyVolume(1, &[(START, 63)]),
-            Step::FindsNone,
-            Step::CopyVolume(2, &[(SERIAL, 2)]),
-            Step::Finds(2, 3, true),
-            // A body of another serial than its header.
-            Step::CopyVolume(3, &[]),
-            Step::Finds(2, 3, true),
-        ],
-    ),
-];
 
 // A body with these bytes at places.
 fn edited<const N: usize>(body: [u8; N], edits: &[(usize, u8)]) -> [u8; N] {
@@ -421,7 +359,7 @@ const VOLUME: [u8; 96] = [
 ];
 
 // The place of the last byte of the second subdisk's start.
-const START: usize = 86;
+pub const START: usize = 86;
 
 // Writes a copy of a body with a volume to the first disk.
 fn copy_volume<S: Shelf>(shelf: &mut S, serial: u64, bytes: &[u8; 96]) -> bool {

@@ -16,6 +16,8 @@ mod labels;
 #[cfg(test)]
 mod settled;
 #[cfg(test)]
+mod steps;
+#[cfg(test)]
 mod streams;
 #[cfg(test)]
 mod wire;
